@@ -12,7 +12,7 @@ use event_loop::{Journal, Notice, Times};
 use hook_chain::Chain;
 use state_file::{NotStarted, Started, StateFault};
 
-/// A state that is no more seconds ahead of the clock is not told: a mark of its moment may be as many.
+/// A state that is no more seconds ahead of the clock is not told: a horizon of its moment may be as many.
 const QUIET: u64 = 10;
 
 /// Puts aside what an unfinished write left, where that is something, and tells the journal how much it is.
@@ -47,7 +47,7 @@ fn tell_ended<J: Journal>(ended: Option<usize>, journal: &mut J)
     }
 }
 
-/// Tells the journal how many seconds the state is ahead of the clock, where these are more than a mark may be.
+/// Tells the journal how many seconds the state is ahead of the clock, where these are more than a horizon may be.
 fn tell_ahead<J: Journal>(seconds: u64, journal: &mut J)
     ensures { ReportsAll J.Journal journal.old (ahead_notices seconds) journal.new }
 {

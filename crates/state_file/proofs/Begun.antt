@@ -110,7 +110,7 @@ module _ {H : Type 0} (hosting : Hosting H) (outset : Outset H) where
       let told : AreTold later stands.facts = subst (λ (bs : List (List ℕ)). AreTold bs stands.facts) from.0 stands.told in
       (redone.1 stands.facts told).3 ∙ ap (λ (m : ℕ). last_moment m stands.facts) from.1
 
-  -- once the marks are reached it is the one that is told
+  -- once the horizons are reached it is the one that is told
   pub moment_reached : (other batches later : List (List ℕ)) (begun restored : Restored H) (until moment : ℕ) → BeginsByBatches hosting outset batches later begun →
       RedoesBatches hosting begun later restored → until ≡ until_of batches → moment ≡ max restored.moment until → batches ≡ other → IsMomentTold other moment
   moment_reached other batches later begun restored until moment begins redone told reached are =

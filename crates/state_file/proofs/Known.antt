@@ -12,13 +12,13 @@ use Rattle.image_codec.specs.Facts.{HookFact, ImageFact}
 use Rattle.image_codec.specs.Spelling.{ImageFits, image_spelling, rules_spelling}
 use Rattle.state_file.specs.Hooks.{AreBehind, hooks_behind, hooks_set_in}
 use Rattle.state_file.specs.Knowing.{IsKnown, image_size}
-use Rattle.state_file.specs.Standing.{AreTold, Begin, IsImageOf, StandFor, begins_image, mark, marks, until_of}
+use Rattle.state_file.specs.Standing.{AreTold, Begin, IsImageOf, StandFor, begins_image, horizon, horizons, until_of}
 use Rattle.state_file.specs.StandingLaws.{AreTold-split, until_of-append}
 use Rattle.state_file.specs.Telling.{IsOfRules, Tell, last_rules}
 use Rattle.state_file.specs.TellingLaws.{last_rules-push, tell_in, tell_one, tells_one}
 use Rattle.state_file.specs.declared.keeper.Known.{Known}
 use Rattle.state_file.proofs.Hooked.{hooks_of-happened}
-use Rattle.state_file.proofs.Marked.{last_rules-image, mark_until, until_of-image}
+use Rattle.state_file.proofs.Horizons.{last_rules-image, horizon_until, until_of-image}
 
 -- WHAT STOOD BEFORE A BATCH
 
@@ -104,7 +104,7 @@ hooks_now batches batch facts old (Some hooks) is fits behind known = λ history
         hooks_of-happened stood.before history facts (subst (λ (ds : List DatedFact). Happened stood.before ds history) same stood.happened) in
         behind.2 facts fits is ∙ ap (λ (hs : List HookFact). hooks_behind hs facts) (were stood.before stood.stands) ∙ sym on
 
--- what is known then, of the rules, the image and the marks that were known
+-- what is known then, of the rules, the image and the horizons that were known
 pub known_changes : (batches : List (List ℕ)) (batch : List ℕ) (facts : List DatedFact) (old new : Known) → batch ≡ batch_spelling facts → HaveSpelling facts →
     new.rules ≡ old.rules → new.image ≡ old.image → new.until ≡ old.until → IfSome new.hooks (λ hooks. (set : List HookFact) × (old.hooks ≡ Some set) × AreBehind set batch hooks) →
     IsKnown batches old → IsKnown (batches ++ batch ∷ []) new
@@ -134,28 +134,28 @@ hooks_stay : (old new : List (List ℕ)) (hooks : Option (List HookFact)) → ((
 hooks_stay old new None back known = tt
 hooks_stay old new (Some hooks) back known = λ history stands. known history (back history stands)
 
-mark_nothing : (until : ℕ) (facts : List DatedFact) → AreTold (mark until ∷ []) facts → facts ≡ []
-mark_nothing until facts told = no_more facts told.0 told.1 told.4 told.3 ∙ told.2.1
+horizon_nothing : (until : ℕ) (facts : List DatedFact) → AreTold (horizon until ∷ []) facts → facts ≡ []
+horizon_nothing until facts told = no_more facts told.0 told.1 told.4 told.3 ∙ told.2.1
 
-marks_nothing : (until : ℕ) (facts : List DatedFact) → AreTold (marks until) facts → facts ≡ []
-marks_nothing until facts told = by (until == 0) told
+horizons_nothing : (until : ℕ) (facts : List DatedFact) → AreTold (horizons until) facts → facts ≡ []
+horizons_nothing until facts told = by (until == 0) told
   where
-    by : (b : Bool) → AreTold (if b then [] else mark until ∷ []) facts → facts ≡ []
+    by : (b : Bool) → AreTold (if b then [] else horizon until ∷ []) facts → facts ≡ []
     by true told = told
-    by false told = mark_nothing until facts told
+    by false told = horizon_nothing until facts told
 
 rules_nothing : (rules : RulesFact) (facts : List DatedFact) → AreTold (rules_spelling rules ∷ []) facts → facts ≡ []
 rules_nothing rules facts told = no_more facts told.0 told.1 told.4 told.3 ∙ told.2
 
--- a mark beyond those before
-pub known_mark : (batches : List (List ℕ)) (batch : List ℕ) (until : ℕ) (old new : Known) → batch ≡ mark until → until < 2 ^ 63 → old.until ≤ until →
+-- a horizon beyond those before
+pub known_horizon : (batches : List (List ℕ)) (batch : List ℕ) (until : ℕ) (old new : Known) → batch ≡ horizon until → until < 2 ^ 63 → old.until ≤ until →
     new.rules ≡ old.rules → new.hooks ≡ old.hooks → new.image ≡ old.image → new.until ≡ until → IsKnown batches old → IsKnown (batches ++ batch ∷ []) new
-known_mark batches batch until old new is less le rules hooks image now known = subst (λ (b : List ℕ). IsKnown (batches ++ b ∷ []) new) (sym is) (record {
-  rules_are = λ told tell. ap (λ r. r.items) rules ∙ told_before batches old.rules.items told (mark until) (last_rules-push batches (mark until)) known.rules_are tell;
-  hooks_are = subst (λ (o : Option (List HookFact)). IfSome o (λ set. (history : List Event) → StandFor (batches ++ mark until ∷ []) history → set ≡ hooks_set_in history)) (sym hooks)
-      (hooks_stay batches (batches ++ mark until ∷ []) old.hooks (λ history stands. stood_same batches (mark until) history refl (mark_nothing until) stands) known.hooks_are);
-  image_is = image ∙ known.image_is ∙ sym (image_size-more batches (mark until) refl);
-  until_is = now ∙ sym (mark_until batches (mark until) until refl less ∙ greater (until_of batches) (subst (λ (n : ℕ). n ≤ until) known.until_is le));
+known_horizon batches batch until old new is less le rules hooks image now known = subst (λ (b : List ℕ). IsKnown (batches ++ b ∷ []) new) (sym is) (record {
+  rules_are = λ told tell. ap (λ r. r.items) rules ∙ told_before batches old.rules.items told (horizon until) (last_rules-push batches (horizon until)) known.rules_are tell;
+  hooks_are = subst (λ (o : Option (List HookFact)). IfSome o (λ set. (history : List Event) → StandFor (batches ++ horizon until ∷ []) history → set ≡ hooks_set_in history)) (sym hooks)
+      (hooks_stay batches (batches ++ horizon until ∷ []) old.hooks (λ history stands. stood_same batches (horizon until) history refl (horizon_nothing until) stands) known.hooks_are);
+  image_is = image ∙ known.image_is ∙ sym (image_size-more batches (horizon until) refl);
+  until_is = now ∙ sym (horizon_until batches (horizon until) until refl less ∙ greater (until_of batches) (subst (λ (n : ℕ). n ≤ until) known.until_is le));
 })
   where
     greater : (n : ℕ) → n ≤ until → max n until ≡ until
@@ -194,26 +194,26 @@ known_begun old new known now told of tells same added set sized until = record 
 -- AN IMAGE
 
 pub known_image : (image : ImageFact) (known : Known) (hooks : List HookFact) → ImageFits image → known.until < 2 ^ 63 → known.rules.items ≡ rules_spelling image.rules →
-    known.hooks ≡ Some hooks → image.hooks ≡ hooks → known.image ≡ length (image_spelling image) → IsKnown (image_spelling image ∷ marks known.until) known
+    known.hooks ≡ Some hooks → image.hooks ≡ hooks → known.image ≡ length (image_spelling image) → IsKnown (image_spelling image ∷ horizons known.until) known
 known_image image known hooks fits less rules_are there hooks_are sized = record {
   rules_are = λ told tell. rules_are ∙ ap rules_spelling
-      (tells_one (image_spelling image) image.rules told (inr (image, fits, refl, refl)) (tell_in (image_spelling image ∷ marks known.until) (image_spelling image) told (last_rules-image image known.until) tell));
-  hooks_are = subst (λ (o : Option (List HookFact)). IfSome o (λ set. (history : List Event) → StandFor (image_spelling image ∷ marks known.until) history → set ≡ hooks_set_in history)) (sym there)
+      (tells_one (image_spelling image) image.rules told (inr (image, fits, refl, refl)) (tell_in (image_spelling image ∷ horizons known.until) (image_spelling image) told (last_rules-image image known.until) tell));
+  hooks_are = subst (λ (o : Option (List HookFact)). IfSome o (λ set. (history : List Event) → StandFor (image_spelling image ∷ horizons known.until) history → set ≡ hooks_set_in history)) (sym there)
       (λ history stands. by history stands stands.begins);
   image_is = sized;
   until_is = sym (until_of-image image known.until less);
 }
   where
-    by : (history : List Event) → (stands : StandFor (image_spelling image ∷ marks known.until) history) → Begin (image_spelling image ∷ marks known.until) stands.base stands.later → hooks ≡ hooks_set_in history
+    by : (history : List Event) → (stands : StandFor (image_spelling image ∷ horizons known.until) history) → Begin (image_spelling image ∷ horizons known.until) stands.base stands.later → hooks ≡ hooks_set_in history
     by history stands (inl anew) =
-        let told : AreTold (image_spelling image ∷ marks known.until) stands.facts = subst (λ (bs : List (List ℕ)). AreTold bs stands.facts) anew.1 stands.told in
+        let told : AreTold (image_spelling image ∷ horizons known.until) stands.facts = subst (λ (bs : List (List ℕ)). AreTold bs stands.facts) anew.1 stands.told in
         let e = told.2.1 in
         absurd cc
     by history stands (inr of) =
-        let e : image_spelling image ∷ marks known.until ≡ image_spelling of.0 ∷ stands.later = of.2.1 in
+        let e : image_spelling image ∷ horizons known.until ≡ image_spelling of.0 ∷ stands.later = of.2.1 in
         let first : image_spelling image ≡ image_spelling of.0 = cc in
-        let rest : stands.later ≡ marks known.until = cc in
+        let rest : stands.later ≡ horizons known.until = cc in
         let same : image ≡ of.0 = one_image image of.0 fits of.2.0 first in
-        let none : stands.facts ≡ [] = marks_nothing known.until stands.facts (subst (λ (bs : List (List ℕ)). AreTold bs stands.facts) rest stands.told) in
+        let none : stands.facts ≡ [] = horizons_nothing known.until stands.facts (subst (λ (bs : List (List ℕ)). AreTold bs stands.facts) rest stands.told) in
         let stays : history ≡ stands.base = subst (λ (ds : List DatedFact). Happened stands.base ds history) none stands.happened in
         sym hooks_are ∙ ap (λ (i : ImageFact). i.hooks) same ∙ of.1.hooks ∙ ap hooks_set_in (sym stays)

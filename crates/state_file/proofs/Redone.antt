@@ -37,7 +37,7 @@ told_as batch ds facts is one told = by (subst (λ (b : List ℕ). AreTold (b �
         let same : t.0 ≡ ds = one t.0 t.2.0 (is ∙ t.2.1) in
         t.4 ∙ ap (λ (x : List DatedFact). t.0 ++ x) t.3 ∙ append-nil t.0 ∙ same
 
--- rules and marks have none
+-- rules and horizons have none
 pub nothing_told : (batch : List ℕ) (facts : List DatedFact) → ((some : List DatedFact) → IsTold batch some → some ≡ []) → AreTold (batch ∷ []) facts → facts ≡ []
 nothing_told batch facts none told =
     told.4 ∙ ap (λ (ds : List DatedFact). told.0 ++ ds) told.3 ∙ append-nil told.0 ∙ none told.0 told.2
@@ -84,7 +84,7 @@ module _ {H : Type 0} (hosting : Hosting H) where
       new.hooks ≡ hooks_by old.hooks (fact_of change) → new.moment ≡ moment → StaysUnnoted old new → RedoesDated hosting old (dated moment change ∷ []) new
   redoes_one old new moment change redone hooks moment_is unnoted = (hooks, fits_one old new moment change redone hooks moment_is, unnoted, moment_is)
 
-  -- no batch, or one of rules, or a mark
+  -- no batch, or one of rules, or a horizon
   pub redoes_no_batch : (restored : Restored H) → RedoesBatches hosting restored [] restored
   redoes_no_batch restored = (λ none. none, λ facts told. subst (λ (ds : List DatedFact). RedoesDated hosting restored ds restored) (sym told) (redoes_none restored))
 
@@ -96,8 +96,8 @@ module _ {H : Type 0} (hosting : Hosting H) where
   redoes_rules restored batch rules is =
       redoes_beside restored batch (λ facts told. let none : facts ≡ [] = subst (λ (b : List ℕ). IsTold b facts) is told in none)
 
-  pub redoes_mark : (restored : Restored H) (batch bytes : List ℕ) → batch ≡ 3 ∷ bytes → RedoesBatches hosting restored (batch ∷ []) restored
-  redoes_mark restored batch bytes is =
+  pub redoes_horizon : (restored : Restored H) (batch bytes : List ℕ) → batch ≡ 3 ∷ bytes → RedoesBatches hosting restored (batch ∷ []) restored
+  redoes_horizon restored batch bytes is =
       redoes_beside restored batch (λ facts told. let parts : IsTold (3 ∷ bytes) facts = subst (λ (b : List ℕ). IsTold b facts) is told in parts.1)
 
   -- a batch of dated changes

@@ -46,7 +46,7 @@ abbrev pub IsLongFile : {D : Type 0} → (D → List ℕ) → BatchFile D → Ty
 IsLongFile seen file = IsLong file.end (image_size (recovered (seen file.device)))
 
 -- What is known of a file's batches: how the rules that are told last are spelled, which hooks are set, how many bytes the image
--- has, and the greatest moment of the marks.
+-- has, and the greatest moment of the horizons.
 pub record IsKnown (batches : List (List ℕ)) (known : Known) : Type 0 where
   pub rules_are : (told : RulesFact) → Tell batches told → known.rules.items ≡ rules_spelling told
   pub hooks_are : IfSome known.hooks (λ hooks. (history : List Event) → StandFor batches history → hooks ≡ hooks_set_in history)

@@ -34,29 +34,29 @@ abbrev pub Begin : List (List ℕ) → List Event → List (List ℕ) → Type 0
 Begin batches history later =
     ((history ≡ []) × (later ≡ batches)) ⊎ ((image : ImageFact) × IsImageOf image history × BeginWithImage batches image later)
 
--- A mark tells until which moment what was told is kept: a byte 3, and the moment in eight bytes, the high one first.
-abbrev pub mark : ℕ → List ℕ
-mark until = 3 ∷ to_be_bytes w64 until
+-- A horizon tells until which moment what was told is kept: a byte 3, and the moment in eight bytes, the high one first.
+abbrev pub horizon : ℕ → List ℕ
+horizon until = 3 ∷ to_be_bytes w64 until
 
--- the moment of a mark, which is below 2^63
-abbrev pub mark_in : List ℕ → Option ℕ
-mark_in (suc (suc (suc zero)) ∷ bytes) =
+-- the moment of a horizon, which is below 2^63
+abbrev pub horizon_in : List ℕ → Option ℕ
+horizon_in (suc (suc (suc zero)) ∷ bytes) =
     if (length bytes == 8) && nat_lt (from_be_bytes w64 bytes) (2 ^ 63) then Some (from_be_bytes w64 bytes) else None
-mark_in _ = None
+horizon_in _ = None
 
--- the mark of a moment, if that is any
-abbrev pub marks : ℕ → List (List ℕ)
-marks until = if until == 0 then [] else mark until ∷ []
+-- the horizon of a moment, if that is any
+abbrev pub horizons : ℕ → List (List ℕ)
+horizons until = if until == 0 then [] else horizon until ∷ []
 
--- the greatest moment of the marks, 0 where there is none
+-- the greatest moment of the horizons, 0 where there is none
 abbrev pub until_of : List (List ℕ) → ℕ
 until_of [] = 0
-until_of (batch ∷ batches) = max (unwrap_or (mark_in batch) 0) (until_of batches)
+until_of (batch ∷ batches) = max (unwrap_or (horizon_in batch) 0) (until_of batches)
 
--- the batch has these dated changes: rules, which begin with a byte 0, and a mark have none
+-- the batch has these dated changes: rules, which begin with a byte 0, and a horizon have none
 abbrev pub IsTold : List ℕ → List DatedFact → Type 0
 IsTold (zero ∷ rules) facts = facts ≡ []
-IsTold (suc (suc (suc zero)) ∷ bytes) facts = IsSome (mark_in (3 ∷ bytes)) × (facts ≡ [])
+IsTold (suc (suc (suc zero)) ∷ bytes) facts = IsSome (horizon_in (3 ∷ bytes)) × (facts ≡ [])
 IsTold batch facts = HaveSpelling facts × (batch ≡ batch_spelling facts)
 
 -- the batches have these dated changes, one after the other
@@ -83,7 +83,7 @@ abbrev pub first_moment : (batches : List (List ℕ)) (history : List Event) (la
 first_moment batches history later (inl anew) = 0
 first_moment batches history later (inr of) = of.0.greatest
 
--- the moment that batches tell which stand for a history: that of the last change, or a later mark
+-- the moment that batches tell which stand for a history: that of the last change, or a later horizon
 abbrev pub moment_told : (batches : List (List ℕ)) (history : List Event) → StandFor batches history → ℕ
 moment_told batches history stands =
     max (last_moment (first_moment batches stands.base stands.later stands.begins) stands.facts) (until_of batches)

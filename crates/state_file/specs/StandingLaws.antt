@@ -9,7 +9,7 @@ use Rattle.change_codec.specs.Happened.{Happened}
 use Rattle.change_codec.specs.HappenedLaws.{Happened-joined}
 use Rattle.image_codec.specs.Facts.{ImageFact}
 use Rattle.image_codec.specs.Spelling.{ImageFits, image_spelling}
-use Rattle.state_file.specs.Standing.{AreTold, Begin, IsImageOf, StandFor, StandsFor, mark, mark_in, until_of}
+use Rattle.state_file.specs.Standing.{AreTold, Begin, IsImageOf, StandFor, StandsFor, horizon, horizon_in, until_of}
 
 -- the changes of some batches, and of those behind them
 pub AreTold-joined : (batches more : List (List ℕ)) (facts others : List DatedFact) → AreTold batches facts → AreTold more others →
@@ -31,15 +31,15 @@ AreTold-split (batch ∷ batches) more facts told =
     let rest = AreTold-split batches more told.1 told.3 in
     (told.0 ++ rest.0, rest.1, (told.0, rest.0, told.2, rest.2, refl), rest.3, told.4 ∙ ap (λ (ds : List DatedFact). told.0 ++ ds) rest.4 ∙ sym (append_assoc told.0 rest.0 rest.1))
 
--- one batch of changes, of rules, or a mark
+-- one batch of changes, of rules, or a horizon
 pub AreTold-changes : (facts : List DatedFact) → HaveSpelling facts → AreTold (batch_spelling facts ∷ []) facts
 AreTold-changes facts fit = (facts, [], (fit, refl), refl, sym (append-nil facts))
 
 pub AreTold-rules : (fields : List ℕ) → AreTold ((0 ∷ fields) ∷ []) []
 AreTold-rules fields = ([], [], refl, refl, refl)
 
-pub AreTold-mark : (until : ℕ) → IsSome (mark_in (mark until)) → AreTold (mark until ∷ []) []
-AreTold-mark until is = ([], [], (is, refl), refl, refl)
+pub AreTold-horizon : (until : ℕ) → IsSome (horizon_in (horizon until)) → AreTold (horizon until ∷ []) []
+AreTold-horizon until is = ([], [], (is, refl), refl, refl)
 
 -- what begins so does with more batches
 Begin-more : (batches : List (List ℕ)) (history : List Event) (later more : List (List ℕ)) → Begin batches history later → Begin (batches ++ more) history (later ++ more)
@@ -58,7 +58,7 @@ StandFor-joined batches more before after facts stands told happened = record {
   happened = Happened-joined stands.base before after stands.facts facts stands.happened happened;
 }
 
--- batches without changes more, as rules or marks
+-- batches without changes more, as rules or horizons
 pub StandFor-beside : (batches more : List (List ℕ)) (history : List Event) → AreTold more [] → StandFor batches history → StandFor (batches ++ more) history
 StandFor-beside batches more history told stands = StandFor-joined batches more history history [] stands told refl
 
@@ -84,7 +84,7 @@ StandFor-image image more history fits told is = record {
   happened = refl;
 }
 
--- MARKS
+-- HORIZONS
 
 max_both : (a b c : ℕ) → max a (max b c) ≡ max (max a b) c
 max_both a b c = omega arith
@@ -92,7 +92,7 @@ max_both a b c = omega arith
 pub until_of-append : (batches more : List (List ℕ)) → until_of (batches ++ more) ≡ max (until_of batches) (until_of more)
 until_of-append [] more = omega arith
 until_of-append (batch ∷ batches) more =
-    ap (λ (m : ℕ). max (unwrap_or (mark_in batch) 0) m) (until_of-append batches more) ∙ max_both (unwrap_or (mark_in batch) 0) (until_of batches) (until_of more)
+    ap (λ (m : ℕ). max (unwrap_or (horizon_in batch) 0) m) (until_of-append batches more) ∙ max_both (unwrap_or (horizon_in batch) 0) (until_of batches) (until_of more)
 
 -- more batches tell no earlier moment
 pub until_of-more : (batches more : List (List ℕ)) → until_of batches ≤ until_of (batches ++ more)

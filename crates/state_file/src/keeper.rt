@@ -3,7 +3,7 @@
 ghost use Rattle.std.specs.Prelude.{◌≡◌, ◌≤◌, ◌<◌, ◌+◌, ◌-◌, ◌^◌, min};
 
 use crate::hooks::SetHooks;
-use crate::marks::mark;
+use crate::horizons::horizon;
 use batch_file::appending::{BatchFault, BatchFile};
 use batch_file::device::Device;
 use change_codec::{Batch, KeepFault, Keeper};
@@ -13,7 +13,7 @@ use hook_host::HookHost;
 use std::alloc::Global;
 use std::marker::Model;
 
-/// A mark is so many seconds ahead of the clock, so that no more than one is written in that time.
+/// A horizon is so many seconds ahead of the clock, so that no more than one is written in that time.
 const SPAN: u64 = 10;
 
 /// The greatest moment.
@@ -28,7 +28,7 @@ pub(crate) struct Known {
     pub(crate) hooks: Option<SetHooks>,
     /// How many bytes its image has, if it has one.
     pub(crate) image: usize,
-    /// The greatest moment of its marks.
+    /// The greatest moment of its horizons.
     pub(crate) until: Moment,
 }
 
@@ -56,8 +56,8 @@ impl<D: Device> Model for StateKeeper<D> {
         IsOnDisk D.seen D.may_leave D.faults keeper.file × IsKnown (recovered (D.seen keeper.file.device)) keeper.known };
 }
 
-/// The moment of a mark that is written at a moment.
-fn marked(now: Moment) -> Moment
+/// The moment of a horizon that is written at a moment.
+fn horizon_at(now: Moment) -> Moment
     ensures is { result ≡ min (now + 10) (2 ^ 63 - 1) }
     ensures later { now ≤ result }
     ensures in_range { result < 2 ^ 63 }
@@ -120,8 +120,8 @@ impl<D: Device> StateKeeper<D> {
         }
     }
 
-    /// Keeps a moment: where it is beyond the greatest mark, another mark is written.
-    pub(crate) fn keep_mark(&mut self, now: Moment) -> Result<(), KeepFault>
+    /// Keeps a moment: where it is beyond the greatest horizon, another horizon is written.
+    pub(crate) fn keep_horizon(&mut self, now: Moment) -> Result<(), KeepFault>
         ensures kept { OnOk result (HoldsStill (file_crashes D.Device) self.old self.new) }
         ensures lost { OnErr result (HeldMeanwhile (file_crashes D.Device) self.old self.new) }
         ensures told { OnOk result (HoldsBasis (file_crashes D.Device) self.new (Until now)) }
@@ -134,8 +134,8 @@ impl<D: Device> StateKeeper<D> {
         if now.get() <= self.known.until.get() {
             return Ok(());
         }
-        let until = marked(now);
-        match self.file.append(&mark(until)) {
+        let until = horizon_at(now);
+        match self.file.append(&horizon(until)) {
             Ok(()) => {
                 self.known.until = until;
                 Ok(())
@@ -174,7 +174,7 @@ impl<D: Device> Keeper for StateKeeper<D> {
     }
 
     fn keep_moment(&mut self, now: Moment) -> Result<(), KeepFault> {
-        self.keep_mark(now)
+        self.keep_horizon(now)
     }
 
     fn size(&self) -> Option<u64> {

@@ -2,7 +2,7 @@
 //! moment, and the changes of each round.
 //!
 //! A batch of the file begins with a byte 0 where it is of rules, with a byte 1 where it is of dated changes, with a byte 2 where
-//! it is an image, which stands first alone, and with a byte 3 where it is a mark of a moment. The last batch of rules, or the
+//! it is an image, which stands first alone, and with a byte 3 where it is a horizon of a moment. The last batch of rules, or the
 //! image, tells under which the changes are right.
 #![tactic(auto)]
 
@@ -10,10 +10,10 @@ mod beginning;
 mod comparing;
 mod fault;
 mod hooks;
+mod horizons;
 mod imaging;
 mod keeper;
 mod laws;
-mod marks;
 mod preparing;
 mod redoing;
 mod renewing;
@@ -27,9 +27,9 @@ pub use beginning::{Beginning, begin};
 pub use comparing::compare;
 pub use fault::StateFault;
 pub use hooks::{SetHook, SetHooks};
+pub use horizons::{image_frames, until_of};
 pub use keeper::StateKeeper;
 pub use laws::chains_are_made_again;
-pub use marks::{image_frames, until_of};
 pub use preparing::{Prepared, prepare};
 pub use redoing::redo_all;
 pub use restored::Restored;

@@ -13,8 +13,8 @@ ghost use Rattle.state_file.specs.declared.fault.StateFault.TheVariants.{Memory}
 
 use crate::fault::StateFault;
 use crate::hooks::SetHooks;
+use crate::horizons::image_frames;
 use crate::keeper::Known;
-use crate::marks::image_frames;
 use crate::renewing::{is_short, spelled_image};
 use crate::restored::Restored;
 use crate::resuming::{Resumed, resume};
@@ -75,7 +75,7 @@ fn add_noted<H: HookHost>(
     Ok(())
 }
 
-/// Where batches are long, an image of the server and a mark take their place, unless the image is too large.
+/// Where batches are long, an image of the server and a horizon take their place, unless the image is too large.
 fn keep_short<H: HookHost>(
     alloc: Global,
     server: &Server<H>,
@@ -107,7 +107,7 @@ fn keep_short<H: HookHost>(
 
 /// Makes all that a server is started with on the bytes of a state file, whatever a crash left there. It is made of the file's
 /// image, if there is one, and all changes of the batches behind that are made again under these rules. A hook is then set,
-/// unless it is, at the moment from which the server goes on: the last change's, or the last mark's. The batches are those that
+/// unless it is, at the moment from which the server goes on: the last change's, or the last horizon's. The batches are those that
 /// were read, the rules and the hooks where they lack them, or an image of the server where they are long.
 pub fn prepare<H: HookHost>(
     alloc: Global,

@@ -6,7 +6,7 @@ ghost use Rattle.change_codec.specs.Spelling.{dated_facts};
 ghost use Rattle.state_file.specs.Resuming.{IsOfChanges, RedoesDated, RedoesBatches};
 
 use crate::fault::StateFault;
-use crate::marks::mark_in;
+use crate::horizons::horizon_in;
 use crate::restored::Restored;
 use change_codec::{DatedChange, decode};
 use endpoints::RedoFault;
@@ -24,17 +24,17 @@ fn redo<H: HookHost>(restored: &mut Restored<H>, changes: &[DatedChange]) -> Res
     Ok(())
 }
 
-/// Tests whether what begins as a mark is one.
-fn check_mark(batch: &[u8]) -> Result<(), StateFault>
+/// Tests whether what begins as a horizon is one.
+fn check_horizon(batch: &[u8]) -> Result<(), StateFault>
     ensures refused { IfErr result IsOfChanges }
 {
-    match mark_in(batch) {
+    match horizon_in(batch) {
         Some(_) => Ok(()),
         None => Err(StateFault::Spelling(Fault::Moment)),
     }
 }
 
-#[tactic(auto, using(crate::proofs::Redone::redoes_rules, crate::proofs::Redone::redoes_mark))]
+#[tactic(auto, using(crate::proofs::Redone::redoes_rules, crate::proofs::Redone::redoes_horizon))]
 fn redo_batch<H: HookHost>(
     alloc: Global,
     restored: &mut Restored<H>,
@@ -47,7 +47,7 @@ fn redo_batch<H: HookHost>(
         return Ok(());
     }
     if let [3, ..] = batch {
-        check_mark(batch)?;
+        check_horizon(batch)?;
         return Ok(());
     }
     let changes = decode(alloc, batch)?;

@@ -9,9 +9,9 @@ ghost use Rattle.state_file.specs.Knowing.{IsLong, IsLongFile, file_crashes};
 ghost use Rattle.state_file.specs.Renewing.{HasTooMuch, IsUnspelled, SpellImage};
 
 use crate::hooks::SetHooks;
+use crate::horizons::image_frames;
 use crate::imaging::image_of;
 use crate::keeper::StateKeeper;
-use crate::marks::image_frames;
 use batch_file::appending::BatchFault;
 use batch_file::device::{Device, ReplaceFault};
 use endpoints::{ImageFault, Server};
@@ -58,7 +58,7 @@ pub(crate) fn is_short(end: usize, image: usize) -> bool
 }
 
 impl<D: Device> StateKeeper<D> {
-    /// Where the file is longer than 1 MB, and than four times its image, the image of a server and a mark are put in the place
+    /// Where the file is longer than 1 MB, and than four times its image, the image of a server and a horizon are put in the place
     /// of all that it has. Where it is not known whether they stand there, the keeper keeps nothing more.
     pub(crate) fn shorten<H: HookHost>(&mut self, server: &Server<H>) -> Result<(), ImageFault>
         ensures kept { OnOk result (KeepsImage H.HookHost (file_crashes D.Device) server.now self.old self.new) }

@@ -13,7 +13,7 @@ ghost use Rattle.state_file.specs.Resuming.{FitsOn, FitsRestored, RedoesDated, R
 
 use crate::fault::StateFault;
 use crate::hooks::SetHooks;
-use crate::marks::later;
+use crate::horizons::later;
 use change_codec::DatedChange;
 use clients::Registry;
 use consent::{Change, Moment};

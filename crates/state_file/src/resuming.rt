@@ -13,8 +13,8 @@ ghost use Rattle.state_file.specs.Telling.{TellsRules, rules_of};
 
 use crate::beginning::{Beginning, begin};
 use crate::fault::StateFault;
+use crate::horizons::until_of;
 use crate::keeper::Known;
-use crate::marks::until_of;
 use crate::redoing::redo_all;
 use crate::restored::Restored;
 use crate::telling::{rules_behind, tell};
@@ -37,7 +37,7 @@ pub(crate) struct Resumed<H> {
 }
 
 /// Makes a server of the bytes of a state file: of its image, if there is one, and of all changes of the batches behind it,
-/// which are made again under these rules. It goes on from no moment before the file's marks.
+/// which are made again under these rules. It goes on from no moment before the file's horizons.
 pub(crate) fn resume<H: HookHost>(
     alloc: Global,
     bytes: &[u8],

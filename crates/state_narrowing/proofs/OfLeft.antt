@@ -31,10 +31,10 @@ use Rattle.state_file.specs.Comparing.{KeepClients, client_names, first_moved}
 use Rattle.state_file.specs.FaultTexts.{of_encoding}
 use Rattle.state_file.specs.Hooks.{hooks_after, hooks_with}
 use Rattle.state_file.specs.Resuming.{OfEachHistory}
-use Rattle.state_file.specs.Standing.{IsImageOf, StandFor, StandsFor, marks, until_of}
+use Rattle.state_file.specs.Standing.{IsImageOf, StandFor, StandsFor, horizons, until_of}
 use Rattle.state_file.specs.StandingLaws.{StandsFor-none}
 use Rattle.state_file.specs.Telling.{Tell, TellsRules, client_told, rules_of}
-use Rattle.state_file.proofs.Marked.{StandFor-image_marked, Tell-image, until_of-image}
+use Rattle.state_file.proofs.Horizons.{StandFor-image_horizon, Tell-image, until_of-image}
 use Rattle.state_file.specs.ResumingLaws.{right_now}
 use Rattle.state_file.specs.TellingLaws.{tell_one}
 use Rattle.state_account.specs.declared.account.Account.{Account}
@@ -161,17 +161,17 @@ module _ {H : Type 0} (hosting : Hosting H) where
       let fits = subst (λ (ks : List Kept). FitsHistory ks history told.greatest) before (is_in.each history stands was run).records in
       counts history fits ∙ ap (ended_count rules history) (sym greatest)
 
-  -- a file that has that image and a mark stands for what is left
+  -- a file that has that image and a horizon stands for what is left
   pub has_left : (left : List ℕ) (first : H) (rules : RegistryRecord) (of : LeftImage) (file : Narrowed) (until : ℕ) → until < 2 ^ 63 → SpellLeft hosting first left rules of →
-      file.ended ≡ of.ended → recovered file.bytes.items ≡ of.bytes.items ∷ marks until → HasLeftOfEach hosting first left rules file
+      file.ended ≡ of.ended → recovered file.bytes.items ≡ of.bytes.items ∷ horizons until → HasLeftOfEach hosting first left rules file
   has_left left first rules of file until less spell ended are history stands was run =
       let now = file.bytes.items in
       let image = spell.is history stands was run in
-      let spelled : recovered now ≡ image_spelling spell.image ∷ marks until = are ∙ ap (λ (b : List ℕ). b ∷ marks until) spell.spelled in
+      let spelled : recovered now ≡ image_spelling spell.image ∷ horizons until = are ∙ ap (λ (b : List ℕ). b ∷ horizons until) spell.spelled in
       let tells : TellsRules now (rules_of rules) = subst (λ (r : RulesFact). TellsRules now r) spell.rules_are
       (subst (λ (bs : List (List ℕ)). Tell bs spell.image.rules) (sym spelled) (Tell-image spell.image until spell.fits)) in
       let goes_on : GoesOn hosting first now (left_under rules history) = record {
-        stands = subst (λ (bs : List (List ℕ)). StandFor bs (left_under rules history)) (sym spelled) (StandFor-image_marked spell.image until (left_under rules history) less spell.fits image.is);
+        stands = subst (λ (bs : List (List ℕ)). StandFor bs (left_under rules history)) (sym spelled) (StandFor-image_horizon spell.image until (left_under rules history) less spell.fits image.is);
         right = inr (rules, tells, image.right);
         host = image.host;
         ran = image.ran;
@@ -179,6 +179,6 @@ module _ {H : Type 0} (hosting : Hosting H) where
       record {
         goes_on = goes_on;
         image = spell.image;
-        begins = (spell.fits, spelled ∙ ap (λ (n : ℕ). image_spelling spell.image ∷ marks n) (sym (ap until_of spelled ∙ until_of-image spell.image until less)));
+        begins = (spell.fits, spelled ∙ ap (λ (n : ℕ). image_spelling spell.image ∷ horizons n) (sym (ap until_of spelled ∙ until_of-image spell.image until less)));
         ended = ended ∙ spell.counted history stands was run;
       }

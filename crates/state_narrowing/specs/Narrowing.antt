@@ -11,7 +11,7 @@ use Rattle.image_codec.specs.Facts.{ImageFact}
 use Rattle.narrowing.specs.Left.{ended_count, left_under}
 use Rattle.state_file.specs.Comparing.{AreAsWide, IsUntold, KeepClients}
 use Rattle.state_file.specs.Resuming.{OfEachHistory, WasRight}
-use Rattle.state_file.specs.Standing.{BeginWithImage, StandsFor, marks, until_of}
+use Rattle.state_file.specs.Standing.{BeginWithImage, StandsFor, horizons, until_of}
 use Rattle.state_file.specs.Telling.{Tell}
 use Rattle.state_file.specs.declared.fault.StateFault.{StateFault}
 use Rattle.state_file.specs.declared.fault.StateFault.TheVariants.{Memory, NotState, Version, Damaged, TooLong, NoRules, Spelling, Follows, Image, Hook}
@@ -38,12 +38,12 @@ pub record GoesOn {H : Type 0} (hosting : Hosting H) (first : H) (left : List â„
   pub host : H
   pub ran : HostRun hosting first history host
 
--- The file stands for what is left of the history, and has an image and no more than a mark behind it. So many codes and tokens
+-- The file stands for what is left of the history, and has an image and no more than a horizon behind it. So many codes and tokens
 -- ended as the history had good ones at the image's moment of which nothing is left.
 pub record HasLeft {H : Type 0} (hosting : Hosting H) (first : H) (rules : RegistryRecord) (file : Narrowed) (history : List Event) : Type 0 where
   pub goes_on : GoesOn hosting first file.bytes.items (left_under rules history)
   pub image : ImageFact
-  pub begins : BeginWithImage (recovered file.bytes.items) image (marks (until_of (recovered file.bytes.items)))
+  pub begins : BeginWithImage (recovered file.bytes.items) image (horizons (until_of (recovered file.bytes.items)))
   pub ended : file.ended â‰¡ ended_count rules history image.greatest
 
 -- so it is of each history that the bytes stood for

@@ -56,7 +56,7 @@ fn is_narrower(alloc: Global, batches: &[Vec<u8>], registry: &Registry) -> Resul
     are_less(alloc, &told, &now)
 }
 
-/// The greatest moment of a state file's marks, where the registry keeps the names that the file tells, and is narrower than the
+/// The greatest moment of a state file's horizons, where the registry keeps the names that the file tells, and is narrower than the
 /// file's rules.
 pub(crate) fn until_where_narrower(
     alloc: Global,

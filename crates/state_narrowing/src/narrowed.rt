@@ -23,7 +23,7 @@ pub struct Narrowed {
 }
 
 /// Where the registry is narrower than the rules that a state file tells, what is left when all ends that goes beyond the
-/// registry: a file of its image, which tells the registry's rules, and of a mark. Of any other file nothing. The host is one
+/// registry: a file of its image, which tells the registry's rules, and of a horizon. Of any other file nothing. The host is one
 /// without hooks.
 pub fn narrow<H: HookHost>(
     alloc: Global,

@@ -63,7 +63,7 @@ impl Tables {
         self.put(&token.digest, Record::of_token(token, moment, number));
     }
 
-    // Marks what has the digest as spent.
+    // What has the digest is spent.
     fn spend_at(&mut self, digest: &Digest, moment: Moment)
         requires tied { IsTied self.old [] }
         ensures tied { IsTied self.new [] }

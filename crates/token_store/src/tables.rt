@@ -192,7 +192,7 @@ impl Tables {
         );
     }
 
-    /// Marks the record of the digest as spent.
+    /// The record of the digest is spent.
     pub(crate) fn spend(&mut self, digest: &Digest)
         requires { IsTied self.old [] }
         ensures tied { IsTied self.new [] }

@@ -6,7 +6,7 @@ use Rattle.image_codec.specs.Facts.{HookFact}
 use Rattle.image_codec.specs.Spelling.{image_spelling}
 use Rattle.state_file.specs.Hooks.{hooks_set_in}
 use Rattle.state_file.specs.Making.{AreKeptShort, end_of}
-use Rattle.state_file.specs.Standing.{StandFor, marks}
+use Rattle.state_file.specs.Standing.{StandFor, horizons}
 use Rattle.state_file.specs.declared.keeper.Known.{Known}
 use Rattle.state_file.proofs.Renewed.{image_known, image_stands, image_tells, image_until, not_long, of_image, too_much}
 use Rattle.state_file.proofs.preparing.keep_short.Goals as goal
@@ -39,10 +39,10 @@ pub returns-in_ok-short-in-Ok-clause-short : goal.returns-in_ok-short-in-Ok-clau
 returns-in_ok-short-in-Ok-clause-short g c =
     let known = c.args.known.now in
     let spell = c.in-Ok.ensures.is in
-    let are : c.in_ok-short-in-Ok.short ≡ image_spelling spell.image ∷ marks known.until =
-    c.in_ok-short-in-Ok.ensures ∙ ap (λ (b : List ℕ). b ∷ marks known.until) (c.as_slice-in-Ok.ensures.value ∙ spell.spelled) in
-    let end = end_of (image_spelling spell.image ∷ marks known.until) in
-    let ends : end + 1 ≡ file_size (image_spelling spell.image ∷ marks known.until) = omega arith in
+    let are : c.in_ok-short-in-Ok.short ≡ image_spelling spell.image ∷ horizons known.until =
+    c.in_ok-short-in-Ok.ensures ∙ ap (λ (b : List ℕ). b ∷ horizons known.until) (c.as_slice-in-Ok.ensures.value ∙ spell.spelled) in
+    let end = end_of (image_spelling spell.image ∷ horizons known.until) in
+    let ends : end + 1 ≡ file_size (image_spelling spell.image ∷ horizons known.until) = omega arith in
     subst (AreKeptShort g.H.HookHost c.args.server.now) (sym are) (inl (not_long spell.image known.until end ends))
 
 pub returns-in-Err-TooLong-clause-short : goal.returns-in-Err-TooLong-clause-short

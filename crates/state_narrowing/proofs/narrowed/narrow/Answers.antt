@@ -1,9 +1,9 @@
 use Rattle.std.proofs.Common.{rules, ◌≡◌, ◌<◌, ◌^◌, ◌∙◌, ℕ, List, ◌∷◌, Option, Err, refl, sym, ap, subst}
 use Rattle.std.specs.Prelude.{IfSome}
 use Rattle.batch_file.specs.Frames.{recovered}
-use Rattle.state_file.specs.Standing.{marks, until_of}
+use Rattle.state_file.specs.Standing.{horizons, until_of}
 use Rattle.state_file.specs.Telling.{rules_of}
-use Rattle.state_file.proofs.Marked.{until_of-less}
+use Rattle.state_file.proofs.Horizons.{until_of-less}
 use Rattle.state_narrowing.specs.Narrowing.{IsNarrower, IsUnnarrowed}
 use Rattle.state_narrowing.proofs.OfLeft.{has_left, unnarrowed}
 use Rattle.state_narrowing.proofs.narrowed.narrow.Goals as goal
@@ -24,4 +24,4 @@ returns-clause-left g c =
     let is : until ≡ moment = subst (λ (o : Option ℕ). IfSome o (λ m. m ≡ moment)) c.in-Some.is c.in_ok-until.ensures.until in
     let less : until < 2 ^ 63 = subst (λ (n : ℕ). n < 2 ^ 63) (sym is) (until_of-less (recovered c.args.bytes.now)) in
     has_left g.H.HookHost c.args.bytes.now c.args.host c.args.registry.now c.in_ok-left.left (record { bytes = c.into_bytes.result; ended = c.in_ok-left.left.ended }) until less
-    c.in_ok-left.ensures.is refl (c.into_bytes.ensures.batches ∙ c.in_ok-frames.ensures ∙ ap (λ (b : List ℕ). b ∷ marks until) c.deref.ensures.value)
+    c.in_ok-left.ensures.is refl (c.into_bytes.ensures.batches ∙ c.in_ok-frames.ensures ∙ ap (λ (b : List ℕ). b ∷ horizons until) c.deref.ensures.value)

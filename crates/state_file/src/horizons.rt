@@ -1,25 +1,25 @@
-//! Marks: until which moment what was told by the clock is kept.
+//! Horizons: until which moment what was told by the clock is kept.
 
 ghost use Rattle.std.specs.Prelude.{◌≡◌, ◌++◌, [], ◌∷◌, ◌<◌, ◌^◌, OnOk, IfOk, length, max};
 ghost use Rattle.batch_file.specs.Frames.{lists};
-ghost use Rattle.state_file.specs.Standing.{mark, mark_in, marks, until_of};
+ghost use Rattle.state_file.specs.Standing.{horizon, horizon_in, horizons, until_of};
 
 use batch_file::frames::{AddFault, Frames};
 use consent::Moment;
 use std::alloc::{AllocError, Global};
 
-/// A mark of a moment.
-pub(crate) fn mark(until: Moment) -> [u8; 9]
-    ensures { result ≡ mark until }
+/// The horizon of a moment.
+pub(crate) fn horizon(until: Moment) -> [u8; 9]
+    ensures { result ≡ horizon until }
 {
     let mut batch = [3; 9];
     batch[1..].copy_from_slice(&until.get().to_be_bytes());
     batch
 }
 
-/// The moment of a mark, if the batch is one.
-pub(crate) fn mark_in(batch: &[u8]) -> Option<Moment>
-    ensures { result ≡ mark_in batch.now }
+/// The moment of a horizon, if the batch is one.
+pub(crate) fn horizon_in(batch: &[u8]) -> Option<Moment>
+    ensures { result ≡ horizon_in batch.now }
 {
     let [3, a, b, c, d, e, f, g, h] = *batch else {
         return None;
@@ -38,13 +38,13 @@ pub(crate) fn later(a: Moment, b: Moment) -> Moment
     if a.get() < b.get() { b } else { a }
 }
 
-/// The greatest moment of the marks.
+/// The greatest moment of the horizons.
 pub fn until_of(batches: &[Vec<u8>]) -> Moment
     ensures { result ≡ until_of (lists batches.now) }
 {
     let mut until = Moment::new(0);
     for batch in batches {
-        until = later(until, mark_in(batch).unwrap_or(Moment::new(0)));
+        until = later(until, horizon_in(batch).unwrap_or(Moment::new(0)));
     }
     until
 }
@@ -61,15 +61,15 @@ fn add(frames: &mut Frames, batch: &[u8]) -> Result<(), AllocError>
     }
 }
 
-/// The batches of a file that has an image, and the mark of a moment, if that is any.
+/// The batches of a file that has an image, and the horizon of a moment, if that is any.
 pub fn image_frames(alloc: Global, image: &[u8], until: Moment) -> Result<Frames, AllocError>
     requires { length image.now < 2 ^ 32 }
-    ensures { IfOk result (λ frames. frames ≡ image.now ∷ marks until) }
+    ensures { IfOk result (λ frames. frames ≡ image.now ∷ horizons until) }
 {
     let mut frames = Frames::new(alloc)?;
     add(&mut frames, image)?;
     if until.get() > 0 {
-        add(&mut frames, &mark(until))?;
+        add(&mut frames, &horizon(until))?;
     }
     Ok(frames)
 }

@@ -2,17 +2,17 @@ use Rattle.std.proofs.Common.{rules, ◌≡◌, ◌+◌, ◌++◌, ◌∙◌, �
 use Rattle.std.proofs.lemmas.Grind.{common_steps}
 use Rattle.std.specs.Prelude.{max, unwrap_or}
 use Rattle.batch_file.specs.Frames.{lists}
-use Rattle.state_file.specs.Standing.{mark_in, until_of}
+use Rattle.state_file.specs.Standing.{horizon_in, until_of}
 use Rattle.state_file.specs.StandingLaws.{until_of-append}
-use Rattle.state_file.proofs.marks.until_of.Goals as goal
+use Rattle.state_file.proofs.horizons.until_of.Goals as goal
 
 pub loop-batch-preserved : goal.loop-batch-preserved
 loop-batch-preserved c =
     let before = lists (take c.loop-batch.batch-index c.args.batches.now) in
     let batch = c.batch-item.result.items in
     let more : lists (take (c.loop-batch.batch-index + 1) c.args.batches.now) ≡ before ++ batch ∷ [] = grind (arith, common_steps) in
-    let all : until_of (lists (take (c.loop-batch.batch-index + 1) c.args.batches.now)) ≡ max (until_of before) (max (unwrap_or (mark_in batch) 0) 0) =
+    let all : until_of (lists (take (c.loop-batch.batch-index + 1) c.args.batches.now)) ≡ max (until_of before) (max (unwrap_or (horizon_in batch) 0) 0) =
     ap until_of more ∙ until_of-append before (batch ∷ []) in
-    let told : c.unwrap_or.result ≡ unwrap_or (mark_in batch) 0 = search rules in
-    let now : c.later-until.result ≡ max (until_of before) (unwrap_or (mark_in batch) 0) = c.later-until.ensures ∙ ap (max c.loop-batch.until) told ∙ ap (λ (n : ℕ). max n (unwrap_or (mark_in batch) 0)) c.loop-batch.invariant in
+    let told : c.unwrap_or.result ≡ unwrap_or (horizon_in batch) 0 = search rules in
+    let now : c.later-until.result ≡ max (until_of before) (unwrap_or (horizon_in batch) 0) = c.later-until.ensures ∙ ap (max c.loop-batch.until) told ∙ ap (λ (n : ℕ). max n (unwrap_or (horizon_in batch) 0)) c.loop-batch.invariant in
     now ∙ sym (all ∙ ap (max (until_of before)) (omega arith))

@@ -1,7 +1,7 @@
 use Rattle.std.proofs.Common.{◌≡◌, take}
 use Rattle.batch_file.specs.Frames.{lists}
 use Rattle.state_file.specs.Standing.{until_of}
-use Rattle.state_file.proofs.marks.until_of.Given as goal
+use Rattle.state_file.proofs.horizons.until_of.Given as goal
 
 abbrev pub invariant-loop-batch : goal.invariant-loop-batch
 invariant-loop-batch l = l.until ≡ until_of (lists (take l.batch-index l.batches))

@@ -1,0 +1,96 @@
+-- What horizons tell, and a file's batches once one is behind them.
+use Rattle.std.proofs.Common.{◌≡◌, inr, ◌<◌, ◌^◌, ℕ, zero, suc, List, [], ◌∷◌, ◌++◌, Option, None, Some, Bool, true, false, refl, sym, ap, ◌∙◌, subst, arith}
+use Rattle.std.specs.Prelude.{IsSome, max, unwrap_or, nat_lt, length, ◌==◌, ◌&&◌, if◌then◌else◌}
+use Rattle.std.proofs.lemmas.Bool.{eqb-true, lt-ltb, ltb-true}
+use Rattle.std.proofs.lemmas.Nat.{from_be_bytes-to_be_bytes_8}
+use Rattle.std.specs.Int.{w64, from_be_bytes, to_be_bytes}
+use Rattle.consent.specs.History.{Event}
+use Rattle.image_codec.specs.Facts.{ImageFact}
+use Rattle.image_codec.specs.Spelling.{ImageFits, image_spelling}
+use Rattle.state_file.specs.Standing.{AreTold, IsImageOf, StandFor, horizon, horizon_in, horizons, until_of}
+use Rattle.state_file.specs.StandingLaws.{AreTold-horizon, StandFor-beside, StandFor-image, until_of-append, until_of-more}
+use Rattle.state_file.specs.Telling.{Tell, last_rules}
+use Rattle.state_file.specs.TellingLaws.{last_rules-push}
+use Rattle.state_file.proofs.Kept.{TellOn, tell_on}
+
+by_value : (bytes : List ℕ) (n : ℕ) → (length bytes == 8) ≡ true → from_be_bytes w64 bytes ≡ n → n < 2 ^ 63 → horizon_in (3 ∷ bytes) ≡ Some n
+by_value bytes n long is less = let below = lt-ltb n (2 ^ 63) less in rw (long, is, below) refl
+
+-- a horizon tells its moment
+pub horizon_in-horizon : (until : ℕ) → until < 2 ^ 63 → horizon_in (horizon until) ≡ Some until
+horizon_in-horizon until less = by_value (to_be_bytes w64 until) until refl (from_be_bytes-to_be_bytes_8 until (omega arith)) less
+
+is_horizon : (until : ℕ) → until < 2 ^ 63 → IsSome (horizon_in (horizon until))
+is_horizon until less = subst (λ (o : Option ℕ). IsSome o) (sym (horizon_in-horizon until less)) refl
+
+-- every moment of a horizon is so
+in_range : (bytes : List ℕ) → unwrap_or (horizon_in (3 ∷ bytes)) 0 < 2 ^ 63
+in_range bytes = by (length bytes == 8) (nat_lt (from_be_bytes w64 bytes) (2 ^ 63)) refl
+  where
+    by : (long less : Bool) → nat_lt (from_be_bytes w64 bytes) (2 ^ 63) ≡ less → unwrap_or (if (long && less) then Some (from_be_bytes w64 bytes) else None) 0 < 2 ^ 63
+    by true true is = ltb-true (from_be_bytes w64 bytes) (2 ^ 63) is
+    by true false is = omega arith
+    by false less is = omega arith
+
+horizon_in-less : (batch : List ℕ) → unwrap_or (horizon_in batch) 0 < 2 ^ 63
+horizon_in-less [] = omega arith
+horizon_in-less (zero ∷ bytes) = omega arith
+horizon_in-less (suc zero ∷ bytes) = omega arith
+horizon_in-less (suc (suc zero) ∷ bytes) = omega arith
+horizon_in-less (suc (suc (suc zero)) ∷ bytes) = in_range bytes
+horizon_in-less (suc (suc (suc (suc n))) ∷ bytes) = omega arith
+
+pub until_of-less : (batches : List (List ℕ)) → until_of batches < 2 ^ 63
+until_of-less [] = omega arith
+until_of-less (batch ∷ batches) = let here = horizon_in-less batch in let rest = until_of-less batches in omega (arith, here, rest)
+
+-- A HORIZON MORE
+
+value_of : (o : Option ℕ) (n : ℕ) → o ≡ Some n → unwrap_or o 0 ≡ n
+value_of o n is = ap (λ (p : Option ℕ). unwrap_or p 0) is
+
+-- the batches tell it, or a later moment
+pub horizon_until : (batches : List (List ℕ)) (batch : List ℕ) (until : ℕ) → batch ≡ horizon until → until < 2 ^ 63 → until_of (batches ++ batch ∷ []) ≡ max (until_of batches) until
+horizon_until batches batch until is less =
+    let all = until_of-append batches (horizon until ∷ []) in
+    let one = value_of (horizon_in (horizon until)) until (horizon_in-horizon until less) in
+    ap (λ (b : List ℕ). until_of (batches ++ b ∷ [])) is ∙ omega (arith, all, one)
+
+-- they stand for the same
+pub horizon_stands : (batches : List (List ℕ)) (batch : List ℕ) (until : ℕ) (history : List Event) → batch ≡ horizon until → until < 2 ^ 63 → StandFor batches history → StandFor (batches ++ batch ∷ []) history
+horizon_stands batches batch until history is less stands =
+    subst (λ (b : List ℕ). StandFor (batches ++ b ∷ []) history) (sym is) (StandFor-beside batches (horizon until ∷ []) history (AreTold-horizon until (is_horizon until less)) stands)
+
+-- and tell what they told
+pub horizon_tells : (batches : List (List ℕ)) (batch : List ℕ) (until : ℕ) → batch ≡ horizon until → TellOn batches (batches ++ batch ∷ [])
+horizon_tells batches batch until is = tell_on batches (batches ++ batch ∷ []) (until_of-more batches (batch ∷ []))
+    (λ rules tell. (tell.0, ap (λ (b : List ℕ). last_rules (batches ++ b ∷ [])) is ∙ last_rules-push batches (horizon until) ∙ tell.1, tell.2))
+
+-- AN IMAGE, AND THE HORIZON OF A MOMENT
+
+by_horizons : (until : ℕ) (P : List (List ℕ) → Type 0) → (until ≡ 0 → P []) → P (horizon until ∷ []) → P (horizons until)
+by_horizons until P none one = by (until == 0) refl
+  where
+    by : (b : Bool) → (until == 0) ≡ b → P (if b then [] else horizon until ∷ [])
+    by true is = none (eqb-true until 0 is)
+    by false is = one
+
+pub AreTold-horizons : (until : ℕ) → until < 2 ^ 63 → AreTold (horizons until) []
+AreTold-horizons until less = by_horizons until (λ bs. AreTold bs []) (λ _. refl) (AreTold-horizon until (is_horizon until less))
+
+pub until_of-horizons : (until : ℕ) → until < 2 ^ 63 → until_of (horizons until) ≡ until
+until_of-horizons until less =
+    by_horizons until (λ bs. until_of bs ≡ until) (λ none. sym none) (let one = value_of (horizon_in (horizon until)) until (horizon_in-horizon until less) in omega (arith, one))
+
+pub until_of-image : (image : ImageFact) (until : ℕ) → until < 2 ^ 63 → until_of (image_spelling image ∷ horizons until) ≡ until
+until_of-image image until less = let told = until_of-horizons until less in omega (arith, told)
+
+pub last_rules-image : (image : ImageFact) (until : ℕ) → last_rules (image_spelling image ∷ horizons until) ≡ Some (image_spelling image)
+last_rules-image image until = by_horizons until (λ bs. last_rules (image_spelling image ∷ bs) ≡ Some (image_spelling image)) (λ _. refl) refl
+
+pub StandFor-image_horizon : (image : ImageFact) (until : ℕ) (history : List Event) → until < 2 ^ 63 → ImageFits image → IsImageOf image history →
+    StandFor (image_spelling image ∷ horizons until) history
+StandFor-image_horizon image until history less fits is = StandFor-image image (horizons until) history fits (AreTold-horizons until less) is
+
+pub Tell-image : (image : ImageFact) (until : ℕ) → ImageFits image → Tell (image_spelling image ∷ horizons until) image.rules
+Tell-image image until fits = (image_spelling image, last_rules-image image until, inr (image, fits, refl, refl))
