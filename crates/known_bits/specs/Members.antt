@@ -1,7 +1,6 @@
 -- The words that known bits stand for.
 use Rattle.std.specs.Prelude.{◌≡◌, ℕ, ◌<◌, ◌^◌}
 use Rattle.std.specs.Int.{bit_at}
-use Rattle.range.specs.Domain.{IsJoin}
 use Rattle.known_bits.specs.declared.bits.KnownBits.{KnownBits}
 
 -- a word that has the bits of a value outside a mask
@@ -12,7 +11,3 @@ pub record Agrees (value mask x : ℕ) : Type 0 where
 -- a word that has the known bits
 abbrev pub HasBits : KnownBits → ℕ → Type 0
 HasBits b x = Agrees b.value b.mask x
-
--- no known bits that have the members of both say more than a join
-abbrev pub IsLeastBitsJoin : KnownBits → KnownBits → KnownBits → Type 0
-IsLeastBitsJoin a b c = (d : KnownBits) → IsJoin HasBits a b d → (x : ℕ) → HasBits c x → HasBits d x

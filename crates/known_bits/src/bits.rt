@@ -6,7 +6,7 @@ ghost use Rattle.std.specs.Int.RustNames.{bit_and, bit_or};
 ghost use mir.Val.{bits};
 ghost use Rattle.insn.specs.Word.{int_width, seen};
 ghost use Rattle.range.specs.Domain.{IsJoin};
-ghost use Rattle.range.specs.Sets.{IsMeet, IsWithin};
+ghost use Rattle.range.specs.Sets.{IsLeastJoin, IsMeet, IsWithin};
 
 use insn::operation::Width;
 
@@ -22,7 +22,7 @@ pub struct KnownBits {
 }
 
 impl KnownBits {
-    ghost use Rattle.known_bits.specs.Members.{HasBits, IsLeastBitsJoin};
+    ghost use Rattle.known_bits.specs.Members.{HasBits};
 
     /// The words that have the bits of `value` outside `mask`; `value` itself has none of the unknown bits.
     pub fn new(value: u64, mask: u64) -> KnownBits
@@ -104,7 +104,7 @@ impl KnownBits {
     /// The bits that are known of the words of both.
     pub(crate) fn joined(a: KnownBits, b: KnownBits) -> KnownBits
         ensures both { IsJoin HasBits a b result }
-        ensures least { IsLeastBitsJoin a b result }
+        ensures least { IsLeastJoin HasBits a b result }
     {
         KnownBits::outside(a.value, a.mask | b.mask | (a.value ^ b.value))
     }

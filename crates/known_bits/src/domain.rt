@@ -1,29 +1,18 @@
 //! Known bits as a domain.
 
 ghost use Rattle.std.specs.Prelude.{◌≡◌, ℕ, IsTrue, IsNone, IfSome};
-ghost use Rattle.range.specs.Conditions.{says_equal};
-ghost use Rattle.range.specs.Sets.{AreWithin};
-ghost use Rattle.insn.specs.Word.{unary_result};
+ghost use Rattle.range.specs.Conditions.{says};
+ghost use Rattle.range.specs.Sets.{AreWithin, IsLeastJoin};
 ghost use Rattle.range.specs.Domain.{IsJoin, IsRefined, IsSingle, IsSoundResult, IsSingleResult, IsSoundImage, IsSingleImage};
+ghost use Rattle.insn.specs.Word.{unary_result};
 
 use crate::bits::KnownBits;
 use insn::operation::{BinOp, Cond, UnOp, Width};
 use range::domain::Domain;
-use word::{alu, extend, neg, swap};
-
-/// The result of an operation on one word.
-fn image_of_word(op: UnOp, width: Width, n: u64) -> u64
-    ensures { result ≡ unary_result op width n }
-{
-    match op {
-        UnOp::Neg => neg(width, n),
-        UnOp::Swap(kind, bits) => swap(kind, bits, n),
-        UnOp::Extend(bits) => extend(width, bits, n),
-    }
-}
+use word::{alu, unary};
 
 impl Domain for KnownBits {
-    ghost use Rattle.known_bits.specs.Members.{HasBits, IsLeastBitsJoin};
+    ghost use Rattle.known_bits.specs.Members.{HasBits};
     ghost use Rattle.known_bits.specs.MemberLaws.{HasBits-words};
     ghost use Rattle.known_bits.specs.Refined.{IsOneBit, IsDecided, IsTight, IsUnanswered};
     ghost use Rattle.known_bits.specs.Exact.{HasExactBits, IsExactImage};
@@ -66,7 +55,7 @@ impl Domain for KnownBits {
         ensures exact { IsExactImage op width a result }
     {
         if a.mask == 0 {
-            KnownBits::only(image_of_word(op, width, a.value))
+            KnownBits::only(unary(op, width, a.value))
         } else {
             KnownBits::image(op, width, a)
         }
@@ -74,7 +63,7 @@ impl Domain for KnownBits {
 
     fn join(a: KnownBits, b: KnownBits) -> KnownBits
         ensures both { IsJoin HasBits a b result }
-        ensures least { IsLeastBitsJoin a b result }
+        ensures least { IsLeastJoin HasBits a b result }
     {
         KnownBits::joined(a, b)
     }
@@ -88,7 +77,7 @@ impl Domain for KnownBits {
     ) -> Option<(KnownBits, KnownBits)>
         ensures kept { IsRefined HasBits cond width taken a b result }
         ensures within { AreWithin HasBits a b result }
-        ensures tight { IsTrue (says_equal cond taken) → IfSome result (IsTight width a b) }
+        ensures tight { IsTrue (says cond taken).equal → IfSome result (IsTight width a b) }
         ensures single { (x y : ℕ) → IsUnanswered cond width taken a b x y → IsNone result }
         ensures settled { (k : ℕ) → cond ≡ Cond.Set → IsOneBit width b k → IfSome result (IsDecided cond width taken b) }
     {

@@ -4,7 +4,7 @@ ghost use Rattle.std.specs.Prelude.{◌≡◌, ◌<◌, ◌^◌, ℕ, IsTrue, Is
 ghost use Rattle.insn.specs.Word.{seen, word_holds};
 ghost use Rattle.range.specs.Domain.{IsRefined};
 ghost use Rattle.range.specs.Sets.{AreWithin};
-ghost use Rattle.range.specs.Conditions.{says_equal};
+ghost use Rattle.range.specs.Conditions.{says};
 
 use crate::bits::KnownBits;
 use insn::operation::{Cond, Width};
@@ -102,7 +102,7 @@ impl KnownBits {
     ) -> Option<(KnownBits, KnownBits)>
         ensures kept { IsRefined HasBits cond width taken a b result }
         ensures within { AreWithin HasBits a b result }
-        ensures tight { IsTrue (says_equal cond taken) → IfSome result (IsTight width a b) }
+        ensures tight { IsTrue (says cond taken).equal → IfSome result (IsTight width a b) }
         ensures single { (x y : ℕ) → IsUnanswered cond width taken a b x y → IsNone result }
         ensures settled { (k : ℕ) → cond ≡ Cond.Set → IsOneBit width b k → IfSome result (IsDecided cond width taken b) }
     {

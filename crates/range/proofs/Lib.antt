@@ -1,11 +1,9 @@
 pub mod Bits
-pub mod LeastHalves
-pub mod LowConditions
 pub mod LowHalves
 pub mod Products
 pub mod Quotients
 pub mod Numbers
-pub mod Ranges
+pub mod Places
 pub mod Refinements
 pub mod Results
 pub mod SignedNumbers

@@ -1,5 +1,5 @@
 -- Low halves of words, and of results of operations on words.
-use Rattle.std.proofs.Common.{◌≡◌, ℕ, ℤ, pos, negsuc, zero, suc, lt_of_le_of_lt, ◌+◌, ◌-◌, ◌*◌, ◌%◌, ◌^◌, ◌<◌, ◌≤◌, ◌≤ℤ◌, ◌<ℤ◌, ◌+ℤ◌, ◌-ℤ◌, FitsSigned, ◌⊎◌, inl, inr, bit_and, bit_or, bit_xor, w8, w16, w32, w64, sym, ap, ◌∙◌, refl, arith}
+use Rattle.std.proofs.Common.{◌≡◌, ℕ, ℤ, pos, negsuc, zero, suc, lt_of_le_of_lt, ◌+◌, ◌-◌, ◌*◌, ◌%◌, ◌^◌, ◌<◌, ◌≤◌, ◌≤ℤ◌, ◌<ℤ◌, ◌+ℤ◌, ◌-ℤ◌, FitsSigned, subst, ◌⊎◌, inl, inr, bit_and, bit_or, bit_xor, w8, w16, w32, w64, sym, ap, ◌∙◌, refl, arith}
 use mir.Val.{bits}
 use Rattle.std.specs.Int.{Width as IntWidth, cast_signed, cast_unsigned, int_shr}
 use Rattle.std.specs.Int.Signed.{mag_shr, mag_rem}
@@ -18,14 +18,16 @@ use Rattle.insn.specs.declared.operation.ExtendBits.TheVariants.{B8, B16, B32}
 use Rattle.insn.specs.Word.{int_width, signed_quotient, signed_remainder, word_extended, word_negated, word_result}
 use Rattle.insn.specs.WordLaws.{word_extended_fits}
 use Rattle.range.specs.declared.half.HalfRange.{HalfRange}
-use Rattle.range.specs.Half.{low_reading, InHalfRange, IsHalf, IsTold}
-use Rattle.range.specs.Domain.{IsSingle}
-use Rattle.range.specs.declared.signed.SRange.{SRange}
-use Rattle.range.specs.Signed.{InSignedRange}
-use Rattle.range.proofs.SignedRanges.{signed_member}
+use Rattle.range.specs.Half.{InHalfRange, IsHalf, IsTold, places_of}
+use Rattle.range.specs.declared.unsigned.URange.{URange}
+use Rattle.range.specs.Places.{LiesIn, signed_place}
+use Rattle.range.specs.Sets.{IsLeastPair}
+use Rattle.range.specs.Unsigned.{InRange}
+use Rattle.range.proofs.Refinements.{moved_least}
 
-pub half_member : (r : HalfRange) (x : ℕ) → x < 2 ^ 64 → r.least ≤ℤ low_reading x → low_reading x ≤ℤ r.greatest → InHalfRange r x
-half_member r x h k p = record { word = h; above = k; below = p }
+-- the low half of a word, read as a signed number
+abbrev low_reading : ℕ → ℤ
+low_reading x = cast_signed w32 (x % 2 ^ 32)
 
 -- ---- the low half with its sign in the upper half
 
@@ -50,60 +52,72 @@ extended_reading x =
     let small : FitsSigned w32 (low_reading x) = sfits_to_z {w = w32} {n = x % 2 ^ 32} (record { fits = omega arith }) in
     to_z-of_z w64 (low_reading x) (sfits_widen tt small)
 
--- ---- words between two
+-- ---- places
 
-raised_reading : (x : ℕ) → x < 2 ^ 64 → (cast_signed w64 x +ℤ pos 9223372036854775808) ≡ pos ((x + 9223372036854775808) % 18446744073709551616)
-raised_reading x h = grind (arith, ints)
-
-raised_low_reading : (p : ℕ) → p < 4294967296 → (cast_signed w32 p +ℤ pos 2147483648) ≡ pos ((p + 2147483648) % 4294967296)
-raised_low_reading p h = grind (arith, ints)
+pub extended_place : (x : ℕ) → signed_place W64 (word_extended W64 B32 x) ≡ signed_place W32 x + 9223372034707292160
+extended_place x = elim (extended_is x) [ inl low ↦ omega (arith, low.0, low.1) | inr high ↦ omega (arith, high.0, high.1) ]
 
 -- numbers between two that are less than one turn apart and in order after it
-turn_between : (l x g : ℕ) → l ≤ x → x ≤ g → g < l + 4294967296 → (l + 2147483648) % 4294967296 ≤ (g + 2147483648) % 4294967296 → ((l + 2147483648) % 4294967296 ≤ (x + 2147483648) % 4294967296) × ((x + 2147483648) % 4294967296 ≤ (g + 2147483648) % 4294967296)
+pub turn_between : (l x g : ℕ) → l ≤ x → x ≤ g → g < l + 4294967296 → (l + 2147483648) % 4294967296 ≤ (g + 2147483648) % 4294967296 → ((l + 2147483648) % 4294967296 ≤ (x + 2147483648) % 4294967296) × ((x + 2147483648) % 4294967296 ≤ (g + 2147483648) % 4294967296)
 turn_between l x g h k near order = (omega arith, omega arith)
 
-same_turn : (x : ℕ) → ((x + 9223372036854775808) % 18446744073709551616 + 2147483648) % 4294967296 ≡ (x % 4294967296 + 2147483648) % 4294967296
-same_turn x = omega arith
+-- the place of a low half, by that of its word
+pub low_place : (x : ℕ) → signed_place W32 x ≡ (signed_place W64 x + 2147483648) % 4294967296
+low_place x = omega arith
 
--- words between two whose low halves are in order, less than one turn apart, have theirs between these
-pub low_between : (l x g : ℕ) → l < 2 ^ 64 → x < 2 ^ 64 → g < 2 ^ 64 → cast_signed w64 l ≤ℤ cast_signed w64 x → cast_signed w64 x ≤ℤ cast_signed w64 g → (cast_signed w64 g -ℤ cast_signed w64 l) <ℤ pos 4294967296 → low_reading l ≤ℤ low_reading g → (low_reading l ≤ℤ low_reading x) × (low_reading x ≤ℤ low_reading g)
-low_between l x g hl hx hg above below near order =
-    let at_l = raised_reading l hl in
-    let at_x = raised_reading x hx in
-    let at_g = raised_reading g hg in
-    let low_l = raised_low_reading (l % 2 ^ 32) (omega arith) in
-    let low_x = raised_low_reading (x % 2 ^ 32) (omega arith) in
-    let low_g = raised_low_reading (g % 2 ^ 32) (omega arith) in
-    let m = (l + 9223372036854775808) % 18446744073709551616 in
-    let n = (x + 9223372036854775808) % 18446744073709551616 in
-    let o = (g + 9223372036854775808) % 18446744073709551616 in
-    let between = turn_between m n o (omega (arith, ints)) (omega (arith, ints)) (omega (arith, ints))
-    (rw (same_turn l, same_turn g) (omega (arith, ints))) in
-    let first = rw (same_turn l, same_turn x) at between.0 in
-    let second = rw (same_turn x, same_turn g) at between.1 in
-    (omega (arith, ints), omega (arith, ints))
+pub low_back : (x : ℕ) → signed_place W32 (signed_place W32 x) ≡ x % 2 ^ 32
+low_back x = omega arith
 
 -- ---- words by their low halves
 
-pub half_word : (r : HalfRange) (z : ℤ) → FitsSigned w32 z → r.least ≤ℤ z → z ≤ℤ r.greatest → InHalfRange r (cast_unsigned w32 z)
-half_word r z fits h k =
-    let small = (Fits-of_z {w = w32} {z = z} fits).fits in
-    let same : cast_unsigned w32 z % 2 ^ 32 ≡ cast_unsigned w32 z = omega arith in
-    let back : low_reading (cast_unsigned w32 z) ≡ z = ap (cast_signed w32) same ∙ to_z-of_z w32 z fits in
-    half_member r (cast_unsigned w32 z) (omega arith) (rw back h) (rw back k)
+pub half_lies : (r : HalfRange) (p : URange) (x : ℕ) → places_of r ≡ p → LiesIn (signed_place W32) p x → InHalfRange r x
+half_lies r p x e h = subst (λ (q : URange). LiesIn (signed_place W32) q x) (sym e) h
 
--- a range that has all members of another reaches past its ends
-pub half_ends_within : (a s : HalfRange) → FitsSigned w32 a.least → FitsSigned w32 a.greatest → a.least ≤ℤ a.greatest → ((x : ℕ) → InHalfRange a x → InHalfRange s x) → (s.least ≤ℤ a.least) × (a.greatest ≤ℤ s.greatest)
-half_ends_within a s f g h has =
-    let low = has (cast_unsigned w32 a.least) (half_word a a.least f (omega (arith, ints)) h) in
-    let high = has (cast_unsigned w32 a.greatest) (half_word a a.greatest g h (omega (arith, ints))) in
-    (rw (back a.least f) at low.above, rw (back a.greatest g) at high.below)
-  where
-    back : (z : ℤ) → FitsSigned w32 z → low_reading (cast_unsigned w32 z) ≡ z
-    back z fits =
-        let small = (Fits-of_z {w = w32} {z = z} fits).fits in
-        let same : cast_unsigned w32 z % 2 ^ 32 ≡ cast_unsigned w32 z = omega arith in
-        ap (cast_signed w32) same ∙ to_z-of_z w32 z fits
+pub lies_half : (r : HalfRange) (p : URange) (x : ℕ) → p ≡ places_of r → InHalfRange r x → LiesIn (signed_place W32) p x
+lies_half r p x e h = subst (λ (q : URange). LiesIn (signed_place W32) q x) (sym e) h
+
+-- a place of a low half is a word of the places
+pub place_lies : (r : HalfRange) (p : URange) (x : ℕ) → p ≡ places_of r → InHalfRange r x → InRange p (signed_place W32 x)
+place_lies r p x e h =
+    let lies = lies_half r p x e h in
+    let above = lies.above in
+    let below = lies.below in
+    record { word = omega arith; above = omega arith; below = omega arith }
+
+-- a place of a low half is that of the word
+pub low_same : (x : ℕ) → signed_place W32 (x % 2 ^ 32) ≡ signed_place W32 x
+low_same x = omega arith
+
+pub lies_at : (r : URange) (x : ℕ) → x < 2 ^ 64 → InRange r (signed_place W32 x) → LiesIn (signed_place W32) r x
+lies_at r x fits h = record { word = fits; above = h.above; below = h.below }
+
+-- least ranges of places are least ranges of low halves
+pub halves_least : (R : ℕ → ℕ → Type 0) (a b d e : HalfRange) (p q l r : URange) → p ≡ places_of a → q ≡ places_of b → places_of d ≡ l → places_of e ≡ r → IsLeastPair (LiesIn (signed_place W32)) R p q l r → IsLeastPair InHalfRange R a b d e
+halves_least R a b d e p q l r at_a at_b at_d at_e h =
+    let Has = LiesIn (signed_place W32) in
+    let first = subst (λ (z : URange). IsLeastPair Has R z q l r) at_a h in
+    let second = subst (λ (z : URange). IsLeastPair Has R (places_of a) z l r) at_b first in
+    let third = subst (λ (z : URange). IsLeastPair Has R (places_of a) (places_of b) z r) (sym at_d) second in
+    moved_least places_of W32 R a b d e (subst (λ (z : URange). IsLeastPair Has R (places_of a) (places_of b) (places_of d) z) (sym at_e) third)
+
+-- the ends of a range of one low half are its place
+pub half_ends_same : (r : HalfRange) (x : ℕ) → r.greatest < 2 ^ 32 → IsHalf r x → (r.least ≡ signed_place W32 x) × (r.greatest ≡ signed_place W32 x)
+half_ends_same r x fits one =
+    let ordered = r.ordered in
+    let low = (one ((r.least + 2 ^ 31) % 2 ^ 32) (omega arith)).0 (record { word = omega arith; above = omega arith; below = omega arith }) in
+    let high = (one ((r.greatest + 2 ^ 31) % 2 ^ 32) (omega arith)).0 (record { word = omega arith; above = omega arith; below = omega arith }) in
+    (omega arith, omega arith)
+
+pub half_by_ends : (r : HalfRange) (x : ℕ) → r.least ≡ signed_place W32 x → r.greatest ≡ signed_place W32 x → IsHalf r x
+half_by_ends r x low high y fits = (
+  (λ h. let above = h.above in
+      let below = h.below in
+      omega arith),
+  (λ e. record { word = fits; above = omega arith; below = omega arith }),
+)
+
+pub same_half : (r : HalfRange) (x y : ℕ) → y % 2 ^ 32 ≡ x % 2 ^ 32 → IsHalf r x → IsHalf r y
+same_half r x y e one = rw e one
 
 -- ---- operations
 
@@ -262,48 +276,3 @@ extend_low w B16 x m e =
     let same : x % 2 ^ 16 ≡ m % 2 ^ 16 = omega arith in
     extended_both w (cast_signed w16 (x % 2 ^ 16)) (cast_signed w16 (m % 2 ^ 16)) (fits16 x) (ap (cast_signed w16) same)
 extend_low w B32 x m e = extended_both w (cast_signed w32 (x % 2 ^ 32)) (cast_signed w32 (m % 2 ^ 32)) (fits32 x) (ap (cast_signed w32) (sym e))
-
--- ---- one low half alone
-
-half_word_low : (z : ℤ) → FitsSigned w32 z → low_reading (cast_unsigned w32 z) ≡ z
-half_word_low z fits =
-    let small = (Fits-of_z {w = w32} {z = z} fits).fits in
-    let same : cast_unsigned w32 z % 2 ^ 32 ≡ cast_unsigned w32 z = omega arith in
-    ap (cast_signed w32) same ∙ to_z-of_z w32 z fits
-
--- the ends of a range of one low half are what it reads as
-pub half_ends_same : (r : HalfRange) (x : ℕ) → FitsSigned w32 r.least → FitsSigned w32 r.greatest → r.least ≤ℤ r.greatest → IsHalf r x → (r.least ≡ low_reading x) × (r.greatest ≡ low_reading x)
-half_ends_same r x f g h one =
-    let low = (one (cast_unsigned w32 r.least) (small r.least f)).0 (half_word r r.least f (omega (arith, ints)) h) in
-    let high = (one (cast_unsigned w32 r.greatest) (small r.greatest g)).0 (half_word r r.greatest g h (omega (arith, ints))) in
-    (sym (half_word_low r.least f) ∙ ap (cast_signed w32) low, sym (half_word_low r.greatest g) ∙ ap (cast_signed w32) high)
-  where
-    small : (z : ℤ) → FitsSigned w32 z → cast_unsigned w32 z < 2 ^ 64
-    small z fits = let fit = (Fits-of_z {w = w32} {z = z} fits).fits in omega arith
-
--- equal readings are those of equal low halves
-same_reading : (x y : ℕ) → low_reading y ≡ low_reading x → y % 2 ^ 32 ≡ x % 2 ^ 32
-same_reading x y e = sym (of_z-to_z w32 (y % 2 ^ 32) (omega arith)) ∙ ap (cast_unsigned w32) e ∙ of_z-to_z w32 (x % 2 ^ 32) (omega arith)
-
-pub half_by_ends : (r : HalfRange) (x : ℕ) → r.least ≡ low_reading x → r.greatest ≡ low_reading x → IsHalf r x
-half_by_ends r x low high y fits = (
-  (λ h. let above = h.above in
-      let below = h.below in
-      same_reading x y (omega (arith, ints))),
-  (λ e. let reading : low_reading y ≡ low_reading x = ap (cast_signed w32) e in
-      half_member r y fits (omega (arith, ints)) (omega (arith, ints))),
-)
-
-pub same_half : (r : HalfRange) (x y : ℕ) → y % 2 ^ 32 ≡ x % 2 ^ 32 → IsHalf r x → IsHalf r y
-same_half r x y e one = rw e one
-
--- a signed range whose ends are what a word reads as is that word alone
-pub word_by_ends : (r : SRange) (n : ℕ) → n < 2 ^ 64 → r.least ≡ cast_signed w64 n → r.greatest ≡ cast_signed w64 n → IsSingle InSignedRange r n
-word_by_ends r n fits low high y = (
-  (λ h. let above = h.above in
-      let below = h.below in
-      let same : cast_signed w64 y ≡ cast_signed w64 n = omega (arith, ints) in
-      sym (of_z-to_z w64 y h.word) ∙ ap (cast_unsigned w64) same ∙ of_z-to_z w64 n fits),
-  (λ e. let reading : cast_signed w64 y ≡ cast_signed w64 n = ap (cast_signed w64) e in
-      signed_member r y (rw e fits) (omega (arith, ints)) (omega (arith, ints))),
-)

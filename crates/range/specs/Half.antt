@@ -1,28 +1,24 @@
 -- The words whose low halves lie between two signed numbers.
-use Rattle.std.specs.Prelude.{Bool, Option, ◌≡◌, ◌↔◌, ℕ, ℤ, ◌<◌, ◌%◌, ◌^◌, ◌≤ℤ◌}
-use Rattle.std.specs.Int.{w32, cast_signed}
+use Rattle.std.specs.Prelude.{◌≡◌, ◌↔◌, ℕ, ◌<◌, ◌%◌, ◌^◌}
 use Rattle.insn.specs.declared.operation.Width.{Width}
 use Rattle.insn.specs.declared.operation.Width.TheVariants.{W32, W64}
 use Rattle.insn.specs.declared.operation.BinOp.{BinOp}
 use Rattle.insn.specs.declared.operation.BinOp.TheVariants.{Add, Sub, Mul, Div, Sdiv, Or, And, Lsh, Rsh, Mod, Smod, Xor, Mov, Arsh}
 use Rattle.insn.specs.declared.operation.UnOp.{UnOp}
 use Rattle.insn.specs.declared.operation.UnOp.TheVariants.{Neg, Swap, Extend}
-use Rattle.insn.specs.Word.{unary_result, word_holds, word_result}
-use Rattle.insn.specs.declared.operation.Cond.{Cond}
-use Rattle.range.specs.Conditions.{OrdersSigned}
-use Rattle.range.specs.Sets.{IsLeastRefined}
+use Rattle.insn.specs.Word.{unary_result, word_result}
+use Rattle.range.specs.Places.{LiesIn, signed_place, number_at}
+use Rattle.range.specs.Signed.{least_of, greatest_of}
+use Rattle.range.specs.declared.unsigned.URange.{URange}
 use Rattle.range.specs.declared.signed.SRange.{SRange}
 use Rattle.range.specs.declared.half.HalfRange.{HalfRange}
 
--- the low half of a word, read as a signed number
-abbrev pub low_reading : ℕ → ℤ
-low_reading x = cast_signed w32 (x % 2 ^ 32)
+abbrev pub places_of : HalfRange → URange
+places_of r = record { least = r.least; greatest = r.greatest; ordered = r.ordered }
 
--- a word of the range: its low half is not below the least of them, nor above the greatest
-pub record InHalfRange (r : HalfRange) (x : ℕ) : Type 0 where
-  pub word : x < 2 ^ 64
-  pub above : r.least ≤ℤ low_reading x
-  pub below : low_reading x ≤ℤ r.greatest
+-- a word is at the place of its low half's signed reading
+abbrev pub InHalfRange : HalfRange → ℕ → Type 0
+InHalfRange r x = LiesIn (signed_place W32) (places_of r) x
 
 -- the low half of a result is that of the result in 64 bits of all words that have the operands' low halves
 abbrev pub IsTold : BinOp → Width → Type 0
@@ -65,9 +61,5 @@ IsSingleHalfImage op w a c = IsDeterminedImage op → (x : ℕ) → x < 2 ^ 64 �
 
 -- two ranges have the same ends
 pub record HaveOneEnds (r : SRange) (s : HalfRange) : Type 0 where
-  pub least : r.least ≡ s.least
-  pub greatest : r.greatest ≡ s.greatest
-
--- in 32 bits an answer that orders signed numbers leaves the operands the least ranges of low halves
-abbrev pub IsLeastHalfRefined : Cond → Bool → HalfRange → HalfRange → Option (HalfRange × HalfRange) → Type 0
-IsLeastHalfRefined c taken a b r = OrdersSigned c taken → IsLeastRefined InHalfRange (λ x y. word_holds W32 c x y ≡ taken) a b r
+  pub least : least_of r ≡ number_at W32 s.least
+  pub greatest : greatest_of r ≡ number_at W32 s.greatest

@@ -3,6 +3,7 @@ pub mod Domain
 pub mod Sets
 pub mod Conditions
 pub mod Widths
+pub mod Places
 pub mod Unsigned
 pub mod Signed
 pub mod Half
@@ -13,3 +14,4 @@ pub mod UnsignedParts
 pub mod SignedParts
 -- Laws, each proved: a reader may skip them.
 pub mod MemberLaws
+pub mod ConditionLaws

@@ -1,10 +1,12 @@
 -- Beside Unsigned: only the contracts of this crate's own parts and their proofs cite this, no public clause.
-use Rattle.std.specs.Prelude.{◌≡◌, ℕ, ◌+◌, ◌-◌, ◌<◌, ◌≤◌, Bool, bit_and, ◌⊎◌, Option, Some, None}
+use Rattle.std.specs.Prelude.{◌≡◌, ℕ, ◌+◌, ◌-◌, ◌<◌, ◌≤◌, ◌^◌, Bool, IsTrue, Option, Some, None}
 use Rattle.insn.specs.declared.operation.Width.{Width}
 use Rattle.insn.specs.declared.operation.BinOp.{BinOp}
-use Rattle.insn.specs.declared.operation.Cond.{Cond}
-use Rattle.insn.specs.Word.{int_width, wrapped, result_in, holds_in}
-use Rattle.range.specs.WidthsParts.{half, modulus}
+use Rattle.insn.specs.Word.{int_width, wrapped, result_in}
+use Rattle.range.specs.Domain.{Keeps}
+use Rattle.range.specs.Places.{LiesIn}
+use Rattle.range.specs.Sets.{AreWithin, IsLeastRefined}
+use Rattle.range.specs.WidthsParts.{modulus}
 use Rattle.range.specs.declared.unsigned.URange.{URange}
 use Rattle.range.specs.Unsigned.{InRange}
 
@@ -21,16 +23,21 @@ IsSoundIn op w a b c = (x y : ℕ) → InRange a x → InRange b y → InRange c
 abbrev pub IsNegatedIn : Width → URange → URange → Type 0
 IsNegatedIn w a c = (x : ℕ) → InRange a x → InRange c (wrapped (int_width w) (modulus w - x))
 
--- pairs of numbers of a width for which a condition has an answer are kept; none means that there is no such pair
-abbrev pub IsKeptIn : Cond → Width → Bool → URange → URange → Option (URange × URange) → Type 0
-IsKeptIn c w taken a b None = (x y : ℕ) → InRange a x → InRange b y → holds_in (int_width w) c x y ≡ taken → ⊥
-IsKeptIn c w taken a b (Some r) = (x y : ℕ) → InRange a x → InRange b y → holds_in (int_width w) c x y ≡ taken → InRange r.0 x × InRange r.1 y
+-- each number of a range is the place of a word
+abbrev pub IsReached : (ℕ → ℕ) → URange → Type 0
+IsReached place r = (n : ℕ) → n ≤ r.greatest → (x : ℕ) × (x < 2 ^ 64) × (place x ≡ n)
 
--- the same for pairs that have no bit in common
-abbrev pub IsKeptApart : URange → URange → Option (URange × URange) → Type 0
-IsKeptApart a b None = (x y : ℕ) → InRange a x → InRange b y → bit_and x y ≡ 0 → ⊥
-IsKeptApart a b (Some r) = (x y : ℕ) → InRange a x → InRange b y → bit_and x y ≡ 0 → InRange r.0 x × InRange r.1 y
+-- the least ranges that keep words whose places are related, wherever words have these
+abbrev pub IsLeastPlaced : (ℕ → ℕ → Type 0) → URange → URange → Option (URange × URange) → Type 0
+IsLeastPlaced Related a b r = (place : ℕ → ℕ) → IsReached place a → IsReached place b → IsLeastRefined (LiesIn place) (λ x y. Related (place x) (place y)) a b r
 
--- the numbers of two ranges have one sign in a width
-abbrev pub HaveOneSign : Width → URange → URange → Type 0
-HaveOneSign w a b = ((a.greatest < half w) × (b.greatest < half w)) ⊎ ((half w ≤ a.least) × (half w ≤ b.least))
+-- ranges that keep such words, and nothing that was not there; where these are in order, the least ranges
+pub record AreCompared (Related : ℕ → ℕ → Type 0) (ordered : Bool) (a b : URange) (r : Option (URange × URange)) : Type 0 where
+  pub kept : (place : ℕ → ℕ) → IsReached place a → IsReached place b → Keeps (LiesIn place) (λ x y. Related (place x) (place y)) a b r
+  pub within : (place : ℕ → ℕ) → IsReached place a → IsReached place b → AreWithin (LiesIn place) a b r
+  pub least : IsTrue ordered → IsLeastPlaced Related a b r
+
+-- pairs the other way round
+abbrev pub turned_round : Option (URange × URange) → Option (URange × URange)
+turned_round None = None
+turned_round (Some r) = Some (r.1, r.0)

@@ -1,81 +1,81 @@
 //! Words by their low halves, read as signed numbers of 32 bits.
 
-ghost use Rattle.std.specs.Prelude.{◌≡◌, ◌<◌, ◌<ℤ◌, ◌≤ℤ◌, ◌%◌, ◌^◌, ◌↔◌, ℕ, IsTrue, pos, negsuc, true};
+ghost use Rattle.std.specs.Prelude.{◌≡◌, ◌<◌, ◌≤◌, ◌<ℤ◌, ◌≤ℤ◌, ◌%◌, ◌^◌, ◌↔◌, ℕ, IsTrue, pos, negsuc, true};
 ghost use Rattle.insn.specs.Word.{word_extended, word_result};
 ghost use Rattle.range.specs.Sets.{IsMeet, IsWithin};
 
 use crate::domain::Domain;
+use crate::place::low_place_of;
 use crate::signed::SRange;
 use crate::unsigned::URange;
 use insn::operation::{BinOp, ExtendBits, Width};
 
 mod operations;
 
-/// The words whose low halves, read as signed numbers, lie between a least and a greatest number, both among them.
+/// How far the places of low halves are below those of the words that have their signs in the upper half.
+const ABOVE: u64 = 0x7fff_ffff_8000_0000;
+
+/// The words whose low halves, read as signed numbers, lie between a least and a greatest number, both among them: here
+/// these are places. It is no `Domain`, since no range of them is one word alone.
 #[derive(Clone, Copy)]
 pub struct HalfRange {
-    least: i32,
-    greatest: i32,
-    ghost ordered: { least ≤ℤ greatest },
+    least: u32,
+    greatest: u32,
+    ghost ordered: { least ≤ greatest },
 }
 
 impl HalfRange {
-    ghost use Rattle.range.specs.Half.{low_reading, HaveOneEnds, InHalfRange, IsHalf};
     ghost use Rattle.range.specs.Domain.{IsSingle};
-    ghost use Rattle.range.specs.Signed.{InSignedRange};
+    ghost use Rattle.range.specs.Half.{HaveOneEnds, InHalfRange, IsHalf, places_of};
+    ghost use Rattle.range.specs.Signed.{greatest_of, InSignedRange, least_of};
     ghost use Rattle.range.specs.Unsigned.{InRange};
 
-    /// The low half of a word, read as a signed number.
-    fn low_of(n: u64) -> i32
-        ensures { result ≡ low_reading n }
+    /// The places of the low halves.
+    fn places(self) -> URange
+        ensures is { result ≡ places_of self }
+        ensures fits { result.greatest < 2 ^ 32 }
     {
-        ((n % 0x1_0000_0000) as u32).cast_signed()
+        URange::new(u64::from(self.least), u64::from(self.greatest))
     }
 
-    /// The words whose low halves lie from one number to another.
-    pub fn new(least: i32, greatest: i32) -> HalfRange
-        requires { least ≤ℤ greatest }
-        ensures from { result.least ≡ least }
-        ensures to { result.greatest ≡ greatest }
+    /// The words whose low halves have these places.
+    fn of_places(places: URange) -> HalfRange
+        requires { places.greatest < 2 ^ 32 }
+        ensures { places_of result ≡ places }
     {
-        HalfRange { least, greatest }
-    }
-
-    /// The least low half.
-    pub fn least(self) -> i32
-        ensures { result ≡ self.least }
-    {
-        self.least
-    }
-
-    /// The greatest low half.
-    pub fn greatest(self) -> i32
-        ensures { result ≡ self.greatest }
-    {
-        self.greatest
+        HalfRange {
+            least: places.least() as u32,
+            greatest: places.greatest() as u32,
+        }
     }
 
     /// Every word.
     pub fn any() -> HalfRange
         ensures { (x : ℕ) → x < 2 ^ 64 → InHalfRange result x }
     {
-        HalfRange::new(i32::MIN, i32::MAX)
+        HalfRange {
+            least: 0,
+            greatest: u32::MAX,
+        }
     }
 
     /// The words that have the low half of one.
     pub fn exact(n: u64) -> HalfRange
         ensures { IsHalf result n }
     {
-        let low = HalfRange::low_of(n);
-        HalfRange::new(low, low)
+        let place = low_place_of(n);
+        HalfRange {
+            least: place,
+            greatest: place,
+        }
     }
 
     /// Whether a word is among them.
     pub fn has(self, n: u64) -> bool
         ensures { IsTrue result ↔ InHalfRange self n }
     {
-        let low = HalfRange::low_of(n);
-        self.least <= low && low <= self.greatest
+        let place = low_place_of(n);
+        self.least <= place && place <= self.greatest
     }
 
     /// The low halves as words, with their signs in the upper half.
@@ -84,21 +84,43 @@ impl HalfRange {
         ensures ends { HaveOneEnds result self }
         ensures single { (x : ℕ) → x < 2 ^ 64 → IsHalf self x → IsSingle InSignedRange result (word_extended Width.W64 ExtendBits.B32 x) }
     {
-        SRange::new(i64::from(self.least), i64::from(self.greatest))
+        SRange {
+            places: URange::new(
+                ABOVE + u64::from(self.least),
+                ABOVE + u64::from(self.greatest),
+            ),
+        }
+    }
+
+    /// The low halves as words, with 0 in the upper half, and all of them where they have both signs.
+    fn words(self) -> URange
+        ensures has { (x : ℕ) → InHalfRange self x → InRange result (x % 2 ^ 32) }
+        ensures fits { result.greatest < 2 ^ 32 }
+    {
+        self.places().turned(Width::W32)
+    }
+
+    /// The words whose low halves are among these, and more where they have both signs.
+    fn of_low(low: URange) -> HalfRange
+        requires { low.greatest < 2 ^ 32 }
+        ensures { (x : ℕ) → x < 2 ^ 64 → InRange low (x % 2 ^ 32) → InHalfRange result x }
+    {
+        HalfRange::of_places(low.turned(Width::W32))
     }
 
     /// The words of a signed range and all that share a low half with one; every word where these halves go past the
     /// greatest one.
     pub fn of_words(words: SRange) -> HalfRange
         ensures has { (x : ℕ) → InSignedRange words x → InHalfRange result x }
-        ensures ends { negsuc 2147483647 ≤ℤ words.least → words.greatest ≤ℤ pos 2147483647 → HaveOneEnds words result }
+        ensures ends { negsuc 2147483647 ≤ℤ least_of words → greatest_of words ≤ℤ pos 2147483647 → HaveOneEnds words result }
         ensures single { (x : ℕ) → x < 2 ^ 64 → IsSingle InSignedRange words x → IsHalf result x }
     {
-        let least = HalfRange::low_of(words.least().cast_unsigned());
-        let greatest = HalfRange::low_of(words.greatest().cast_unsigned());
-        let span = i128::from(words.greatest()) - i128::from(words.least());
-        if span < 0x1_0000_0000 && least <= greatest {
-            HalfRange::new(least, greatest)
+        let first = words.places.least();
+        let last = words.places.greatest();
+        let least = low_place_of(first);
+        let greatest = low_place_of(last);
+        if last - first < 0x1_0000_0000 && least <= greatest {
+            HalfRange { least, greatest }
         } else {
             HalfRange::any()
         }
@@ -108,13 +130,7 @@ impl HalfRange {
     pub fn meet(a: HalfRange, b: HalfRange) -> Option<HalfRange>
         ensures { IsMeet InHalfRange a b result }
     {
-        let least = a.least.max(b.least);
-        let greatest = a.greatest.min(b.greatest);
-        if least <= greatest {
-            Some(HalfRange::new(least, greatest))
-        } else {
-            None
-        }
+        Some(HalfRange::of_places(URange::meet(a.places(), b.places())?))
     }
 
     /// Whether each word of another range is in this one.
@@ -122,7 +138,7 @@ impl HalfRange {
         ensures members { result ≡ true → IsWithin InHalfRange other self }
         ensures itself { other ≡ self → result ≡ true }
     {
-        self.least <= other.least && other.greatest <= self.greatest
+        self.places().covers(other.places())
     }
 
     /// The words of an unsigned range, by their low halves where all are below 2^32.
@@ -130,7 +146,7 @@ impl HalfRange {
         ensures { (x : ℕ) → InRange words x → InHalfRange self x → InRange result x }
     {
         if words.greatest() < 0x1_0000_0000 {
-            self.signed().unsigned().seen(Width::W32)
+            self.words()
         } else {
             words
         }
@@ -149,8 +165,8 @@ impl HalfRange {
 
     /// The words moved up by 32 bits or more: their low halves are then all that is left of them.
     pub fn raised(self, amounts: SRange) -> SRange
-        requires least { pos 32 ≤ℤ amounts.least }
-        requires greatest { amounts.greatest <ℤ pos 64 }
+        requires least { pos 32 ≤ℤ least_of amounts }
+        requires greatest { greatest_of amounts <ℤ pos 64 }
         ensures { (x y : ℕ) → InHalfRange self x → InSignedRange amounts y → InSignedRange result (word_result Width.W64 BinOp.Lsh x y) }
     {
         SRange::apply(BinOp::Lsh, Width::W64, self.signed(), amounts)

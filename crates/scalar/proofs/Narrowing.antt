@@ -7,7 +7,8 @@ use Rattle.insn.specs.declared.operation.Cond.TheVariants.{Eq, Gt, Ge, Set, Ne, 
 use Rattle.insn.specs.declared.operation.Width.{Width}
 use Rattle.insn.specs.declared.operation.Width.TheVariants.{W32, W64}
 use Rattle.insn.specs.Word.{seen, word_holds}
-use Rattle.range.specs.Conditions.{HasAnswer, OrdersSigned, OrdersWords, says_equal}
+use Rattle.range.specs.Conditions.{HasAnswer, says}
+use Rattle.range.specs.ConditionLaws.{equal_seen}
 use Rattle.range.specs.MemberLaws.{same_low}
 use Rattle.range.specs.Sets.{IsLeastPair, IsWithin}
 use Rattle.range.specs.declared.half.HalfRange.{HalfRange}
@@ -20,38 +21,16 @@ use Rattle.known_bits.specs.Refined.{HasPartner, IsTight}
 use Rattle.scalar.specs.declared.scalar.Scalar.{Scalar}
 use Rattle.scalar.specs.MemberLaws.{shows_one}
 use Rattle.scalar.specs.Members.{InScalar, IsAskedAlike}
-use Rattle.scalar.specs.Narrowed.{Answer, HasLowAnswer, AreNarrowed}
+use Rattle.scalar.specs.Narrowed.{Answer, AreNarrowed, said}
 use Rattle.scalar.specs.NarrowedParts.{AreHalvesNarrowed, ArePartsNarrowed, IsWidthAsked}
 use Rattle.scalar.proofs.Same.{AreSame}
 
--- ---- answers that say that words are equal
-
-unlike : (x y : ℕ) → not (x == y) ≡ false → x ≡ y
-unlike x y e = grind (arith, nat_tests)
-
-alike : (x y : ℕ) → (x == y) ≡ true → x ≡ y
-alike x y e = grind (arith, nat_tests)
-
-pub equal_seen : (c : Cond) (taken : Bool) (w : Width) (x y : ℕ) → IsTrue (says_equal c taken) → word_holds w c x y ≡ taken → seen w x ≡ seen w y
-equal_seen Eq true w x y h e = alike (seen w x) (seen w y) e
-equal_seen Eq false w x y h e = absurd cc
-equal_seen Ne true w x y h e = absurd cc
-equal_seen Ne false w x y h e = unlike (seen w x) (seen w y) e
-equal_seen Gt taken w x y h e = absurd cc
-equal_seen Ge taken w x y h e = absurd cc
-equal_seen Set taken w x y h e = absurd cc
-equal_seen Sgt taken w x y h e = absurd cc
-equal_seen Sge taken w x y h e = absurd cc
-equal_seen Lt taken w x y h e = absurd cc
-equal_seen Le taken w x y h e = absurd cc
-equal_seen Slt taken w x y h e = absurd cc
-equal_seen Sle taken w x y h e = absurd cc
-
-pub equal_orders : (c : Cond) (taken : Bool) → IsTrue (says_equal c taken) → OrdersWords c taken × OrdersSigned c taken
-equal_orders Eq true h = (refl, refl)
+-- an answer that says that words are equal orders them
+pub equal_orders : (c : Cond) (taken : Bool) → IsTrue (says c taken).equal → IsTrue (says c taken).words × IsTrue (says c taken).numbers
+equal_orders Eq true h = (h, h)
 equal_orders Eq false h = absurd cc
 equal_orders Ne true h = absurd cc
-equal_orders Ne false h = (refl, refl)
+equal_orders Ne false h = (h, h)
 equal_orders Gt taken h = absurd cc
 equal_orders Ge taken h = absurd cc
 equal_orders Set taken h = absurd cc
@@ -61,6 +40,9 @@ equal_orders Lt taken h = absurd cc
 equal_orders Le taken h = absurd cc
 equal_orders Slt taken h = absurd cc
 equal_orders Sle taken h = absurd cc
+
+alike : (x y : ℕ) → (x == y) ≡ true → x ≡ y
+alike x y e = grind (arith, nat_tests)
 
 -- what the least sets keep of equal words is in both
 pub equal_within : {A : Type 0} (Has : A → ℕ → Type 0) (R : ℕ → ℕ → Type 0) (a b c d : A) → ((x y : ℕ) → Has a x → Has b y → R x y → Has b x × Has a y) → IsLeastPair Has R a b c d → IsWithin Has c b × IsWithin Has d a
@@ -111,24 +93,24 @@ module _ (t : Answer) (asked : Width) (a b : Scalar) (p q r : Scalar × Scalar)
   partners W32 e h W32 own = (λ x m. (h.left x (in_left x m).bits).1, λ y m. (h.right y (in_right y m).bits).1)
   partners W32 e h W64 own = elim own [ inl is ↦ absurd cc | inr is ↦ absurd cc ]
 
-  low_within : IsTrue (says_equal t.cond t.taken) → IsWithin InHalfRange q.0.half b.half × IsWithin InHalfRange q.1.half a.half
+  low_within : IsTrue (said t).equal → IsWithin InHalfRange q.0.half b.half × IsWithin InHalfRange q.1.half a.half
   low_within says = by t.width refl where
     back : IsWithin InHalfRange q.0.half p.1.half × IsWithin InHalfRange q.1.half p.0.half → IsWithin InHalfRange q.0.half b.half × IsWithin InHalfRange q.1.half a.half
     back h = (rw parts.halves.1 at h.0, rw parts.halves.0 at h.1)
 
     by : (w : Width) → t.width ≡ w → IsWithin InHalfRange q.0.half b.half × IsWithin InHalfRange q.1.half a.half
-    by W64 e = back (equal_within InHalfRange (HasLowAnswer Eq true) p.0.half p.1.half q.0.half q.1.half
+    by W64 e = back (equal_within InHalfRange (HasAnswer W32 Eq true) p.0.half p.1.half q.0.half q.1.half
         (λ x y hx hy k. low_both p.0.half p.1.half x y hx hy (alike (x % 2 ^ 32) (y % 2 ^ 32) k)) (halves.equal e says))
-    by W32 e = back (equal_within InHalfRange (HasLowAnswer t.cond t.taken) p.0.half p.1.half q.0.half q.1.half
+    by W32 e = back (equal_within InHalfRange (HasAnswer W32 t.cond t.taken) p.0.half p.1.half q.0.half q.1.half
         (λ x y hx hy k. low_both p.0.half p.1.half x y hx hy (equal_seen t.cond t.taken W32 x y says k)) (halves.low e (equal_orders t.cond t.taken says).1))
 
-  three_equal : asked ≡ W64 → IsTrue (says_equal t.cond t.taken) → IsWithin InScalar r.0 b × IsWithin InScalar r.1 a
+  three_equal : asked ≡ W64 → IsTrue (said t).equal → IsWithin InScalar r.0 b × IsWithin InScalar r.1 a
   three_equal e says =
       let orders = equal_orders t.cond t.taken says in
-      let same : (x y : ℕ) → HasAnswer t.cond t.taken x y → x ≡ y = λ x y k. equal_seen t.cond t.taken W64 x y says k in
-      let u = equal_within InRange (HasAnswer t.cond t.taken) a.unsigned b.unsigned p.0.unsigned p.1.unsigned
+      let same : (x y : ℕ) → HasAnswer W64 t.cond t.taken x y → x ≡ y = λ x y k. equal_seen t.cond t.taken W64 x y says k in
+      let u = equal_within InRange (HasAnswer W64 t.cond t.taken) a.unsigned b.unsigned p.0.unsigned p.1.unsigned
       (λ x y hx hy k. (subst (λ (z : ℕ). InRange b.unsigned z) (sym (same x y k)) hy, subst (λ (z : ℕ). InRange a.unsigned z) (same x y k) hx)) (parts.words e orders.0) in
-      let s = equal_within InSignedRange (HasAnswer t.cond t.taken) a.signed b.signed p.0.signed p.1.signed
+      let s = equal_within InSignedRange (HasAnswer W64 t.cond t.taken) a.signed b.signed p.0.signed p.1.signed
       (λ x y hx hy k. (subst (λ (z : ℕ). InSignedRange b.signed z) (sym (same x y k)) hy, subst (λ (z : ℕ). InSignedRange a.signed z) (same x y k) hx)) (parts.numbers e orders.1) in
       let low = low_within says in
       let tight = partners asked refl (parts.tight says) W64 (inl e) in (

@@ -5,8 +5,7 @@ use Rattle.insn.specs.declared.operation.BinOp.TheVariants.{Add}
 use Rattle.insn.specs.declared.operation.Cond.{Cond}
 use Rattle.insn.specs.declared.operation.Width.{Width}
 use Rattle.insn.specs.declared.operation.Width.TheVariants.{W32, W64}
-use Rattle.insn.specs.Word.{word_holds}
-use Rattle.range.specs.Conditions.{HasAnswer, OrdersSigned, OrdersWords, says_equal}
+use Rattle.range.specs.Conditions.{HasAnswer, Said, says}
 use Rattle.range.specs.Sets.{IsLeft, IsRight, IsWithin}
 use Rattle.range.specs.Unsigned.{InRange, IsWordSum}
 use Rattle.range.specs.Signed.{InSignedRange}
@@ -24,11 +23,11 @@ pub record Answer : Type 0 where
 
 -- two words have it
 abbrev pub HaveAnswer : Answer → ℕ → ℕ → Type 0
-HaveAnswer t x y = word_holds t.width t.cond x y ≡ t.taken
+HaveAnswer t x y = HasAnswer t.width t.cond t.taken x y
 
--- the low halves of two words have an answer
-abbrev pub HasLowAnswer : Cond → Bool → ℕ → ℕ → Type 0
-HasLowAnswer c taken x y = word_holds W32 c x y ≡ taken
+-- what it says of them
+abbrev pub said : Answer → Said
+said t = says t.cond t.taken
 
 -- a width sees each word of two values whole
 abbrev pub SeesAll : Width → Scalar → Scalar → Type 0
@@ -58,9 +57,9 @@ HavePartners w a b r = ((x : ℕ) → InScalar r.0 x → HasPartner w b.bits x) 
 -- what is in both. Two words that are each known alone have the answer.
 pub record AreNarrowed (t : Answer) (a b : Scalar) (r : Scalar × Scalar) : Type 0 where
   pub within : IsWithin InScalar r.0 a × IsWithin InScalar r.1 b
-  pub words : SeesAll t.width a b → OrdersWords t.cond t.taken → LieInLeast InRange (HasAnswer t.cond t.taken) a.unsigned b.unsigned r
-  pub numbers : t.width ≡ W64 → OrdersSigned t.cond t.taken → LieInLeast InSignedRange (HasAnswer t.cond t.taken) a.signed b.signed r
-  pub halves : t.width ≡ W32 → OrdersSigned t.cond t.taken → LieInLeast InHalfRange (HasLowAnswer t.cond t.taken) a.half b.half r
-  pub equal : SeesAll t.width a b → IsTrue (says_equal t.cond t.taken) → IsWithin InScalar r.0 b × IsWithin InScalar r.1 a
-  pub bits : IsTrue (says_equal t.cond t.taken) → HavePartners t.width a b r
+  pub words : SeesAll t.width a b → IsTrue (said t).words → LieInLeast InRange (HasAnswer W64 t.cond t.taken) a.unsigned b.unsigned r
+  pub numbers : t.width ≡ W64 → IsTrue (said t).numbers → LieInLeast InSignedRange (HasAnswer W64 t.cond t.taken) a.signed b.signed r
+  pub halves : t.width ≡ W32 → IsTrue (said t).numbers → LieInLeast InHalfRange (HasAnswer W32 t.cond t.taken) a.half b.half r
+  pub equal : SeesAll t.width a b → IsTrue (said t).equal → IsWithin InScalar r.0 b × IsWithin InScalar r.1 a
+  pub bits : IsTrue (said t).equal → HavePartners t.width a b r
   pub single : (x y : ℕ) → ShowsOne a x → ShowsOne b y → HaveAnswer t x y

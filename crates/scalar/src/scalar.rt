@@ -1,9 +1,9 @@
 //! An unsigned range, a signed range, known bits and a range of low halves of one word.
 
-ghost use Rattle.std.specs.Prelude.{◌≡◌, ◌<◌, ◌≤◌, ◌^◌, ◌≤ℤ◌, ℕ, Bool, IfSome, true};
+ghost use Rattle.std.specs.Prelude.{◌≡◌, ◌<◌, ◌≤◌, ◌^◌, ◌≤ℤ◌, ℕ, Bool, IfSome, IsTrue, true};
 ghost use Rattle.std.specs.Int.{w64, cast_signed};
 ghost use Rattle.insn.specs.Word.{word_holds, word_result};
-ghost use Rattle.range.specs.Conditions.{OrdersWords};
+ghost use Rattle.range.specs.Conditions.{says};
 
 use insn::operation::{BinOp, Cond, UnOp, Width};
 use known_bits::KnownBits;
@@ -11,12 +11,12 @@ use range::domain::Domain;
 use range::half::HalfRange;
 use range::signed::SRange;
 use range::unsigned::URange;
-use word::{alu, extend, neg, swap};
+use word::{alu, unary};
 
 /// Words below this answer a condition as their low halves do.
 fn plain_below(cond: Cond) -> u64
     ensures alike { (x y : ℕ) → x < result → y < result → word_holds Width.W32 cond x y ≡ word_holds Width.W64 cond x y }
-    ensures whole { (taken : Bool) → OrdersWords cond taken → result ≡ 2 ^ 32 }
+    ensures whole { (taken : Bool) → IsTrue (says cond taken).words → result ≡ 2 ^ 32 }
 {
     match cond {
         Cond::Eq | Cond::Gt | Cond::Ge | Cond::Set | Cond::Ne | Cond::Lt | Cond::Le =>
@@ -124,11 +124,7 @@ impl Domain for Scalar {
 
     fn unary(op: UnOp, width: Width, a: Scalar) -> Scalar {
         match a.only() {
-            Some(n) => Scalar::exact(match op {
-                UnOp::Neg => neg(width, n),
-                UnOp::Swap(kind, bits) => swap(kind, bits, n),
-                UnOp::Extend(bits) => extend(width, bits, n),
-            }),
+            Some(n) => Scalar::exact(unary(op, width, n)),
             None => Scalar {
                 unsigned: URange::unary(op, width, a.unsigned),
                 signed: SRange::unary(op, width, a.signed),

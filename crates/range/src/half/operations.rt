@@ -2,17 +2,19 @@
 
 ghost use Rattle.std.specs.Prelude.{◌≡◌, ◌<◌, ◌^◌, ◌↔◌, ℕ, IsTrue, bit_and, true};
 ghost use Rattle.insn.specs.Word.{unary_result, word_extended, word_result};
-ghost use Rattle.range.specs.Conditions.{HasAnswer, says_equal};
+ghost use Rattle.range.specs.Conditions.{says};
 ghost use Rattle.range.specs.Domain.{IsSoundResult, IsSoundImage, IsJoin, IsRefined};
-ghost use Rattle.range.specs.Sets.{AreWithin, IsLeastJoin};
+ghost use Rattle.range.specs.Sets.{AreWithin, IsLeastAnswered, IsLeastJoin};
 
+use crate::condition::{is_equality, placed};
 use crate::domain::Domain;
 use crate::half::HalfRange;
 use crate::signed::SRange;
+use crate::unsigned::URange;
 use insn::operation::{BinOp, Cond, ExtendBits, UnOp, Width};
 
 impl HalfRange {
-    ghost use Rattle.range.specs.Half.{InHalfRange, IsHalf, IsLeastHalfRefined, IsSingleHalf, IsSingleHalfImage, IsTold};
+    ghost use Rattle.range.specs.Half.{InHalfRange, IsHalf, IsSingleHalf, IsSingleHalfImage, IsTold};
 
     /// Whether the low halves of the operands tell that of the result, as they do in 64 bits.
     fn is_told(op: BinOp, width: Width) -> bool
@@ -83,11 +85,26 @@ impl HalfRange {
         ensures join { IsJoin InHalfRange a b result }
         ensures least { IsLeastJoin InHalfRange a b result }
     {
-        HalfRange::new(a.least.min(b.least), a.greatest.max(b.greatest))
+        HalfRange::of_places(URange::spanned(a.places(), b.places()))
     }
 
-    /// What two operands can still be where a condition of their low halves has this answer; `None` where it never has
-    /// it.
+    /// The pairs for whose low halves a condition has an answer, by these as words.
+    fn refined_by_words(
+        cond: Cond,
+        a: HalfRange,
+        b: HalfRange,
+        taken: bool,
+    ) -> Option<(HalfRange, HalfRange)>
+        ensures kept { IsRefined InHalfRange cond Width.W32 taken a b result }
+        ensures within { AreWithin InHalfRange a b result }
+    {
+        let (left, right) = URange::answered(cond, Width::W32, a.words(), b.words(), taken)?;
+        let left = HalfRange::meet(a, HalfRange::of_low(left))?;
+        let right = HalfRange::meet(b, HalfRange::of_low(right))?;
+        Some((left, right))
+    }
+
+    /// The pairs for whose low halves a condition has an answer: by their places, where it asks for these.
     fn answered(
         cond: Cond,
         a: HalfRange,
@@ -96,21 +113,14 @@ impl HalfRange {
     ) -> Option<(HalfRange, HalfRange)>
         ensures kept { IsRefined InHalfRange cond Width.W32 taken a b result }
         ensures within { AreWithin InHalfRange a b result }
-        ensures least { IsLeastHalfRefined cond taken a b result }
+        ensures least { IsTrue (says cond taken).numbers → IsLeastAnswered InHalfRange cond Width.W32 taken a b result }
     {
-        let (left, right) = SRange::refine(cond, Width::W64, a.signed(), b.signed(), taken)?;
-        Some((HalfRange::of_words(left), HalfRange::of_words(right)))
-    }
-
-    /// Whether an answer to a condition says that two words are one.
-    fn says_equal(cond: Cond, taken: bool) -> bool
-        ensures words { result ≡ true → (x y : ℕ) → HasAnswer cond taken x y → x ≡ y }
-        ensures answer { result ≡ says_equal cond taken }
-    {
-        match (cond, taken) {
-            (Cond::Eq, true) => true,
-            (Cond::Ne, false) => true,
-            _ => false,
+        match placed(cond) {
+            Some(order) => {
+                let (left, right) = URange::compared(order, a.places(), b.places(), taken)?;
+                Some((HalfRange::of_places(left), HalfRange::of_places(right)))
+            }
+            None => HalfRange::refined_by_words(cond, a, b, taken),
         }
     }
 
@@ -124,13 +134,13 @@ impl HalfRange {
     ) -> Option<(HalfRange, HalfRange)>
         ensures kept { IsRefined InHalfRange cond width taken a b result }
         ensures within { AreWithin InHalfRange a b result }
-        ensures least { width ≡ Width.W32 → IsLeastHalfRefined cond taken a b result }
-        ensures equal { width ≡ Width.W64 → IsTrue (says_equal cond taken) → IsLeastHalfRefined Cond.Eq true a b result }
+        ensures least { width ≡ Width.W32 → IsTrue (says cond taken).numbers → IsLeastAnswered InHalfRange cond Width.W32 taken a b result }
+        ensures equal { width ≡ Width.W64 → IsTrue (says cond taken).equal → IsLeastAnswered InHalfRange Cond.Eq Width.W32 true a b result }
     {
         match width {
             Width::W32 => HalfRange::answered(cond, a, b, taken),
             Width::W64 => {
-                if HalfRange::says_equal(cond, taken) {
+                if is_equality(cond, taken) {
                     HalfRange::answered(Cond::Eq, a, b, true)
                 } else {
                     Some((a, b))

@@ -1,9 +1,9 @@
 //! Sums, differences, shifts and sign extensions of signed words between bounds.
 
 ghost use Rattle.std.specs.Prelude.{◌≡◌, ◌≤ℤ◌, ℕ, pos};
-ghost use Rattle.insn.specs.Word.{unary_result};
 ghost use Rattle.range.specs.Domain.{IsSoundImage, IsSoundResult};
 ghost use Rattle.range.specs.WidthsParts.{extended_half};
+ghost use Rattle.insn.specs.Word.{unary_result};
 
 use crate::domain::Domain;
 use crate::signed::SRange;
@@ -12,7 +12,7 @@ use crate::width::extended_half_of;
 use insn::operation::{BinOp, ExtendBits, UnOp, Width};
 
 impl SRange {
-    ghost use Rattle.range.specs.Signed.{InSignedRange};
+    ghost use Rattle.range.specs.Signed.{greatest_of, InSignedRange, least_of};
 
     /// What an operation gives of the words as unsigned ranges.
     pub(crate) fn by_words(op: BinOp, width: Width, a: SRange, b: SRange) -> SRange
@@ -33,8 +33,8 @@ impl SRange {
         ensures { IsSoundResult InSignedRange BinOp.Add Width.W64 a b result }
     {
         match (
-            a.least.checked_add(b.least),
-            a.greatest.checked_add(b.greatest),
+            a.least().checked_add(b.least()),
+            a.greatest().checked_add(b.greatest()),
         ) {
             (Some(least), Some(greatest)) => SRange::new(least, greatest),
             _ => SRange::by_words(BinOp::Add, Width::W64, a, b),
@@ -46,8 +46,8 @@ impl SRange {
         ensures { IsSoundResult InSignedRange BinOp.Sub Width.W64 a b result }
     {
         match (
-            a.least.checked_sub(b.greatest),
-            a.greatest.checked_sub(b.least),
+            a.least().checked_sub(b.greatest()),
+            a.greatest().checked_sub(b.least()),
         ) {
             (Some(least), Some(greatest)) => SRange::new(least, greatest),
             _ => SRange::by_words(BinOp::Sub, Width::W64, a, b),
@@ -56,24 +56,24 @@ impl SRange {
 
     /// The numbers from one to another, whichever is less.
     fn between(first: i64, second: i64) -> SRange
-        ensures first { (result.least ≤ℤ first) × (first ≤ℤ result.greatest) }
-        ensures second { (result.least ≤ℤ second) × (second ≤ℤ result.greatest) }
+        ensures first { (least_of result ≤ℤ first) × (first ≤ℤ greatest_of result) }
+        ensures second { (least_of result ≤ℤ second) × (second ≤ℤ greatest_of result) }
     {
         SRange::new(first.min(second), first.max(second))
     }
 
     /// The least range that has four numbers.
     fn spanning(first: i64, second: i64, third: i64, fourth: i64) -> SRange
-        ensures first { (result.least ≤ℤ first) × (first ≤ℤ result.greatest) }
-        ensures second { (result.least ≤ℤ second) × (second ≤ℤ result.greatest) }
-        ensures third { (result.least ≤ℤ third) × (third ≤ℤ result.greatest) }
-        ensures fourth { (result.least ≤ℤ fourth) × (fourth ≤ℤ result.greatest) }
+        ensures first { (least_of result ≤ℤ first) × (first ≤ℤ greatest_of result) }
+        ensures second { (least_of result ≤ℤ second) × (second ≤ℤ greatest_of result) }
+        ensures third { (least_of result ≤ℤ third) × (third ≤ℤ greatest_of result) }
+        ensures fourth { (least_of result ≤ℤ fourth) × (fourth ≤ℤ greatest_of result) }
     {
         let left = SRange::between(first, second);
         let right = SRange::between(third, fourth);
         SRange::new(
-            left.least.min(right.least),
-            left.greatest.max(right.greatest),
+            left.least().min(right.least()),
+            left.greatest().max(right.greatest()),
         )
     }
 
@@ -81,11 +81,15 @@ impl SRange {
     pub(crate) fn product(a: SRange, b: SRange) -> SRange
         ensures { IsSoundResult InSignedRange BinOp.Mul Width.W64 a b result }
     {
+        let low = a.least();
+        let high = a.greatest();
+        let least = b.least();
+        let greatest = b.greatest();
         match (
-            a.least.checked_mul(b.least),
-            a.least.checked_mul(b.greatest),
-            a.greatest.checked_mul(b.least),
-            a.greatest.checked_mul(b.greatest),
+            low.checked_mul(least),
+            low.checked_mul(greatest),
+            high.checked_mul(least),
+            high.checked_mul(greatest),
         ) {
             (Some(first), Some(second), Some(third), Some(fourth)) => {
                 SRange::spanning(first, second, third, fourth)
@@ -98,9 +102,9 @@ impl SRange {
     pub(crate) fn quotient(a: SRange, b: SRange) -> SRange
         ensures { IsSoundResult InSignedRange BinOp.Sdiv Width.W64 a b result }
     {
-        let divisor = b.least;
-        if 0 < divisor && divisor == b.greatest {
-            SRange::new(a.least / divisor, a.greatest / divisor)
+        let divisor = b.least();
+        if 0 < divisor && divisor == b.greatest() {
+            SRange::new(a.least() / divisor, a.greatest() / divisor)
         } else {
             SRange::by_words(BinOp::Sdiv, Width::W64, a, b)
         }
@@ -110,13 +114,15 @@ impl SRange {
     pub(crate) fn remainder(a: SRange, b: SRange) -> SRange
         ensures { IsSoundResult InSignedRange BinOp.Smod Width.W64 a b result }
     {
-        let divisor = b.least;
-        if a.least < 0 && 0 < divisor && divisor == b.greatest {
-            if -divisor < a.least && a.greatest < divisor {
+        let low = a.least();
+        let high = a.greatest();
+        let divisor = b.least();
+        if low < 0 && 0 < divisor && divisor == b.greatest() {
+            if -divisor < low && high < divisor {
                 a
             } else {
-                let least = a.least.max(1 - divisor);
-                let greatest = a.greatest.max(0).min(divisor - 1);
+                let least = low.max(1 - divisor);
+                let greatest = high.max(0).min(divisor - 1);
                 SRange::new(least, greatest)
             }
         } else {
@@ -143,10 +149,12 @@ impl SRange {
     {
         let by = b.unsigned().amounts(Width::W64);
         let amount = by.least();
+        let low = a.least();
+        let high = a.greatest();
         if amount == by.greatest() {
-            SRange::new(a.least >> amount, a.greatest >> amount)
+            SRange::new(low >> amount, high >> amount)
         } else {
-            SRange::new(a.least.min(0), a.greatest.max(-1))
+            SRange::new(low.min(0), high.max(-1))
         }
     }
 
@@ -154,10 +162,11 @@ impl SRange {
     pub(crate) fn negated(self) -> SRange
         ensures { IsSoundImage InSignedRange UnOp.Neg Width.W64 self result }
     {
-        if self.least == i64::MIN {
+        let least = self.least();
+        if least == i64::MIN {
             self.image_by_words(UnOp::Neg, Width::W64)
         } else {
-            SRange::new(-self.greatest, -self.least)
+            SRange::new(-self.greatest(), -least)
         }
     }
 
@@ -167,9 +176,13 @@ impl SRange {
     {
         let half = extended_half_of(bits);
         let words = self.image_by_words(UnOp::Extend(bits), Width::W64);
-        if -half <= self.least && self.greatest < half {
+        let low = self.least();
+        let high = self.greatest();
+        let least = words.least();
+        let greatest = words.greatest();
+        if -half <= low && high < half {
             self
-        } else if -half <= words.least && words.greatest < half {
+        } else if -half <= least && greatest < half {
             words
         } else {
             SRange::new(-half, half - 1)

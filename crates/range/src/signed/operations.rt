@@ -1,20 +1,33 @@
 //! The operations of a machine on signed words between bounds.
 
-ghost use Rattle.std.specs.Prelude.{◌≡◌, ◌<◌, ◌^◌, ◌↔◌, ℕ, IsTrue};
-ghost use Rattle.range.specs.Conditions.{HasAnswer, OrdersSigned};
-ghost use Rattle.insn.specs.Word.{unary_result};
+ghost use Rattle.std.specs.Prelude.{◌≡◌, ◌<◌, ◌^◌, ◌↔◌, ℕ, IfSome, IsTrue, Some};
+ghost use Rattle.range.specs.Conditions.{says};
 ghost use Rattle.range.specs.Domain.{IsSoundResult, IsSoundImage, IsSingle, IsSingleResult, IsSingleImage, IsJoin, IsRefined};
-ghost use Rattle.range.specs.Sets.{AreWithin, IsLeastJoin, IsLeastRefined};
+ghost use Rattle.range.specs.Sets.{AreWithin, IsLeastAnswered, IsLeastJoin};
+ghost use Rattle.insn.specs.Word.{unary_result};
 
-use crate::condition::meant;
 use crate::domain::Domain;
+use crate::place::place_of;
 use crate::signed::SRange;
-use crate::single::image;
+use crate::unsigned::URange;
 use insn::operation::{BinOp, Cond, UnOp, Width};
-use word::alu;
+use word::{alu, unary};
 
 impl SRange {
     ghost use Rattle.range.specs.Signed.{InSignedRange};
+
+    /// The word that it is alone.
+    fn only(self) -> Option<u64>
+        ensures some { IfSome result (λ n. (x : ℕ) → InSignedRange self x → x ≡ n) }
+        ensures single { (x : ℕ) → IsSingle InSignedRange self x → result ≡ Some x }
+    {
+        let least = self.places.least();
+        if least == self.places.greatest() {
+            Some(place_of(least))
+        } else {
+            None
+        }
+    }
 
     /// What an operation gives.
     fn operated(op: BinOp, width: Width, a: SRange, b: SRange) -> SRange
@@ -43,29 +56,17 @@ impl SRange {
             _ => self.image_by_words(op, width),
         }
     }
-
-    /// The pairs of words for which a condition has an answer.
-    fn answered(cond: Cond, a: SRange, b: SRange, taken: bool) -> Option<(SRange, SRange)>
-        ensures kept { IsRefined InSignedRange cond Width.W64 taken a b result }
-        ensures within { AreWithin InSignedRange a b result }
-        ensures least { OrdersSigned cond taken → IsLeastRefined InSignedRange (HasAnswer cond taken) a b result }
-    {
-        match meant(cond, taken) {
-            Some(holding) => SRange::related(holding, a, b),
-            None => SRange::refined_by_words(cond, Width::W64, a, b, taken),
-        }
-    }
 }
 
 impl Domain for SRange {
-    ghost use Rattle.range.specs.Signed.{InSignedRange, IsLeastSignedCompared};
-    ghost use Rattle.range.specs.MemberLaws.{InSignedRange-words};
+    ghost use Rattle.range.specs.Signed.{InSignedRange};
+    ghost use Rattle.range.specs.MemberLaws.{signed_words};
 
     ghost Has = { InSignedRange };
 
     ghost Single = { IsSingle InSignedRange };
 
-    ghost words = { InSignedRange-words };
+    ghost words = { signed_words };
 
     ghost single_is = { λ a x h. h };
 
@@ -74,26 +75,27 @@ impl Domain for SRange {
     }
 
     fn exact(n: u64) -> SRange {
-        SRange::new(n.cast_signed(), n.cast_signed())
+        let place = place_of(n);
+        SRange {
+            places: URange::new(place, place),
+        }
     }
 
     fn has(self, n: u64) -> bool {
-        self.least <= n.cast_signed() && n.cast_signed() <= self.greatest
+        self.places.has(place_of(n))
     }
 
     fn apply(op: BinOp, width: Width, a: SRange, b: SRange) -> SRange {
-        if a.least == a.greatest && b.least == b.greatest {
-            SRange::exact(alu(width, op, a.least.cast_unsigned(), b.least.cast_unsigned()))
-        } else {
-            SRange::operated(op, width, a, b)
+        match (a.only(), b.only()) {
+            (Some(left), Some(right)) => SRange::exact(alu(width, op, left, right)),
+            _ => SRange::operated(op, width, a, b),
         }
     }
 
     fn unary(op: UnOp, width: Width, a: SRange) -> SRange {
-        if a.least == a.greatest {
-            SRange::exact(image(op, width, a.least.cast_unsigned()))
-        } else {
-            a.image_of(op, width)
+        match a.only() {
+            Some(n) => SRange::exact(unary(op, width, n)),
+            None => a.image_of(op, width),
         }
     }
 
@@ -101,7 +103,9 @@ impl Domain for SRange {
         ensures join { IsJoin InSignedRange a b result }
         ensures least { IsLeastJoin InSignedRange a b result }
     {
-        SRange::new(a.least.min(b.least), a.greatest.max(b.greatest))
+        SRange {
+            places: URange::spanned(a.places, b.places),
+        }
     }
 
     fn refine(
@@ -113,7 +117,7 @@ impl Domain for SRange {
     ) -> Option<(SRange, SRange)>
         ensures kept { IsRefined InSignedRange cond width taken a b result }
         ensures within { AreWithin InSignedRange a b result }
-        ensures least { IsLeastSignedCompared cond width taken a b result }
+        ensures least { width ≡ Width.W64 → IsTrue (says cond taken).numbers → IsLeastAnswered InSignedRange cond Width.W64 taken a b result }
     {
         match width {
             Width::W32 => SRange::refined_by_words(cond, width, a, b, taken),

@@ -5,12 +5,12 @@ use Rattle.known_bits.proofs.Results.{member_of_single, single_value, no_mask, o
 use Rattle.known_bits.proofs.domain.KnownBitsDomain.unary.Goals as goal
 
 pub returns-then-a-eq0-clause-sound : goal.returns-then-a-eq0-clause-sound
-returns-then-a-eq0-clause-sound c x h = rw (member_of_single c.args.a x c.if-a-eq0.true h) ((c.only.ensures _).1 (sym c.image_of_word.ensures))
+returns-then-a-eq0-clause-sound c x h = rw (member_of_single c.args.a x c.if-a-eq0.true h) ((c.only.ensures _).1 (sym c.unary.ensures))
 
 pub returns-then-a-eq0-clause-single : goal.returns-then-a-eq0-clause-single
 returns-then-a-eq0-clause-single c x h n =
     let known : IsKnown c.args.a = record { fits = omega arith; mask_fits = omega arith; apart = c.args.a.apart } in
-    let same : c.image_of_word.result ≡ unary_result c.args.op c.args.width x = rw (single_value c.args.a x known h) at c.image_of_word.ensures in
+    let same : c.unary.result ≡ unary_result c.args.op c.args.width x = rw (single_value c.args.a x known h) at c.unary.ensures in
     (λ i. (c.only.ensures n).0 i ∙ same, λ i. (c.only.ensures n).1 (i ∙ sym same))
 
 pub returns-else-a-eq0-clause-single : goal.returns-else-a-eq0-clause-single
@@ -21,4 +21,4 @@ returns-else-a-eq0-clause-single c x h =
 pub returns-then-a-eq0-clause-exact : goal.returns-then-a-eq0-clause-exact
 returns-then-a-eq0-clause-exact c k set =
     let only : IsKnown c.only.result = record { fits = omega arith; mask_fits = omega arith; apart = c.only.result.apart } in
-    absurd (only_exact c.only.result c.image_of_word.result k only c.only.ensures set)
+    absurd (only_exact c.only.result c.unary.result k only c.only.ensures set)

@@ -1,16 +1,20 @@
-use Rattle.std.proofs.Common.{FitsSigned, w32, rules, arith}
-use Rattle.std.proofs.lemmas.Int.{ints}
+use Rattle.std.proofs.Common.{arith}
 use Rattle.insn.specs.declared.operation.Width.TheVariants.{W64}
 use Rattle.insn.specs.declared.operation.ExtendBits.TheVariants.{B32}
 use Rattle.insn.specs.WordLaws.{word_extended_fits}
-use Rattle.range.proofs.LowHalves.{half_ends_same, word_by_ends, extended_reading}
+use Rattle.range.proofs.LowHalves.{extended_place, half_ends_same}
+use Rattle.range.proofs.SignedRanges.{word_by_ends}
 use Rattle.range.proofs.half.HalfRange.signed.Goals as goal
+
+pub returns-clause-has : goal.returns-clause-has
+returns-clause-has c x h =
+    let place = extended_place x in
+    record { word = word_extended_fits W64 B32 x; above = omega (arith, h.above); below = omega (arith, h.below) }
 
 pub returns-clause-single : goal.returns-clause-single
 returns-clause-single c x hx one =
-    let self = c.args.self in
-    let least : FitsSigned w32 self.least = search rules in
-    let greatest : FitsSigned w32 self.greatest = search rules in
-    let ends = half_ends_same self x least greatest self.ordered one in
-    let reading = extended_reading x in
-    word_by_ends c.new.result _ (word_extended_fits W64 B32 x) (omega (arith, ints, ends.0, reading)) (omega (arith, ints, ends.1, reading))
+    let ends = half_ends_same c.args.self x (omega arith) one in
+    let low = ends.0 in
+    let high = ends.1 in
+    let place = extended_place x in
+    word_by_ends _ _ (word_extended_fits W64 B32 x) (omega arith) (omega arith)

@@ -2,7 +2,7 @@ use Rattle.std.proofs.Common.{◌≡◌, ◌^◌, ◌<◌, arith}
 use Rattle.range.specs.declared.unsigned.URange.{URange}
 use Rattle.range.specs.Sets.{IsWithin}
 use Rattle.range.specs.Unsigned.{InRange}
-use Rattle.range.proofs.Ranges.{member}
+use Rattle.range.proofs.Places.{member}
 use Rattle.range.proofs.unsigned.URange.refined_by_halves.Goals as goal
 
 -- what lies within what a width sees of a range lies within that range, where it sees all

@@ -1,4 +1,4 @@
-use Rattle.std.proofs.Common.{sym, ◌∙◌}
+use Rattle.std.proofs.Common.{ℕ, sym, ◌∙◌}
 use Rattle.std.proofs.lemmas.Bool.{true≢false}
 use Rattle.scalar.specs.Members.{InScalar}
 use Rattle.scalar.proofs.scalar.Scalar.covers.Goals.{then-covers, else-covers, then-covers-2, else-covers-2}
@@ -8,7 +8,7 @@ pub returns-then-covers-3-clause-members : goal.returns-then-covers-3-clause-mem
 returns-then-covers-3-clause-members c all x h = elim c.if-covers-2.branch as (λ _. InScalar c.args.self x) [
   | then-covers-2 v ↦ elim c.if-covers.branch as (λ _. InScalar c.args.self x) [
     | then-covers w ↦ record {
-      unsigned = c.covers.ensures.members w.if-covers.true x h.unsigned;
+      unsigned = c.covers.ensures.members w.if-covers.true (λ (n : ℕ). n) x h.unsigned;
       signed = w.covers-then-covers.ensures.members (sym w.value-is ∙ v.if-covers-2.true) x h.signed;
       bits = v.covers-then-covers-2.ensures.members (sym v.value-is ∙ c.if-covers-3.true) x h.bits;
       half = c.covers-then-covers-3.ensures.members all x h.half;

@@ -1,3 +1,4 @@
+use Rattle.std.proofs.Common.{ℕ}
 use Rattle.scalar.proofs.scalar.Scalar.with_halves_exchanged.Goals as goal
 
 pub returns-in_err-half : goal.returns-in_err-half
@@ -13,7 +14,7 @@ pub returns-in_err-unsigned : goal.returns-in_err-unsigned
 returns-in_err-unsigned c = rw c.from_residual-in_err-unsigned.ensures (λ x h.
     let half = (c.in_ok-half.ensures x).1 (h.half, c.of_words.ensures.has x h.signed) in
     let narrowed = (c.in_ok-half-2.ensures x).1 (half, c.low_halves.ensures x h.bits) in
-    c.in_err-unsigned.ensures x h.unsigned (c.words_within.ensures x h.unsigned narrowed))
+    c.in_err-unsigned.ensures (λ (n : ℕ). n) x h.unsigned (c.words_within.ensures x h.unsigned narrowed))
 
 pub returns-in_err-signed : goal.returns-in_err-signed
 returns-in_err-signed c = rw c.from_residual-in_err-signed.ensures (λ x h.
@@ -24,7 +25,7 @@ returns-in_err-signed c = rw c.from_residual-in_err-signed.ensures (λ x h.
 pub returns : goal.returns
 returns c x = (
   λ h. record {
-    unsigned = ((c.in_ok-unsigned.ensures x).0 h.unsigned).0;
+    unsigned = ((c.in_ok-unsigned.ensures (λ (n : ℕ). n) x).0 h.unsigned).0;
     signed = ((c.in_ok-signed.ensures x).0 h.signed).0;
     bits = h.bits;
     half = ((c.in_ok-half.ensures x).0 ((c.in_ok-half-2.ensures x).0 h.half).0).0;
@@ -32,7 +33,7 @@ returns c x = (
   λ h. let half = (c.in_ok-half.ensures x).1 (h.half, c.of_words.ensures.has x h.signed) in
       let narrowed = (c.in_ok-half-2.ensures x).1 (half, c.low_halves.ensures x h.bits) in
       record {
-        unsigned = (c.in_ok-unsigned.ensures x).1 (h.unsigned, c.words_within.ensures x h.unsigned narrowed);
+        unsigned = (c.in_ok-unsigned.ensures (λ (n : ℕ). n) x).1 (h.unsigned, c.words_within.ensures x h.unsigned narrowed);
         signed = (c.in_ok-signed.ensures x).1 (h.signed, c.numbers_within.ensures x h.signed narrowed);
         bits = h.bits;
         half = narrowed;
