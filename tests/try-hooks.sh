@@ -486,6 +486,25 @@ int hook(struct record *record)
 C
 answers 1 1 5 'allowed 7 5'
 answers 1 1 16 'allowed 7 300'
+taken 'the same, where the flag stands in the stack' <<'C'
+int hook(struct record *record)
+{
+    volatile u8 lives[16];
+#pragma unroll
+    for (int i = 0; i < 16; i++)
+        lives[i] = i;
+    u64 at = record->owner;
+    volatile int known = 0;
+    if (at < 16)
+        known = 1;
+    record->scope &= 3;
+    if (known)
+        record->life = lives[at];
+    return ALLOW;
+}
+C
+answers 1 1 5 'allowed 3 5'
+answers 1 1 16 'allowed 3 300'
 taken 'the same, with an index that is good without the flag' <<'C'
 int hook(struct record *record)
 {

@@ -13,20 +13,22 @@ use std::io;
 use std::time::Instant;
 use verifier::verified::{Verified, verify};
 
-/// The text of a program, and what it is.
+/// The text of a program, and what it is: its head, a byte stored in each of so many blocks of the stack, its turns, its tail.
 struct Work {
     name: &'static str,
     head: &'static str,
+    stored: usize,
     turn: &'static str,
     turns: usize,
     tail: &'static str,
 }
 
 /// The programs, most of them of 4,096 slots.
-const WORKS: [Work; 7] = [
+const WORKS: [Work; 8] = [
     Work {
         name: "straight",
         head: "",
+        stored: 0,
         turn: "mov64 r0 1\n",
         turns: 4095,
         tail: "exit\n",
@@ -34,6 +36,7 @@ const WORKS: [Work; 7] = [
     Work {
         name: "branches to one place",
         head: "mov64 r0 1\n",
+        stored: 0,
         turn: "jne64 r0 1 end\n",
         turns: 4094,
         tail: "end:\nexit\n",
@@ -41,6 +44,7 @@ const WORKS: [Work; 7] = [
     Work {
         name: "branches to the next place",
         head: "mov64 r0 1\n",
+        stored: 0,
         turn: "jeq64 r0 1 +0\n",
         turns: 4094,
         tail: "exit\n",
@@ -48,6 +52,7 @@ const WORKS: [Work; 7] = [
     Work {
         name: "sums",
         head: "mov64 r0 0\nldxdw r2 r1 8\n",
+        stored: 0,
         turn: "add64 r0 r2\nxor64 r0 r2\nadd32 r0 7\nrsh64 r0 3\n",
         turns: 1000,
         tail: "exit\n",
@@ -55,6 +60,7 @@ const WORKS: [Work; 7] = [
     Work {
         name: "loads, stores, spills and jumps",
         head: "mov64 r0 1\nldxdw r2 r1 8\n",
+        stored: 0,
         turn: "stxdw r10 -8 r2\nldxdw r3 r10 -8\nstxdw r10 -16 r1\nldxdw r4 r10 -16\nldxw r5 r4 16\njgt64 r3 r5 +1\nadd64 r0 r5\nstw r1 48 250\n",
         turns: 500,
         tail: "exit\n",
@@ -62,6 +68,7 @@ const WORKS: [Work; 7] = [
     Work {
         name: "diamonds with a spill each",
         head: "mov64 r0 1\nldxdw r2 r1 8\n",
+        stored: 0,
         turn: "jgt64 r2 7 +1\nstxdw r10 -8 r2\n",
         turns: 2000,
         tail: "exit\n",
@@ -69,8 +76,19 @@ const WORKS: [Work; 7] = [
     Work {
         name: "uncertain stores",
         head: "mov64 r0 1\nldxb r2 r1 0\nand64 r2 255\nmov64 r3 r10\nadd64 r3 -300\nadd64 r3 r2\n",
+        stored: 0,
         turn: "stb r3 0 7\n",
         turns: 4000,
+        tail: "exit\n",
+    },
+    // the worst that was found: two flags make four cases, which go through diamonds with a store at an uncertain place each,
+    // while every block of the stack has a number of its own
+    Work {
+        name: "four cases, all stored",
+        head: "mov64 r0 1\nldxdw r2 r1 8\nldxdw r3 r1 16\nldxdw r4 r1 24\nmov64 r7 0\nmov64 r8 0\njgt64 r2 7 +1\nmov64 r7 1\njgt64 r3 7 +1\nmov64 r8 1\nmov64 r9 r10\nadd64 r9 -300\nldxb r5 r1 0\nadd64 r9 r5\n",
+        stored: 64,
+        turn: "jge64 r4 r2 +1\nstxdw r9 0 r4\n",
+        turns: 2000,
         tail: "exit\n",
     },
 ];
@@ -78,8 +96,13 @@ const WORKS: [Work; 7] = [
 /// The whole text of a program.
 fn text_of(alloc: Global, work: &Work) -> Result<String, AllocError> {
     let (head, tail) = (work.head, work.tail);
+    let mut stores = String::new(alloc);
+    for block in 0..work.stored {
+        let at = block.saturating_add(1).saturating_mul(8);
+        stores.push_str(&format!(in alloc; "stxb r10 -{at} r2\n")?)?;
+    }
     let turns = work.turn.repeat(alloc, work.turns)?;
-    format!(in alloc; "{head}{turns}{tail}")
+    format!(in alloc; "{head}{stores}{turns}{tail}")
 }
 
 /// The program of a work.

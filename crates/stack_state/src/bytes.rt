@@ -16,6 +16,22 @@ pub struct Bytes {
     pub(crate) number: Scalar,
 }
 
+impl Bytes {
+    /// What is known of each.
+    pub fn marks(&self) -> &[Mark; 8]
+        ensures { result.now ≡ self.now.marks }
+    {
+        &self.marks
+    }
+
+    /// The number that they spell.
+    pub fn number(&self) -> Scalar
+        ensures { result ≡ self.now.number }
+    {
+        self.number
+    }
+}
+
 /// What is known of each of eight bytes after a store at a span that touches some of them, or may touch them.
 pub(crate) fn touched_marks(marks: [Mark; 8], from: usize, to: usize, span: Span) -> [Mark; 8]
     requires some { from < to }

@@ -9,7 +9,7 @@ use Rattle.std.proofs.lemmas.List.{append-nil, drop-set, drop_more, length-set, 
 use Rattle.std.proofs.lemmas.List.Elements.{Contains-append_cases, Contains-append_left, Contains-append_right, filter_map-append}
 use Rattle.verifier.specs.declared.known.Known.{Known}
 use Rattle.verifier.specs.Follows.{IsJoined}
-use Rattle.verifier.specs.Waits.{IsAdded, IsBeside, IsJoinedIn}
+use Rattle.verifier.specs.Waits.{IsAdded, IsJoinedIn}
 use Rattle.verifier.specs.WaitsParts.{IsFirst, IsFirstPlace}
 
 abbrev Boxes : Type 0

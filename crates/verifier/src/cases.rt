@@ -6,7 +6,7 @@ ghost use Rattle.std.specs.Box.{box_value};
 ghost use Rattle.verifier.specs.Waits.{IsAdded};
 ghost use Rattle.verifier.specs.WaitsParts.{IsFirst, IsFirstPlace};
 
-use crate::difference::Difference;
+use crate::difference::MUCH;
 use crate::known::Known;
 use std::alloc::{AllocError, Global};
 use std::marker::Model;
@@ -46,27 +46,48 @@ fn first_place(places: &[Option<Box<Known>>; MOST]) -> Option<usize>
     None
 }
 
-/// Where a case goes: to one from which it differs in bounds alone, or to a free place, or, where there is none, to one
-/// from which it differs in no pointer.
+/// The place of the case of which a join with another loses least.
+fn nearest(places: &[Option<Box<Known>>; MOST], known: &Known) -> usize {
+    let mut least = u32::MAX;
+    let mut nearest = 0;
+    for place in 0..MOST {
+        if let Some(waiting) = &places[place] {
+            let lost = waiting.loss(known, least);
+            if lost < least {
+                least = lost;
+                nearest = place;
+            }
+        }
+    }
+    nearest
+}
+
+/// The first place of a case that a join would cost little, or else the first free one.
+fn place_alone(places: &[Option<Box<Known>>; MOST], known: &Known) -> Option<usize>
+    ensures { length places.now ≡ 4 }
+{
+    let mut free = None;
+    for place in 0..MOST {
+        match &places[place] {
+            Some(waiting) if waiting.loss(known, MUCH) < MUCH => return Some(place),
+            Some(_) => {}
+            None => free = free.or(Some(place)),
+        }
+    }
+    free
+}
+
+/// Where a case goes: to one of which a join loses little, or to a free place, or, where there is none, to the one of which
+/// a join loses least.
 fn place_for(places: &[Option<Box<Known>>; MOST], known: &Known) -> usize
     ensures inside { result < 4 }
     ensures four { length places.now ≡ 4 }
 {
-    let mut alike = None;
-    for i in 0..MOST {
-        let Some(waiting) = &places[i] else {
-            return i;
-        };
-        match waiting.difference(known) {
-            Difference::Bounds => return i,
-            Difference::Number => alike = alike.or(Some(i)),
-            Difference::Pointer => {}
-        }
-    }
-    match alike {
-        Some(place) if place < MOST => place,
-        _ => MOST - 1,
-    }
+    let place = match place_alone(places, known) {
+        Some(place) => place,
+        None => nearest(places, known),
+    };
+    if place < MOST { place } else { MOST - 1 }
 }
 
 impl Cases {

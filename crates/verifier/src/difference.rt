@@ -1,75 +1,139 @@
-//! How far apart two cases are: what is chosen by this needs no proof.
+//! What a join of two cases would lose: what is chosen by this needs no proof.
 
 use crate::known::Known;
 use reg_kind::{Reg, Span};
+use scalar::Scalar;
+use stack_state::Stack;
+use stack_state::block::Block;
+use stack_state::bytes::Bytes;
+use stack_state::mark::Mark;
 
-/// What a join of two cases would lose.
-#[derive(Clone, Copy, PartialEq, Eq)]
-pub(crate) enum Difference {
-    /// Little: bounds of numbers, or of a span.
-    Bounds,
-    /// An exact number.
-    Number,
+/// How much it counts where a join loses something.
+#[derive(Clone, Copy)]
+struct Weights {
     /// A pointer, or where in the stack it points.
-    Pointer,
+    pointer: u32,
+    /// An exact number, or that bytes are set.
+    number: u32,
 }
 
-impl Difference {
-    /// The greater of two.
-    fn or(self, other: Difference) -> Difference {
-        match (self, other) {
-            (Difference::Pointer, _) | (_, Difference::Pointer) => Difference::Pointer,
-            (Difference::Number, _) | (_, Difference::Number) => Difference::Number,
-            _ => Difference::Bounds,
-        }
-    }
-}
+/// In a register.
+const REGISTER: Weights = Weights {
+    pointer: 6000,
+    number: 1000,
+};
 
-/// The number, where it is exact.
-fn exact(value: Reg) -> Option<u64> {
-    let Reg::Number(set) = value else {
-        return None;
-    };
-    let (least, greatest) = set.bounds();
-    if least == greatest { Some(least) } else { None }
-}
+/// In eight bytes of the stack.
+const BLOCK: Weights = Weights {
+    pointer: 1000,
+    number: 100,
+};
 
-/// What a join of two numbers loses.
-fn of_numbers(a: Reg, b: Reg) -> Difference {
-    match (exact(a), exact(b)) {
-        (Some(one), Some(other)) if one != other => Difference::Number,
-        _ => Difference::Bounds,
-    }
-}
+/// In which of two ranges a number lies.
+const RANGE: u32 = 1;
 
-/// What a join of two spans of the stack loses.
-fn of_spans(a: Span, b: Span) -> Difference {
-    if a.greatest < b.least || b.greatest < a.least {
-        Difference::Pointer
+/// A join that loses less than this loses bounds alone.
+pub(crate) const MUCH: u32 = 100;
+
+/// Of two numbers: something where their bounds have nothing in common, and much where one of them is exact.
+fn of_numbers(a: Scalar, b: Scalar, weights: Weights) -> u32 {
+    let ((a_least, a_greatest), (b_least, b_greatest)) = (a.bounds(), b.bounds());
+    if a_least <= b_greatest && b_least <= a_greatest {
+        0
+    } else if a_least == a_greatest || b_least == b_greatest {
+        weights.number
     } else {
-        Difference::Bounds
+        RANGE
     }
 }
 
-/// What a join of two values loses.
-fn of_values(a: Reg, b: Reg) -> Difference {
-    match (a, b) {
-        (Reg::Record(_), Reg::Record(_)) => Difference::Bounds,
-        (Reg::Stack(a), Reg::Stack(b)) => of_spans(a, b),
-        (Reg::Record(_) | Reg::Stack(_), _) | (_, Reg::Record(_) | Reg::Stack(_)) => {
-            Difference::Pointer
-        }
-        _ => of_numbers(a, b),
+/// Of two spans of the stack: much where they have nothing in common.
+fn of_spans(a: Span, b: Span, weights: Weights) -> u32 {
+    if a.greatest < b.least || b.greatest < a.least {
+        weights.pointer
+    } else {
+        0
     }
+}
+
+/// Of two values: much, too, where a pointer meets none.
+fn of_values(a: Reg, b: Reg, weights: Weights) -> u32 {
+    match (a, b) {
+        (Reg::Number(a), Reg::Number(b)) => of_numbers(a, b, weights),
+        (Reg::Stack(a), Reg::Stack(b)) => of_spans(a, b, weights),
+        (Reg::Record(_), Reg::Record(_)) => 0,
+        (Reg::Record(_) | Reg::Stack(_), _) | (_, Reg::Record(_) | Reg::Stack(_)) => {
+            weights.pointer
+        }
+        _ => 0,
+    }
+}
+
+/// Of what is known of eight bytes one by one: much where one is known otherwise.
+fn of_marks(a: &[Mark; 8], b: &[Mark; 8]) -> u32 {
+    for i in 0..8 {
+        if a[i] != b[i] {
+            return BLOCK.number;
+        }
+    }
+    0
+}
+
+/// Of eight bytes that are known one by one, and of others of which the number and each byte is known.
+fn of_bytes(a: &Bytes, b: Scalar, marks: &[Mark; 8]) -> u32 {
+    of_marks(a.marks(), marks).saturating_add(of_numbers(a.number(), b, BLOCK))
+}
+
+/// Of a value that stands whole in eight bytes, and of others that are known one by one.
+fn of_whole(value: Reg, bytes: &Bytes) -> u32 {
+    match value {
+        Reg::Number(number) => of_bytes(bytes, number, &[Mark::Byte; 8]),
+        Reg::Unset => 0,
+        Reg::Record(_) | Reg::Stack(_) => BLOCK.pointer,
+    }
+}
+
+/// Of a block, where nothing is known of another.
+fn of_one(block: &Block) -> u32 {
+    match block {
+        Block::Unset | Block::Whole(Reg::Unset) => 0,
+        Block::Whole(Reg::Number(_)) => BLOCK.number,
+        Block::Whole(Reg::Record(_) | Reg::Stack(_)) => BLOCK.pointer,
+        Block::Cells(bytes) => of_marks(bytes.marks(), &[Mark::Unset; 8]),
+    }
+}
+
+/// Of two blocks.
+fn of_blocks(a: &Block, b: &Block) -> u32 {
+    match (a, b) {
+        (Block::Unset, block) => of_one(block),
+        (block, Block::Unset) => of_one(block),
+        (Block::Whole(a), Block::Whole(b)) => of_values(*a, *b, BLOCK),
+        (Block::Whole(value), Block::Cells(bytes)) => of_whole(*value, bytes),
+        (Block::Cells(bytes), Block::Whole(value)) => of_whole(*value, bytes),
+        (Block::Cells(a), Block::Cells(b)) => of_bytes(a, b.number(), b.marks()),
+    }
+}
+
+/// Of two stacks, added to what else is lost, as far as a bound.
+fn of_stacks(a: &Stack, b: &Stack, lost: u32, bound: u32) -> u32 {
+    let mut lost = lost;
+    for i in 0..64 {
+        if lost >= bound {
+            return lost;
+        }
+        lost = lost.saturating_add(of_blocks(&a.blocks()[i], &b.blocks()[i]));
+    }
+    lost
 }
 
 impl Known {
-    /// What a join with another case would lose.
-    pub(crate) fn difference(&self, other: &Known) -> Difference {
-        let mut difference = Difference::Bounds;
+    /// What a join with another case would lose, as far as a bound: where it is not less, some part of it.
+    pub(crate) fn loss(&self, other: &Known, bound: u32) -> u32 {
+        let mut lost: u32 = 0;
         for i in 0..11 {
-            difference = difference.or(of_values(self.registers[i], other.registers[i]));
+            lost = lost.saturating_add(of_values(self.registers[i], other.registers[i], REGISTER));
         }
-        difference
+        of_stacks(&self.stack, &other.stack, lost, bound)
     }
 }

@@ -1,6 +1,6 @@
 //! Laws of shapes and ways, and of typings: which programs have them.
 
-ghost use Rattle.std.specs.Prelude.{◌≡◌, ◌↔◌, ℕ, List, Result, Some, Contains};
+ghost use Rattle.std.specs.Prelude.{◌≡◌, ◌≤◌, ◌↔◌, ℕ, List, [], Result, Some, Contains, length, slice_index_or};
 ghost use Rattle.insn.specs.declared.instruction.Insn.{Insn};
 ghost use Rattle.insn.specs.declared.layout.Layout.{Layout};
 ghost use Rattle.insn.specs.declared.verify_fault.WalkFault.{WalkFault};
@@ -14,6 +14,7 @@ ghost use Rattle.verifier.specs.Follows.{WritesNoR10};
 ghost use Rattle.verifier.specs.Kinds.{IsSoundRow, LeavesKnown};
 ghost use Rattle.verifier.specs.Shapes.{shape_config, shape_of, ways, HasNoBranch, IsRunShape, MovesNoPointer, NoMovedPointer, OnWay};
 ghost use Rattle.verifier.specs.Typing.{UniformIsTyped};
+ghost use Rattle.verifier.specs.Waits.{HasWalked};
 
 /// A state and its shape have the same fault, where no pointer is moved by a register.
 #[tactic(auto, using(crate::specs::ShapeLaws::same_fault))]
@@ -47,4 +48,10 @@ pub fn uniform_programs_have_typings()
 pub fn rows_are_sound()
     ensures { (layout : Layout) (i : Insn) (old new : Known) (r : Result Flow WalkFault) →
         WritesNoR10 i → LeavesKnown layout i old new r → IsSoundRow layout i old new r }
+{}
+
+/// In every walk, at every slot, at most four cases wait.
+pub fn at_most_four_cases_wait()
+    ensures { (layout : Layout) (program : List Insn) (slot : ℕ) (rest : List Insn) (waiting : List (List Known)) →
+        HasWalked layout program slot rest waiting → (k : ℕ) → length (slice_index_or waiting k []) ≤ 4 }
 {}

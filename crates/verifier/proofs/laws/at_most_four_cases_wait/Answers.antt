@@ -1,0 +1,5 @@
+use Rattle.verifier.proofs.Few.{at_most_four}
+use Rattle.verifier.proofs.laws.at_most_four_cases_wait.Goals as goal
+
+pub returns : goal.returns
+returns c = at_most_four
