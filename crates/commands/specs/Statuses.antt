@@ -45,6 +45,6 @@ status_of_command_fault fault = BadUse
 
 -- an answer that tells why a program is refused ends as a refusal, every other one is done
 abbrev pub status_of_answer : Answer → Status
-status_of_answer (answers.Hook (hook_answers.Looked fault help)) = Refused
+status_of_answer (answers.Hook (hook_answers.Looked fault jump help)) = Refused
 status_of_answer (answers.Hook (hook_answers.Refused told)) = Refused
 status_of_answer answer = Done

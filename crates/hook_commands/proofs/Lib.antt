@@ -1,2 +1,4 @@
 pub mod Ways
+pub mod Cases
+pub mod Back
 mod HexReading

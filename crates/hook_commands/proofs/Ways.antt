@@ -18,7 +18,7 @@ use Rattle.hook_commands.specs.Ways.{goes_past, jump_target, onward_at, slot_ahe
 use Rattle.hook_commands.specs.WaySteps.{is_led, step_of, target_past, targets_of, where_led, AreWaySteps, IsStepFrom, WayLeadsOn}
 
 -- something begins at slots of the program alone
-begins_inside : (program : List Insn) (k : ℕ) (j : Insn) → begins_at program k ≡ Some j → k < slot_count program
+pub begins_inside : (program : List Insn) (k : ℕ) (j : Insn) → begins_at program k ≡ Some j → k < slot_count program
 begins_inside program k j e = let h = places_inside (places program) k j e in let l = length-places program in omega arith where
   places_inside : (xs : List (Option Insn)) (k : ℕ) (j : Insn) → joined (slice_get xs k) ≡ Some j → k < length xs
   places_inside [] k j e = absurd cc

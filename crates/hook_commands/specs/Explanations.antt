@@ -1,5 +1,6 @@
 -- What is told of a program that is looked at.
-use Rattle.std.specs.Prelude.{◌≡◌, ℕ, List, [], codes, length, Option, Some, None, option_and_then}
+use Rattle.std.specs.Prelude.{◌≡◌, ℕ, List, [], ◌∷◌, codes, length, map, Option, Some, None, option_and_then}
+use Rattle.std.specs.Box.{box_value}
 use Rattle.std.specs.Option.{option_map, option_or}
 use Rattle.insn.specs.declared.instruction.Insn.{Insn}
 use Rattle.insn.specs.declared.layout.Layout.{Layout}
@@ -17,7 +18,9 @@ use Rattle.verifier.specs.Follows.{reg_of}
 use Rattle.hook_commands.specs.declared.answer.HookAnswer.{HookAnswer}
 use Rattle.hook_commands.specs.declared.answer.HookAnswer.TheVariants as answers
 use Rattle.hook_commands.specs.declared.why.ReadRegister.{ReadRegister}
+use Rattle.hook_commands.specs.declared.why.ReadTold.{ReadTold}
 use Rattle.hook_commands.specs.declared.why.RefusalTold.{RefusalTold}
+use Rattle.hook_commands.specs.Back.{IsJumpTold}
 use Rattle.hook_commands.specs.BytesTold.{TellsBytes}
 use Rattle.hook_commands.specs.Reading.{left_read, right_read}
 use Rattle.hook_commands.specs.Ways.{roads_of, IsToldWay}
@@ -64,22 +67,34 @@ unset_among read = option_and_then (λ r. where_unset r.register r.known) read
 
 -- ---- what is told of a program
 
--- a refusal by the walk is told: what is known of the registers and the bytes that its instruction reads, a way that leads
--- there, on which the first register stays unwritten that it finds unset, and what the manual says of the fault
+-- what is known in a case of the registers and the bytes that an instruction reads is told
+pub record IsReadTold (layout : Layout) (i : Insn) (known : Known) (told : ReadTold) : Type 0 where
+  pub left : told.left ≡ read_of known (left_read i)
+  pub right : told.right ≡ read_of known (right_read i)
+  pub reads : TellsBytes layout known i told.bytes.items
+
+-- it is told in each of some cases, in order
+abbrev pub AreCasesTold : Layout → Insn → List Known → List ReadTold → Type 0
+AreCasesTold layout i [] told = told ≡ []
+AreCasesTold layout i (known ∷ cases) told =
+    (one : ReadTold) × (others : List ReadTold) × (told ≡ one ∷ others) × IsReadTold layout i known one × AreCasesTold layout i cases others
+
+-- a refusal by the walk is told: what is known of what its instruction reads, in the case that is refused and in each other
+-- one that waits there, a way that leads there, on which the first register stays unwritten that it finds unset, and what the
+-- manual says of the fault
 pub record IsRefusalTold (layout : Layout) (program : List Insn) (r : Refusal) (told : RefusalTold) : Type 0 where
   pub fault : told.fault ≡ r.fault
   pub slot : told.slot ≡ r.slot
   pub insn : told.insn ≡ r.insn
-  pub left : told.left ≡ read_of r.known.value (left_read r.insn)
-  pub right : told.right ≡ read_of r.known.value (right_read r.insn)
-  pub reads : TellsBytes layout r.known.value r.insn told.bytes.items
-  pub leads : IsToldWay (roads_of program r.onward.items (option_or (unset_among told.left) (unset_among told.right))) r.slot told.way
+  pub refused : IsReadTold layout r.insn r.known.value told.read
+  pub others : AreCasesTold layout r.insn (map box_value r.others.items) told.others.items
+  pub leads : IsToldWay (roads_of program r.onward.items (option_or (unset_among told.read.left) (unset_among told.read.right))) r.slot told.way
   pub mends : IsHelp r.fault told.help.now
 
 -- an answer tells what is found of a program
 abbrev pub IsExplanation : Layout → List Insn → HookAnswer → Type 0
 IsExplanation layout program (answers.Reached count unreached) = (count ≡ length program) × IsFinding layout program (finding.Accepted unreached)
-IsExplanation layout program (answers.Looked fault help) = IsHelp fault help.now × IsFinding layout program (finding.Looked fault)
+IsExplanation layout program (answers.Looked fault jump help) = IsJumpTold program fault jump × IsHelp fault help.now × IsFinding layout program (finding.Looked fault)
 IsExplanation layout program (answers.Refused told) =
     (refusal : Refusal) × IsFinding layout program (finding.Refused refusal) × IsRefusalTold layout program refusal told
 IsExplanation layout program answer = ⊥

@@ -2,6 +2,7 @@
 pub mod Answers
 pub mod Asking
 pub mod Assembly
+pub mod Back
 pub mod BytesTold
 pub mod Explanations
 pub mod File

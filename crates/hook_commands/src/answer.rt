@@ -2,6 +2,7 @@
 
 ghost use Rattle.hook_commands.specs.Printed.{hook_answer_text};
 
+use crate::back::JumpBackTold;
 use crate::judge::Judged;
 use crate::trace::StepsText;
 use crate::why::RefusalTold;
@@ -34,9 +35,10 @@ pub enum HookAnswer {
         count: usize,
         unreached: Vec<usize>,
     },
-    /// Why the first look refuses a program, and what the manual says of that.
+    /// Why the first look refuses a program: the fault, the jump of a jump back, and what the manual says of that.
     Looked {
         fault: VerifyFault,
+        jump: Option<JumpBackTold>,
         help: &'static str,
     },
     /// Why the walk refuses a program, at length.
@@ -61,7 +63,13 @@ impl Display for HookAnswer {
                 let unreached = Unreached(unreached);
                 write!(f, "accepted {count}\n{unreached}")
             }
-            HookAnswer::Looked { fault, help } => write!(f, "refused {fault}\n\n{help}"),
+            HookAnswer::Looked { fault, jump, help } => {
+                write!(f, "refused {fault}\n")?;
+                if let Some(jump) = jump {
+                    write!(f, "{jump}")?;
+                }
+                write!(f, "\n{help}")
+            }
             HookAnswer::Refused(refusal) => write!(f, "{refusal}"),
         }
     }

@@ -7,12 +7,13 @@
 //!
 //! `why` tells what `verifier::explain` finds, with what the manual says of a fault; `reading` names the registers that
 //! an instruction reads, `known_text` spells what is known of one, and `bytes_told` tells of the stack's bytes that a load
-//! reads; `way` finds the jumps that lead to an instruction. `trace` spells the steps of a run, and `asking` makes
+//! reads; `way` finds the jumps that lead to an instruction, and `back` where a jump back leads. `trace` spells the steps of a run, and `asking` makes
 //! the record that a run is tried on.
 #![tactic(auto)]
 
 pub mod answer;
 mod asking;
+mod back;
 mod bytes_told;
 pub mod command;
 mod commands;

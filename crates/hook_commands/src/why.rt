@@ -1,10 +1,12 @@
 //! What is told of a program that is looked at: why it is refused, or which slots nothing reaches.
 
-ghost use Rattle.std.specs.Prelude.{◌≡◌, IfOk};
+ghost use Rattle.std.specs.Prelude.{◌≡◌, IfOk, map};
+ghost use Rattle.std.specs.Box.{box_value};
 ghost use Rattle.std.specs.Option.{option_copied};
-ghost use Rattle.hook_commands.specs.Explanations.{fault_name as spec_fault_name, read_of, unset_among, IsExplanation, IsHelp, IsRefusalTold};
+ghost use Rattle.hook_commands.specs.Explanations.{fault_name as spec_fault_name, read_of, unset_among, AreCasesTold, IsExplanation, IsHelp, IsReadTold, IsRefusalTold};
 
 use crate::answer::HookAnswer;
+use crate::back::jump_told;
 use crate::bytes_told::{BytesTold, bytes_told};
 use crate::known_text::KnownText;
 use crate::reading::{left_read, right_read};
@@ -35,6 +37,32 @@ impl Display for ReadRegister {
     }
 }
 
+/// What is known, in one case, of what an instruction reads.
+#[derive(Drop)]
+pub struct ReadTold {
+    /// Of the register that stands first in it.
+    pub left: Option<ReadRegister>,
+    /// Of the one that stands second.
+    pub right: Option<ReadRegister>,
+    /// Of the bytes of the stack.
+    pub bytes: Vec<BytesTold>,
+}
+
+impl Display for ReadTold {
+    fn fmt<W: Write>(&self, f: &mut Formatter<W>) -> fmt::Result {
+        if let Some(left) = self.left {
+            write!(f, "{left}")?;
+        }
+        if let Some(right) = self.right {
+            write!(f, "{right}")?;
+        }
+        for bytes in &self.bytes {
+            write!(f, "{bytes}")?;
+        }
+        Ok(())
+    }
+}
+
 /// What is told of a refusal by the walk.
 #[derive(Drop)]
 pub struct RefusalTold {
@@ -44,12 +72,10 @@ pub struct RefusalTold {
     pub slot: usize,
     /// That instruction.
     pub insn: Insn,
-    /// What is known of the register that it reads and that stands first in it.
-    pub left: Option<ReadRegister>,
-    /// What is known of the one that stands second.
-    pub right: Option<ReadRegister>,
-    /// What is known of the bytes of the stack that it reads.
-    pub bytes: Vec<BytesTold>,
+    /// What is known of what it reads, in the case in which it is refused.
+    pub read: ReadTold,
+    /// What is known of that in each other case.
+    pub others: Vec<ReadTold>,
     /// A way that leads there.
     pub way: Option<Way>,
     /// What the manual says of the fault.
@@ -60,14 +86,13 @@ impl Display for RefusalTold {
     fn fmt<W: Write>(&self, f: &mut Formatter<W>) -> fmt::Result {
         let (fault, slot, line) = (self.fault, self.slot, Line(self.insn));
         write!(f, "refused {fault}\n{slot}: {line}")?;
-        if let Some(left) = self.left {
-            write!(f, "{left}")?;
+        if !self.others.is_empty() {
+            write!(f, "in the case that is refused:\n")?;
         }
-        if let Some(right) = self.right {
-            write!(f, "{right}")?;
-        }
-        for bytes in &self.bytes {
-            write!(f, "{bytes}")?;
+        let read = &self.read;
+        write!(f, "{read}")?;
+        for other in &self.others {
+            write!(f, "in another case:\n{other}")?;
         }
         if let Some(way) = &self.way {
             write!(f, "{way}")?;
@@ -130,8 +155,41 @@ fn unset_among(read: Option<ReadRegister>) -> Option<RegNo>
     }
 }
 
-/// What is told of a refusal by the walk: the fault and the instruction, what is known of what it reads, a way that leads
-/// there, on which nothing writes the first register that it finds unset, and what the manual says.
+/// What is known, in one case, of what an instruction reads. It fails only where memory is refused.
+fn read_told(
+    alloc: Global,
+    layout: Layout,
+    insn: Insn,
+    known: &Known,
+) -> Result<ReadTold, AllocError>
+    ensures { IfOk result (IsReadTold layout insn known.now) }
+{
+    let bytes = bytes_told(alloc, layout, known, insn)?;
+    Ok(ReadTold {
+        left: read_of(known, left_read(insn)),
+        right: read_of(known, right_read(insn)),
+        bytes,
+    })
+}
+
+/// The same in each of some cases.
+fn cases_told(
+    alloc: Global,
+    layout: Layout,
+    insn: Insn,
+    cases: &[Box<Known>],
+) -> Result<Vec<ReadTold>, AllocError>
+    ensures { IfOk result (λ told. AreCasesTold layout insn (map box_value cases.now) told.items) }
+{
+    let mut told = Vec::new(alloc);
+    for known in cases {
+        told.push(read_told(alloc, layout, insn, known)?)?;
+    }
+    Ok(told)
+}
+
+/// What is told of a refusal by the walk: the fault and the instruction, what is known of what it reads in each case, a way
+/// that leads there, on which nothing writes the first register that it finds unset, and what the manual says.
 fn refusal_told(
     alloc: Global,
     program: &Program,
@@ -141,18 +199,16 @@ fn refusal_told(
     ensures { IfOk result (IsRefusalTold layout program.now refusal.now) }
 {
     let (fault, slot, insn) = (refusal.fault, refusal.slot, refusal.insn);
-    let left = read_of(&refusal.known, left_read(insn));
-    let right = read_of(&refusal.known, right_read(insn));
-    let unset = unset_among(left).or(unset_among(right));
-    let bytes = bytes_told(alloc, layout, &refusal.known, insn)?;
+    let read = read_told(alloc, layout, insn, &refusal.known)?;
+    let others = cases_told(alloc, layout, insn, &refusal.others)?;
+    let unset = unset_among(read.left).or(unset_among(read.right));
     let way = told_way(alloc, program, &refusal.onward, unset, slot)?;
     Ok(RefusalTold {
         fault,
         slot,
         insn,
-        left,
-        right,
-        bytes,
+        read,
+        others,
         way,
         help: help_on(fault),
     })
@@ -174,6 +230,7 @@ pub fn explanation(
         }),
         Finding::Looked(fault) => Ok(HookAnswer::Looked {
             fault,
+            jump: jump_told(program, fault),
             help: help_on(fault),
         }),
         Finding::Refused(refusal) => Ok(HookAnswer::Refused(refusal_told(
