@@ -1,4 +1,4 @@
 pub mod Ways
 pub mod Cases
-pub mod Back
+pub mod Landing
 mod HexReading
