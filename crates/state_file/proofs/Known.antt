@@ -18,7 +18,7 @@ use Rattle.state_file.specs.Telling.{IsOfRules, Tell, last_rules}
 use Rattle.state_file.specs.TellingLaws.{last_rules-push, tell_in, tell_one, tells_one}
 use Rattle.state_file.specs.declared.keeper.Known.{Known}
 use Rattle.state_file.proofs.Hooked.{hooks_of-happened}
-use Rattle.state_file.proofs.Horizons.{last_rules-image, horizon_until, until_of-image}
+use Rattle.state_file.proofs.Lasting.{last_rules-image, horizon_until, until_of-image}
 
 -- WHAT STOOD BEFORE A BATCH
 

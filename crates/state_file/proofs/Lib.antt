@@ -6,7 +6,7 @@ pub mod Hooked
 pub mod Kept
 pub mod Known
 pub mod Listed
-pub mod Horizons
+pub mod Lasting
 pub mod LedOn
 pub mod Put
 pub mod Redone

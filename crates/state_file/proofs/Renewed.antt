@@ -21,7 +21,7 @@ use Rattle.state_file.specs.Telling.{Tell, TellsIn}
 use Rattle.state_file.specs.declared.keeper.Known.{Known}
 use Rattle.state_file.proofs.Kept.{TellOn, tell_on}
 use Rattle.state_file.proofs.Known.{known_image}
-use Rattle.state_file.proofs.Horizons.{StandFor-image_horizon, Tell-image, until_of-image, until_of-less}
+use Rattle.state_file.proofs.Lasting.{StandFor-image_horizon, Tell-image, until_of-image, until_of-less}
 
 -- rules that are told fit
 fit_told : (batch : List ℕ) (told : RulesFact) → TellsIn batch told → RulesFit told

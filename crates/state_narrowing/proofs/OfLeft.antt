@@ -34,7 +34,7 @@ use Rattle.state_file.specs.Resuming.{OfEachHistory}
 use Rattle.state_file.specs.Standing.{IsImageOf, StandFor, StandsFor, horizons, until_of}
 use Rattle.state_file.specs.StandingLaws.{StandsFor-none}
 use Rattle.state_file.specs.Telling.{Tell, TellsRules, client_told, rules_of}
-use Rattle.state_file.proofs.Horizons.{StandFor-image_horizon, Tell-image, until_of-image}
+use Rattle.state_file.proofs.Lasting.{StandFor-image_horizon, Tell-image, until_of-image}
 use Rattle.state_file.specs.ResumingLaws.{right_now}
 use Rattle.state_file.specs.TellingLaws.{tell_one}
 use Rattle.state_account.specs.declared.account.Account.{Account}

@@ -3,7 +3,7 @@ use Rattle.std.specs.Prelude.{IfSome}
 use Rattle.batch_file.specs.Frames.{recovered}
 use Rattle.state_file.specs.Standing.{horizons, until_of}
 use Rattle.state_file.specs.Telling.{rules_of}
-use Rattle.state_file.proofs.Horizons.{until_of-less}
+use Rattle.state_file.proofs.Lasting.{until_of-less}
 use Rattle.state_narrowing.specs.Narrowing.{IsNarrower, IsUnnarrowed}
 use Rattle.state_narrowing.proofs.OfLeft.{has_left, unnarrowed}
 use Rattle.state_narrowing.proofs.narrowed.narrow.Goals as goal

@@ -5,7 +5,7 @@ use Rattle.state_file.specs.Knowing.{IsKnown, SeenKeeper, file_crashes}
 use Rattle.state_file.specs.declared.keeper.Known.{Known}
 use Rattle.state_file.proofs.Kept.{HasNow, holds_basis, keeper_of, keeps, keeps_basis, keeps_not, tells_basis}
 use Rattle.state_file.proofs.Known.{known_horizon}
-use Rattle.state_file.proofs.Horizons.{horizon_stands, horizon_tells, horizon_until}
+use Rattle.state_file.proofs.Lasting.{horizon_stands, horizon_tells, horizon_until}
 use Rattle.state_file.proofs.keeper.StateKeeper.keep_horizon.Goals as goal
 
 pub invariant_of-self : goal.invariant_of-self
