@@ -229,7 +229,7 @@ module _ {N C J K H : Type 0} (p : Promises N C J K H) where
   onward_carries first s s' served stays = carries_all s.progress.journey
   onward_carries first s s' served (onward {s' = middle} on step) =
       let one = onward_carries first s middle served on in
-      let two = moves_carries middle s' (served_front first middle (served_on first s middle served on)) (step_moves middle s' step) in
+      let two = moves_carries middle s' (served_front first middle (served_on p first s middle served on)) (step_moves middle s' step) in
       record {
         outset = two.outset ∙ one.outset;
         front = front_then s.progress.journey.world.history middle.progress.journey.world.history s'.progress.journey.world.history one.front two.front;
@@ -251,7 +251,7 @@ module _ {N C J K H : Type 0} (p : Promises N C J K H) where
         kept_there = is;
         stands = stands;
         from = subst (IsFrontOf before) e then.2;
-        to = served_front first s' (served_on first s s' served on) kept is;
+        to = served_front first s' (served_on p first s s' served on) kept is;
       }
 
   -- it still lies between one step later
@@ -284,7 +284,7 @@ module _ {N C J K H : Type 0} (p : Promises N C J K H) where
       (s : LoopState N C J K H) (before : List Event) (served : Served p first s) (is : s.progress.journey.world.kept ≡ Some before) where
     -- the keeper holds what was kept wherever steps lead on
     held_at : (s' : LoopState N C J K H) → Onward p s s' → KeeperHolds p s'
-    held_at s' on = served_held first s' at_first (served_on first s s' served on)
+    held_at s' on = served_held first s' at_first (served_on p first s s' served on)
 
     step_leaves : (s' s'' : LoopState N C J K H) → Onward p s s' → Leaves p.keeping.crashes s.keeper s'.keeper (StandsBetween p s before s') → LoopStep p s' s'' → Moves p s' s'' →
         Leaves p.keeping.crashes s.keeper s''.keeper (StandsBetween p s before s'')
