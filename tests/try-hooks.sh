@@ -447,6 +447,30 @@ C
 answers 1 13 1 'allowed 7 300'
 answers 1 14 1 denied
 answers 1 1 1 denied
+faulty 'an hour that is subtracted from behind its test' 'Verify UnsetByte' <<'C'
+int hook(struct record *record)
+{
+    u8 grades[10];
+    __builtin_memset(grades, 3, sizeof grades);
+    u32 at = record->now % 86400 / 3600;
+    if (at >= 8 && at < 18)
+        record->life = grades[at - 8];
+    return ALLOW;
+}
+C
+taken 'the same before its test' <<'C'
+int hook(struct record *record)
+{
+    u8 grades[10];
+    __builtin_memset(grades, 3, sizeof grades);
+    u32 at = record->now % 86400 / 3600;
+    at -= 8;
+    if (at < 10)
+        record->life = grades[at];
+    return ALLOW;
+}
+C
+answers 1 1 1 'allowed 7 300'
 faulty 'a signed test' 'Verify PointerRange' <<'C'
 int hook(struct record *record)
 {

@@ -30,7 +30,7 @@ struct record {
     const u64 now;     /* the moment, in Unix seconds */
     const u64 client;  /* the client's number in the registry, from 1 */
     const u64 owner;   /* the owner's number in the registry, from 1; 0 where the grant has no owner */
-    const u64 asked;   /* the scope that was asked: bit i is the i-th name of the registry's scopes */
+    const u64 asked;   /* the scope that was asked: bit 0 is the first name of the registry's scopes */
     u64 scope;         /* the scope to grant; may be written */
     u32 life;          /* the lifetime of the access token in seconds; may be written */
     const u32 zero;

@@ -1,6 +1,6 @@
-; The catalogue's second scope is granted from 8 to 18 o'clock (UTC) alone.
+; The registry's second scope is granted from 8 to 18 o'clock (UTC) alone.
 ;
-; Scopes are bits: the first name of the catalogue is bit 0, the second bit 1. Where nothing
+; Scopes are bits: the registry's first name is bit 0, the second bit 1. Where nothing
 ; else was asked for, nothing is left, and the client is told invalid_scope.
 
     mov64 r0 1              ; allow

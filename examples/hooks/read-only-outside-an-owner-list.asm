@@ -1,5 +1,5 @@
 ; Owners 1, 4 and 9 may hand out every scope; grants of all others, and those of clients on
-; their own (owner 0), keep the catalogue's first scope alone.
+; their own (owner 0), keep the registry's first scope alone.
 
     mov64 r0 1              ; allow
     ldxdw r2 r1 24          ; the owner's number
