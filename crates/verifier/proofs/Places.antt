@@ -119,7 +119,7 @@ none_left (Some k) false q t = absurd cc
 pub is_left : (o : Option ℕ) (r : Bool) → is_some o ≡ not r → r ≡ false → IsSome o
 is_left None true q t = absurd cc
 is_left None false q t = absurd cc
-is_left (Some k) r q t = _
+is_left (Some k) r q t = refl
 
 -- a case is put back to its place
 pub put_back : (xs : Boxes) (i : ℕ) (o : Option (Box Known Global)) → length xs ≡ 4 → i < 4 → get_or xs i None ≡ o → set (set xs i None) i o ≡ xs
