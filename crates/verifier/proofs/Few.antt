@@ -8,7 +8,7 @@ use Rattle.verifier.specs.declared.known.Known.{Known}
 use Rattle.verifier.specs.declared.known.Test.{Test}
 use Rattle.verifier.specs.declared.known.Flow.{Flow}
 use Rattle.verifier.specs.declared.known.Flow.TheVariants.{Next, Jump, Branch, Exit}
-use Rattle.verifier.specs.Waits.{IsAdded, IsBegun, HasWalked, Begun, Visited, IsJoinedIn, IsMerged, IsSettled, IsTaken, IsTestSettled, MayPush, PassesEach, IsPushed, StandsBeside}
+use Rattle.verifier.specs.Waits.{IsAdded, IsBegun, HasWalked, Begun, Visited, IsJoinedIn, IsSettled, IsTaken, IsTestSettled, MayPush, PassesEach, IsPushed, StandsBeside}
 
 -- at most four cases wait at each slot
 abbrev AreFew : List (List Known) → Type 0

@@ -1,16 +1,16 @@
 -- The cases that wait at a slot, by the places that hold them.
-use Rattle.std.proofs.Common.{◌≡◌, ◌≢◌, ℕ, zero, suc, ◌+◌, ◌<◌, ◌≤◌, ◌++◌, Bool, true, false, List, [], ◌∷◌, Option, Some, None, Box, Global, refl, sym, ap, ◌∙◌, arith, get_or, set, take, drop, length, subst, inl, inr, ◌⊎◌}
+use Rattle.std.proofs.Common.{◌≡◌, ℕ, zero, suc, ◌+◌, ◌<◌, ◌≤◌, ◌++◌, Bool, true, false, List, [], ◌∷◌, Option, Some, None, Box, Global, refl, sym, ap, ◌∙◌, arith, get_or, set, take, drop, length, subst, inl, inr, ◌⊎◌}
 use Rattle.std.specs.Prelude.{IfSome, IsSome, is_some, not, ◌==◌}
 use Rattle.std.specs.List.{Contains, cons_option, filter_map}
 use Rattle.std.specs.Option.{option_map}
 use Rattle.std.specs.Box.{box_value}
 use Rattle.std.proofs.lemmas.Bool.{eqb-true}
-use Rattle.std.proofs.lemmas.List.{append-nil, drop-set, drop_more, get_or-set_other, length-set, set-get_or, set-set, take-append-drop, take-set, take_more, drop-set-lt}
+use Rattle.std.proofs.lemmas.List.{append-nil, drop-set, drop_more, length-set, set-get_or, set-set, take-append-drop, take-set, take_more, drop-set-lt}
 use Rattle.std.proofs.lemmas.List.Elements.{Contains-append_cases, Contains-append_left, Contains-append_right, filter_map-append}
 use Rattle.verifier.specs.declared.known.Known.{Known}
 use Rattle.verifier.specs.Follows.{IsJoined}
-use Rattle.verifier.specs.Waits.{IsAdded, IsJoinedIn, IsMerged, IsPlaced, StandsBeside}
-use Rattle.verifier.specs.WaitsParts.{HasRoomMade, IsFirst, IsFirstPlace, IsRoomFor, cases_in}
+use Rattle.verifier.specs.Waits.{IsAdded, IsJoinedIn, IsMerged, StandsBeside}
+use Rattle.verifier.specs.WaitsParts.{IsFirst, IsFirstPlace, IsRoomFor}
 
 abbrev Boxes : Type 0
 Boxes = List (Option (Box Known Global))
@@ -65,7 +65,7 @@ placed xs i b four lt e =
     }
 
 -- a case comes to one that waits
-joined_in : (xs : Boxes) (i : ℕ) (x : Option (Box Known Global)) (one joined : Box Known Global) (known : Known) → length xs ≡ 4 → i < 4 → get_or xs i None ≡ Some one → IsJoined one.value known joined.value → IsJoinedIn (cases_of xs) known (cases_of (set (set xs i x) i (Some joined)))
+pub joined_in : (xs : Boxes) (i : ℕ) (x : Option (Box Known Global)) (one joined : Box Known Global) (known : Known) → length xs ≡ 4 → i < 4 → get_or xs i None ≡ Some one → IsJoined one.value known joined.value → IsJoinedIn (cases_of xs) known (cases_of (set (set xs i x) i (Some joined)))
 joined_in xs i x one joined known four lt e j =
     let inside : i < length xs = omega arith in
     record {
@@ -77,23 +77,6 @@ joined_in xs i x one joined known four lt e j =
       is = around_twice xs i x (Some joined) inside;
       join = j;
     }
-
--- once a case was joined with one in a place, each other place is as it was
-pub others_free : (xs : Boxes) (i k : ℕ) (x : Option (Box Known Global)) (one joined : Box Known Global) → get_or xs i None ≡ Some one → get_or xs k None ≡ None → get_or (set (set xs i x) i (Some joined)) k None ≡ None
-others_free xs i k x one joined e free =
-    let ne : k ≢ i = λ same. (let bad : None ≡ Some one = sym free ∙ ap (λ (j : ℕ). get_or xs j None) same ∙ e in cc) in
-    get_or-set_other (set xs i x) i k (Some joined) None ne ∙ get_or-set_other xs i k x None ne ∙ free
-
--- a case is joined with the one in a place
-pub settled_joined : (xs : Boxes) (i : ℕ) (x : Option (Box Known Global)) (one joined : Box Known Global) (known : Known) → length xs ≡ 4 → i < 4 → get_or xs i None ≡ Some one → IsJoined one.value known joined.value → IsRoomFor xs known (set (set xs i x) i (Some joined)) None
-settled_joined xs i x one joined known four lt e j = joined_in xs i x one joined known four lt e j
-
--- or the place is free
-pub free_there : (xs : Boxes) (i : ℕ) → get_or xs i None ≡ None → set xs i None ≡ xs
-free_there xs i e = subst (λ (o : Option (Box Known Global)). set xs i o ≡ xs) e (set-get_or xs i None)
-
-pub settled_free : (xs : Boxes) (i : ℕ) (known : Known) → get_or xs i None ≡ None → IsRoomFor xs known xs (Some i)
-settled_free xs i known e = (e, inl refl)
 
 -- the case in a place is joined with one in another, and the place is free
 pub merged : (xs now : Boxes) (from : ℕ) (one : Box Known Global) (known : Known) → length xs ≡ 4 → from < 4 → get_or xs from None ≡ Some one → IsRoomFor (set xs from None) one.value now None → get_or now from None ≡ None → IsRoomFor xs known now (Some from)
@@ -131,9 +114,6 @@ comes_to_place old xs i b known same four lt (free, inl e) =
     let beside : StandsBeside (cases_of old) b.value (cases_of (set xs i (Some b))) = subst (λ (l : List Known). StandsBeside l b.value (cases_of (set xs i (Some b)))) e (placed xs i b four lt free) in
     rw (← same) (inl (inl beside))
 comes_to_place old xs i b known same four lt (free, inr m) = rw (← same) (inr (cases_of xs, m, placed xs i b four lt free))
-
-pub comes_to_one : (old xs : Boxes) (known : Known) → IsRoomFor old known xs None → IsAdded (cases_of old) known (cases_of xs)
-comes_to_one old xs known j = inl (inr j)
 
 -- ---- the first
 
