@@ -26,8 +26,9 @@ same_joined old now a s =
     ap (length {A = Known}) s.is ∙ length-append s.before (s.joined ∷ s.after) ∙ sym (ap (length {A = Known}) s.was ∙ length-append s.before (s.one ∷ s.after))
 
 few_added : (old now : List Known) (a : Known) → IsAdded old a now → length old ≤ 4 → length now ≤ 4
-few_added old now a (inl s) few = few_beside old now a s
-few_added old now a (inr s) few = let e = same_joined old now a s in omega arith
+few_added old now a (inl (inl s)) few = few_beside old now a s
+few_added old now a (inl (inr s)) few = let e = same_joined old now a s in omega arith
+few_added old now a (inr (between, m, s)) few = few_beside between now a s
 
 few_pushed : (w w' : List (List Known)) (to : ℕ) (a : Known) → IsPushed w to a w' → AreFew w → AreFew w'
 few_pushed w w' to a p few k =

@@ -17,7 +17,7 @@ use Rattle.verifier.specs.declared.known.Flow.TheVariants.{Next, Jump, Branch, E
 use Rattle.verifier.specs.Follows.{FlowOf, FlowTo, IsJoined, goes_behind}
 use Rattle.verifier.specs.Learnt.{IsLearnt, KeepsAnswered}
 use Rattle.verifier.specs.Waits.{IsAdded, IsPushed, IsSettled, IsTestSettled, MayPush}
-use Rattle.verifier.proofs.Places.{AddedCase, Stays, Comes, Meets, added_cases}
+use Rattle.verifier.proofs.Places.{AddedCase, Stays, Comes, Meets, Merges, added_cases}
 use Rattle.verifier.proofs.Ways.{contains_first, contains_second}
 
 -- how far a flow jumps
@@ -109,6 +109,7 @@ module _ (Q : ℕ → Known → Type 0) (meets : (k : ℕ) (a b c : Known) → I
     by (Stays h) = was b h
     by (Comes e) = rw (← e) new
     by (Meets one h j) = meets k one a b j (was one h) new
+    by (Merges one other h i j) = meets k one other b j (was one h) (was other i)
 
   pushed : (w w' : List (List Known)) (from to : ℕ) (a : Known) → from ≤ to → IsPushed w to a w' → Q to a → AllWait from w → AllWait from w'
   pushed w w' from to a le p new old k x lek h =

@@ -1,16 +1,16 @@
 -- The cases that wait at a slot, by the places that hold them.
-use Rattle.std.proofs.Common.{◌≡◌, ℕ, zero, suc, ◌+◌, ◌<◌, ◌≤◌, ◌++◌, Bool, true, false, List, [], ◌∷◌, Option, Some, None, Box, Global, refl, sym, ap, ◌∙◌, arith, get_or, set, take, drop, length, inl, inr, ◌⊎◌}
-use Rattle.std.specs.Prelude.{IfSome, is_some, not, ◌==◌}
+use Rattle.std.proofs.Common.{◌≡◌, ℕ, zero, suc, ◌+◌, ◌<◌, ◌≤◌, ◌++◌, Bool, true, false, List, [], ◌∷◌, Option, Some, None, Box, Global, refl, sym, ap, ◌∙◌, arith, get_or, set, take, drop, length, subst, inl, inr, ◌⊎◌}
+use Rattle.std.specs.Prelude.{IfSome, IsSome, is_some, not, ◌==◌}
 use Rattle.std.specs.List.{Contains, cons_option, filter_map}
 use Rattle.std.specs.Option.{option_map}
 use Rattle.std.specs.Box.{box_value}
 use Rattle.std.proofs.lemmas.Bool.{eqb-true}
-use Rattle.std.proofs.lemmas.List.{append-nil, drop-set, drop_more, length-set, take-append-drop, take-set, take_more, drop-set-lt}
+use Rattle.std.proofs.lemmas.List.{append-nil, drop-set, drop_more, length-set, set-get_or, set-set, take-append-drop, take-set, take_more, drop-set-lt}
 use Rattle.std.proofs.lemmas.List.Elements.{Contains-append_cases, Contains-append_left, Contains-append_right, filter_map-append}
 use Rattle.verifier.specs.declared.known.Known.{Known}
 use Rattle.verifier.specs.Follows.{IsJoined}
-use Rattle.verifier.specs.Waits.{IsAdded, IsJoinedIn}
-use Rattle.verifier.specs.WaitsParts.{IsFirst, IsFirstPlace}
+use Rattle.verifier.specs.Waits.{IsAdded, IsJoinedIn, IsMerged, StandsBeside}
+use Rattle.verifier.specs.WaitsParts.{IsFirst, IsFirstPlace, IsRoomFor}
 
 abbrev Boxes : Type 0
 Boxes = List (Option (Box Known Global))
@@ -53,26 +53,22 @@ room_left (None ∷ xs) (suc i) lt e = let r = room_left xs i (omega arith) e in
 room_left (Some b ∷ xs) (suc i) lt e = let r = room_left xs i (omega arith) e in omega arith
 
 -- a case comes to a free place
-pub added_beside : (xs : Boxes) (i : ℕ) (x : Option (Box Known Global)) (b : Box Known Global) → length xs ≡ 4 → i < 4 → get_or xs i None ≡ None → IsAdded (cases_of xs) b.value (cases_of (set (set xs i x) i (Some b)))
-added_beside xs i x b four lt e =
+placed : (xs : Boxes) (i : ℕ) (b : Box Known Global) → length xs ≡ 4 → i < 4 → get_or xs i None ≡ None → StandsBeside (cases_of xs) b.value (cases_of (set xs i (Some b)))
+placed xs i b four lt e =
     let inside : i < length xs = omega arith in
-    inl (record {
+    record {
       before = cases_of (take i xs);
       after = cases_of (drop (i + 1) xs);
       was = around_held xs i None inside e;
-      is = around_twice xs i x (Some b) inside;
+      is = around_set xs i (Some b) inside;
       room = let r = room_left xs i inside e in omega arith;
-    })
-
--- a copy of a case comes to a free place
-pub added_copy : (xs : Boxes) (i : ℕ) (x : Option (Box Known Global)) (b : Box Known Global) (known : Known) → b.value ≡ known → length xs ≡ 4 → i < 4 → get_or xs i None ≡ None → IsAdded (cases_of xs) known (cases_of (set (set xs i x) i (Some b)))
-added_copy xs i x b known same four lt e = rw (← same) (added_beside xs i x b four lt e)
+    }
 
 -- a case comes to one that waits
-pub added_joined : (xs : Boxes) (i : ℕ) (x : Option (Box Known Global)) (one joined : Box Known Global) (known : Known) → length xs ≡ 4 → i < 4 → get_or xs i None ≡ Some one → IsJoined one.value known joined.value → IsAdded (cases_of xs) known (cases_of (set (set xs i x) i (Some joined)))
-added_joined xs i x one joined known four lt e j =
+pub joined_in : (xs : Boxes) (i : ℕ) (x : Option (Box Known Global)) (one joined : Box Known Global) (known : Known) → length xs ≡ 4 → i < 4 → get_or xs i None ≡ Some one → IsJoined one.value known joined.value → IsJoinedIn (cases_of xs) known (cases_of (set (set xs i x) i (Some joined)))
+joined_in xs i x one joined known four lt e j =
     let inside : i < length xs = omega arith in
-    inr (record {
+    record {
       before = cases_of (take i xs);
       one = one.value;
       joined = joined.value;
@@ -80,7 +76,44 @@ added_joined xs i x one joined known four lt e j =
       was = around_held xs i (Some one) inside e;
       is = around_twice xs i x (Some joined) inside;
       join = j;
-    })
+    }
+
+-- the case in a place is joined with one in another, and the place is free
+pub merged : (xs now : Boxes) (from : ℕ) (one : Box Known Global) (known : Known) → length xs ≡ 4 → from < 4 → get_or xs from None ≡ Some one → IsRoomFor (set xs from None) one.value now None → get_or now from None ≡ None → IsRoomFor xs known now (Some from)
+merged xs now from one known four lt e room free =
+    let inside : from < length xs = omega arith in
+    let joined : IsJoinedIn (cases_of (set xs from None)) one.value (cases_of now) = room in (
+      free,
+      inr (record {
+        before = cases_of (take from xs);
+        one = one.value;
+        after = cases_of (drop (from + 1) xs);
+        was = around_held xs from (Some one) inside e;
+        joined = rw (around_set xs from None inside) at joined;
+      }),
+    )
+
+-- whether a place was told
+pub none_left : (o : Option ℕ) (r : Bool) → is_some o ≡ not r → r ≡ true → o ≡ None
+none_left None r q t = refl
+none_left (Some k) true q t = absurd cc
+none_left (Some k) false q t = absurd cc
+
+pub is_left : (o : Option ℕ) (r : Bool) → is_some o ≡ not r → r ≡ false → IsSome o
+is_left None true q t = absurd cc
+is_left None false q t = absurd cc
+is_left (Some k) r q t = refl
+
+-- a case is put back to its place
+pub put_back : (xs : Boxes) (i : ℕ) (o : Option (Box Known Global)) → length xs ≡ 4 → i < 4 → get_or xs i None ≡ o → set (set xs i None) i o ≡ xs
+put_back xs i o four lt e = set-set xs i None o ∙ subst (λ (p : Option (Box Known Global)). set xs i p ≡ xs) e (set-get_or xs i None)
+
+-- a case has come: where room was made for it, it stands there
+pub comes_to_place : (old xs : Boxes) (i : ℕ) (b : Box Known Global) (known : Known) → b.value ≡ known → length xs ≡ 4 → i < 4 → IsRoomFor old known xs (Some i) → IsAdded (cases_of old) known (cases_of (set xs i (Some b)))
+comes_to_place old xs i b known same four lt (free, inl e) =
+    let beside : StandsBeside (cases_of old) b.value (cases_of (set xs i (Some b))) = subst (λ (l : List Known). StandsBeside l b.value (cases_of (set xs i (Some b)))) e (placed xs i b four lt free) in
+    rw (← same) (inl (inl beside))
+comes_to_place old xs i b known same four lt (free, inr m) = rw (← same) (inr (cases_of xs, m, placed xs i b four lt free))
 
 -- ---- the first
 
@@ -164,13 +197,45 @@ pub data AddedCase (old : List Known) (known now : Known) : Type 0 where
   Stays : Contains old now → AddedCase old known now
   Comes : known ≡ now → AddedCase old known now
   Meets : (one : Known) → Contains old one → IsJoined one known now → AddedCase old known now
+  Merges : (one other : Known) → Contains old one → Contains old other → IsJoined one other now → AddedCase old known now
+
+beside_cases : (old now : List Known) (a b : Known) → StandsBeside old a now → Contains now b → (a ≡ b) ⊎ Contains old b
+beside_cases old now a b s h =
+    elim (middle_or_around s.before s.after a b (rw s.is at h)) [
+      | inl e ↦ inl e
+      | inr c ↦ inr (rw s.was c)
+    ]
+
+joined_cases : (old now : List Known) (a b : Known) → IsJoinedIn old a now → Contains now b → ((one : Known) × Contains old one × IsJoined one a b) ⊎ Contains old b
+joined_cases old now a b s h =
+    elim (middle_or_around s.before s.after s.joined b (rw s.is at h)) [
+      | inl e ↦ inl (s.one, rw s.was (has_middle s.before s.after s.one), rw e at s.join)
+      | inr c ↦ inr (rw s.was (has_around s.before s.after s.one b c))
+    ]
+
+-- of some cases of which two were joined
+merged_cases : (old between : List Known) (a b : Known) → IsMerged old between → Contains between b → AddedCase old a b
+merged_cases old between a b m h =
+    elim (joined_cases (m.before ++ m.after) between m.one b m.joined h) [
+      | inl j ↦ Merges j.0 m.one (was j.0 j.1) (rw m.was (has_middle m.before m.after m.one)) j.2
+      | inr c ↦ Stays (was b c)
+    ] where
+      was : (x : Known) → Contains (m.before ++ m.after) x → Contains old x
+      was x c = rw m.was (has_around m.before m.after m.one x c)
 
 pub added_cases : (old now : List Known) (a b : Known) → IsAdded old a now → Contains now b → AddedCase old a b
-added_cases old now a b (inl s) h = by (middle_or_around s.before s.after a b (rw s.is at h)) where
-  by : (a ≡ b) ⊎ Contains (s.before ++ s.after) b → AddedCase old a b
-  by (inl e) = Comes e
-  by (inr c) = Stays (rw s.was c)
-added_cases old now a b (inr s) h = by (middle_or_around s.before s.after s.joined b (rw s.is at h)) where
-  by : (s.joined ≡ b) ⊎ Contains (s.before ++ s.after) b → AddedCase old a b
-  by (inl e) = Meets s.one (rw s.was (has_middle s.before s.after s.one)) (rw e at s.join)
-  by (inr c) = Stays (rw s.was (has_around s.before s.after s.one b c))
+added_cases old now a b (inl (inl s)) h =
+    elim (beside_cases old now a b s h) [
+      | inl e ↦ Comes e
+      | inr c ↦ Stays c
+    ]
+added_cases old now a b (inl (inr s)) h =
+    elim (joined_cases old now a b s h) [
+      | inl j ↦ Meets j.0 j.1 j.2
+      | inr c ↦ Stays c
+    ]
+added_cases old now a b (inr (between, m, s)) h =
+    elim (beside_cases between now a b s h) [
+      | inl e ↦ Comes e
+      | inr c ↦ merged_cases old between a b m c
+    ]

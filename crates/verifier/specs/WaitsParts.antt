@@ -1,5 +1,5 @@
 -- Beside Waits: only the contracts of this crate's own parts and their proofs cite this, no public clause.
-use Rattle.std.specs.Prelude.{◌≡◌, ℕ, ℤ, pos, ◌+◌, ◌<◌, List, [], ◌∷◌, ◌++◌, Box, IsSome, Option, Some, None, Ok, length, map, slice_index_or, take}
+use Rattle.std.specs.Prelude.{◌≡◌, ◌⊎◌, ℕ, ℤ, pos, ◌+◌, ◌<◌, List, [], ◌∷◌, ◌++◌, Box, IsSome, Option, Some, None, Ok, length, map, slice_index_or, take}
 use Rattle.std.specs.Box.{box_value}
 use Rattle.std.specs.List.{filter_map}
 use Rattle.std.specs.Option.{option_map}
@@ -14,7 +14,7 @@ use Rattle.verifier.specs.declared.walk.Passage.TheVariants as passage
 use Rattle.verifier.specs.declared.walk.Upshot.{Upshot}
 use Rattle.verifier.specs.declared.walk.Upshot.TheVariants.{Passed, Refused}
 use Rattle.verifier.specs.Kinds.{LeavesKnown}
-use Rattle.verifier.specs.Waits.{EachGoesOn, GoesOn, IsPassed, IsRefusedAt, IsRefusedHere, IsVisited, nowhere}
+use Rattle.verifier.specs.Waits.{EachGoesOn, GoesOn, IsJoinedIn, IsMerged, IsPassed, IsRefusedAt, IsRefusedHere, IsVisited, nowhere}
 
 -- a jump stays among so many slots
 abbrev pub IsFar : Option ℤ → ℕ → ℕ → Type 0
@@ -58,3 +58,16 @@ abbrev pub IsFirstPlace : List (Option (Box Known Global)) → Option ℕ → Ty
 IsFirstPlace places None = filter_map (option_map box_value) places ≡ []
 IsFirstPlace places (Some place) =
     (filter_map (option_map box_value) (take place places) ≡ []) × IsSome (slice_index_or places place None)
+
+-- the cases in some places
+abbrev pub cases_in : List (Option (Box Known Global)) → List Known
+cases_in places = filter_map (option_map box_value) places
+
+-- of some cases none is joined, or one with another
+abbrev pub HasRoomMade : List Known → List Known → Type 0
+HasRoomMade old now = (now ≡ old) ⊎ IsMerged old now
+
+-- a case that comes has been joined with one of those in some places, or a place is free for it
+abbrev pub IsRoomFor : List (Option (Box Known Global)) → Known → List (Option (Box Known Global)) → Option ℕ → Type 0
+IsRoomFor old known now None = IsJoinedIn (cases_in old) known (cases_in now)
+IsRoomFor old known now (Some place) = (slice_index_or now place None ≡ None) × HasRoomMade (cases_in old) (cases_in now)

@@ -1,10 +1,10 @@
 //! What waits at a slot: a few cases of what is known.
 
-ghost use Rattle.std.specs.Prelude.{◌≡◌, ◌<◌, ◌==◌, [], ◌∷◌, IfSome, IsOk, length};
+ghost use Rattle.std.specs.Prelude.{◌≡◌, ◌<◌, ◌==◌, ℕ, [], ◌∷◌, IfSome, IsOk, IsSome, None, length, slice_index_or};
 ghost use Rattle.std.specs.Option.{option_map};
 ghost use Rattle.std.specs.Box.{box_value};
 ghost use Rattle.verifier.specs.Waits.{IsAdded};
-ghost use Rattle.verifier.specs.WaitsParts.{IsFirst, IsFirstPlace};
+ghost use Rattle.verifier.specs.WaitsParts.{IsFirst, IsFirstPlace, IsRoomFor};
 
 use crate::difference::MUCH;
 use crate::known::Known;
@@ -32,6 +32,13 @@ impl Model for Cases {
     ghost view = { λ c. filter_map (option_map box_value) c.places };
 }
 
+/// A number of a place: the last one's for those that are greater.
+fn within(place: usize) -> usize
+    ensures { result < 4 }
+{
+    if place < MOST { place } else { MOST - 1 }
+}
+
 /// The place of the first case.
 fn first_place(places: &[Option<Box<Known>>; MOST]) -> Option<usize>
     ensures inside { IfSome result (λ place. place < 4) }
@@ -46,26 +53,53 @@ fn first_place(places: &[Option<Box<Known>>; MOST]) -> Option<usize>
     None
 }
 
-/// The place of the case of which a join with another loses least.
-fn nearest(places: &[Option<Box<Known>>; MOST], known: &Known) -> usize {
-    let mut least = u32::MAX;
-    let mut nearest = 0;
-    for place in 0..MOST {
+/// Two of some cases, and what their join would lose: one that waits in a place, and another one in a place, or the one
+/// that comes.
+#[derive(Clone, Copy)]
+struct Pair {
+    lost: u32,
+    place: usize,
+    other: Option<usize>,
+}
+
+/// The pair of which a join loses least: an earlier one, or a case, waiting in a place or not, with one from a place on.
+fn nearest_to(
+    places: &[Option<Box<Known>>; MOST],
+    from: usize,
+    known: &Known,
+    other: Option<usize>,
+    earlier: Pair,
+) -> Pair {
+    let mut nearest = earlier;
+    for place in from..MOST {
         if let Some(waiting) = &places[place] {
-            let lost = waiting.loss(known, least);
-            if lost < least {
-                least = lost;
-                nearest = place;
+            let lost = waiting.loss(known, nearest.lost);
+            if lost < nearest.lost {
+                nearest = Pair { lost, place, other };
             }
         }
     }
     nearest
 }
 
+/// The pair of which a join loses least, among all that wait and the one that comes.
+fn nearest(places: &[Option<Box<Known>>; MOST], known: &Known) -> Pair {
+    let none = Pair {
+        lost: u32::MAX,
+        place: 0,
+        other: None,
+    };
+    let mut nearest = nearest_to(places, 0, known, None, none);
+    for other in 0..MOST {
+        if let Some(waiting) = &places[other] {
+            nearest = nearest_to(places, other + 1, waiting, Some(other), nearest);
+        }
+    }
+    nearest
+}
+
 /// The first place of a case that a join would cost little, or else the first free one.
-fn place_alone(places: &[Option<Box<Known>>; MOST], known: &Known) -> Option<usize>
-    ensures { length places.now ≡ 4 }
-{
+fn place_alone(places: &[Option<Box<Known>>; MOST], known: &Known) -> Option<usize> {
     let mut free = None;
     for place in 0..MOST {
         match &places[place] {
@@ -77,17 +111,66 @@ fn place_alone(places: &[Option<Box<Known>>; MOST], known: &Known) -> Option<usi
     free
 }
 
-/// Where a case goes: to one of which a join loses little, or to a free place, or, where there is none, to the one of which
-/// a join loses least.
-fn place_for(places: &[Option<Box<Known>>; MOST], known: &Known) -> usize
-    ensures inside { result < 4 }
-    ensures four { length places.now ≡ 4 }
+/// A case is joined with the one in a place; where the place is free, it may go there.
+fn settle(places: &mut [Option<Box<Known>>; MOST], place: usize, known: &Known) -> Option<usize>
+    requires { place < 4 }
+    ensures four { length places.new ≡ 4 }
+    ensures inside { IfSome result (λ place. place < 4) }
+    ensures room { IsRoomFor places.old known.now places.new result }
+    ensures free { (k : ℕ) → slice_index_or places.old k None ≡ None → slice_index_or places.new k None ≡ None }
+    ensures same { IsSome result → places.new ≡ places.old }
 {
-    let place = match place_alone(places, known) {
-        Some(place) => place,
-        None => nearest(places, known),
-    };
-    if place < MOST { place } else { MOST - 1 }
+    match places[place].take() {
+        Some(mut waiting) => {
+            waiting.join(known);
+            places[place] = Some(waiting);
+            None
+        }
+        None => Some(place),
+    }
+}
+
+/// The case in one place is joined with the one in another, so that a case may go to its place. Where there are no two,
+/// that case is settled there.
+fn merge(
+    places: &mut [Option<Box<Known>>; MOST],
+    into: usize,
+    from: usize,
+    known: &Known,
+) -> Option<usize>
+    requires into { into < 4 }
+    requires from { from < 4 }
+    ensures four { length places.new ≡ 4 }
+    ensures inside { IfSome result (λ place. place < 4) }
+    ensures room { IsRoomFor places.old known.now places.new result }
+{
+    match places[from].take() {
+        Some(one) => {
+            if settle(places, into, &one).is_none() {
+                return Some(from);
+            }
+            places[from] = Some(one);
+            settle(places, from, known)
+        }
+        None => Some(from),
+    }
+}
+
+/// Where a case goes; nowhere where it was joined with one that waits. Where all places are taken, the two are joined of
+/// which that loses least.
+fn room_for(places: &mut [Option<Box<Known>>; MOST], known: &Known) -> Option<usize>
+    ensures four { length places.new ≡ 4 }
+    ensures inside { IfSome result (λ place. place < 4) }
+    ensures room { IsRoomFor places.old known.now places.new result }
+{
+    if let Some(place) = place_alone(places, known) {
+        return settle(places, within(place), known);
+    }
+    let Pair { place, other, .. } = nearest(places, known);
+    match other {
+        Some(from) => merge(places, within(place), within(from), known),
+        None => settle(places, within(place), known),
+    }
 }
 
 impl Cases {
@@ -126,31 +209,21 @@ impl Cases {
         }
     }
 
-    /// Adds a case, or joins it with one of them.
+    /// Adds a case: beside them, or joined with one of them, or beside them with two of them joined.
     pub(crate) fn push(&mut self, known: Box<Known>)
         ensures { IsAdded self.old known.value self.new }
     {
-        let place = place_for(&self.places, &known);
-        match self.places[place].take() {
-            Some(mut waiting) => {
-                waiting.join(&known);
-                self.places[place] = Some(waiting);
-            }
-            None => self.places[place] = Some(known),
+        if let Some(place) = room_for(&mut self.places, &known) {
+            self.places[place] = Some(known);
         }
     }
 
-    /// Adds a copy of a case, or joins it with one of them.
+    /// Adds a copy of a case in the same way.
     pub(crate) fn push_copy(&mut self, alloc: Global, known: &Known) -> Result<(), AllocError>
         ensures { IsOk result → IsAdded self.old known.now self.new }
     {
-        let place = place_for(&self.places, known);
-        match self.places[place].take() {
-            Some(mut waiting) => {
-                waiting.join(known);
-                self.places[place] = Some(waiting);
-            }
-            None => self.places[place] = Some(Box::new(alloc, *known)?),
+        if let Some(place) = room_for(&mut self.places, known) {
+            self.places[place] = Some(Box::new(alloc, *known)?);
         }
         Ok(())
     }
