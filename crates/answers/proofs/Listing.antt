@@ -1,13 +1,15 @@
 -- The names of the hooks, one after the other.
 use Rattle.std.proofs.Common.{◌≡◌, ◌≤◌, ◌+◌, inl, inr, ℕ, List, [], ◌∷◌, ◌++◌, Some, None, length, Bor, map, take, take_all, refl, sym, ap, ◌∙◌, arith}
-use Rattle.std.specs.Prelude.{slice_get}
+use Rattle.std.specs.Prelude.{◌*◌, All, codes, slice_get}
 use Rattle.std.proofs.lemmas.List.{map-append}
 use Rattle.std.proofs.Math.Seq.{take-suc}
 use Rattle.std.proofs.lemmas.Option.{slice_get_cases, slice_get_within, get_or_from_slice_get}
-use Rattle.hook_host.specs.Names.{AreHookNames}
+use Rattle.std.proofs.lemmas.List.Elements.{All-tail}
+use Rattle.hook_host.specs.Names.{AreHookNames, IsHookName}
 use Rattle.messages.specs.Reply.{plain}
-use Rattle.messages.specs.Reply.Body.{Hooks}
-use Rattle.messages.specs.Small.{IsSmallReply}
+use Rattle.messages.specs.Members.Member.{Texts}
+use Rattle.messages.specs.Reply.Body.{Told}
+use Rattle.messages.specs.Small.{IsSmallReply, texts_size}
 use native.Mathlib.Numerals.{unary_clauses}
 
 pub map_push : (items : List (Bor (List ℕ))) (name : Bor (List ℕ)) →
@@ -29,9 +31,18 @@ all_named names now n is none =
     let past : length names ≤ n = elim (slice_get_cases names n).1 [ inl p ↦ (let found = p.2 in absurd (cc)) | inr p ↦ p.0 ] in
     is ∙ take_all n names past
 
+-- names are short
+names_size : (names : List (List ℕ)) → All IsHookName names → texts_size names ≤ 65 * length names
+names_size [] each = omega arith
+names_size (name ∷ names) each =
+    let here : IsHookName name = each 0 [] (omega arith) in
+    let short = here.short in
+    let more = names_size names (All-tail IsHookName name names each) in
+    omega (arith, short, more)
+
 -- a host's names are few and short
-pub names_small : (names : List (List ℕ)) → AreHookNames names → IsSmallReply (plain 200 (Hooks names))
+pub names_small : (names : List (List ℕ)) → AreHookNames names → IsSmallReply (plain 200 (Told (Texts (codes "hooks") names ∷ [])))
 names_small names are = record {
   status = refl;
-  short = (are.few, λ i x at. (let name = are.each i x at in omega (arith, name.short)));
+  short = (let size = names_size names are.each in let few = are.few in omega (arith, size, few));
 }

@@ -1,5 +1,5 @@
 -- The reply that an answer is.
-use Rattle.std.specs.Prelude.{ℕ, List, [], codes, Option, Some, None, option_copied}
+use Rattle.std.specs.Prelude.{ℕ, List, [], ◌∷◌, codes, Option, Some, None, option_copied}
 use Rattle.params.specs.Scope.{scope_text}
 use Rattle.pkce.specs.Token.{token_text}
 use Rattle.std.specs.Option.{option_map_or}
@@ -10,7 +10,8 @@ use Rattle.token_store.specs.Found.{owner_number}
 use Rattle.hook_host.specs.Faults.{hook_fault_text}
 use Rattle.messages.specs.declared.request.Draws.{Draws}
 use Rattle.messages.specs.declared.error.ErrorName.{ErrorName}
-use Rattle.messages.specs.Reply.{Reply, Body as body, plain, sent_back}
+use Rattle.messages.specs.Members.Member.{Texts}
+use Rattle.messages.specs.Reply.{Reply, Body as body, consent_body, hook_body, plain, refused_body, sent_back}
 use Rattle.messages.specs.Written.{error_text}
 use Rattle.answers.specs.Outcomes.{status_of}
 use Rattle.answers.specs.declared.answer.Answer.{Answer}
@@ -46,12 +47,12 @@ reply_of rules names NotFound = plain 404 body.Empty
 reply_of rules names NotAllowed = plain 405 body.Empty
 reply_of rules names (Access draw scope life) = access_reply rules draw scope life
 reply_of rules names (Both draws scope life) = both_reply rules draws scope life
-reply_of rules names (Consented mask) = plain 200 (body.Consent (scope_text rules.scopes mask))
+reply_of rules names (Consented mask) = plain 200 (consent_body (scope_text rules.scopes mask))
 reply_of rules names (CodeSent uri draw state) = code_reply uri.now draw (option_copied state)
 reply_of rules names (TurnedBack uri error state) = error_reply uri.now error (option_copied state)
 reply_of rules names (Active client issued expires scope owner kind) =
     plain 200 (body.Active (id_of rules client) expires issued (scope_text rules.scopes scope) (sub_of (owner_number owner) rules.owners) kind)
 reply_of rules names Inactive = plain 200 body.Inactive
-reply_of rules names (HookDone name) = plain 200 (body.Hook name.now)
-reply_of rules names (HookRefused fault) = plain 400 (body.HookRefused (hook_fault_text fault))
-reply_of rules names Hooks = plain 200 (body.Hooks names)
+reply_of rules names (HookDone name) = plain 200 (hook_body name.now)
+reply_of rules names (HookRefused fault) = plain 400 (refused_body (hook_fault_text fault))
+reply_of rules names Hooks = plain 200 (body.Told (Texts (codes "hooks") names ∷ []))

@@ -21,3 +21,13 @@ pub record Setting : Type 0 where
   pub host : HostSays
   pub moment : ℕ
   pub draws : Draws
+
+-- what a document is told by: all but the draws and the host's answers
+pub record Situation : Type 0 where
+  pub rules : RegistryRecord
+  pub history : List Event
+  pub hooks : List (List ℕ)
+  pub moment : ℕ
+
+abbrev pub situation_of : Setting → Situation
+situation_of s = record { rules = s.rules; history = s.history; hooks = s.host.names; moment = s.moment }

@@ -1,11 +1,11 @@
 -- How requests are counted.
-use Rattle.std.specs.Prelude.{ℕ, ◌+◌, ◌-◌, ◌^◌, ◌==◌, min, if◌then◌else◌, Option, Some, None}
+use Rattle.std.specs.Prelude.{ℕ, ◌+◌, ◌-◌, ◌^◌, ◌==◌, min, if◌then◌else◌, slice_index_or, slice_set, Option, Some, None}
 use Rattle.answers.specs.declared.answer.Answer.{Answer}
 use Rattle.answers.specs.declared.answer.Answer.TheVariants as answer
 use Rattle.answers.specs.declared.want.Want.{Want}
 use Rattle.answers.specs.declared.want.Want.TheVariants.{Memory, StoreRoom, FreshDraw, ConsentRoom}
 use Rattle.answers.specs.declared.endpoint.Endpoint.{Endpoint}
-use Rattle.answers.specs.declared.endpoint.Endpoint.TheVariants.{Authorize, GiveConsent, IssueToken, RevokeToken, Introspect, InstallHook, RemoveHook, ListHooks}
+use Rattle.answers.specs.Paths.{place_of}
 use Rattle.answers.specs.declared.tally.Asked.{Asked}
 use Rattle.answers.specs.declared.tally.Replied.{Replied}
 use Rattle.answers.specs.declared.tally.Wanted.{Wanted}
@@ -23,16 +23,14 @@ cause_of (answer.Unavailable want) = Some (Wants want)
 cause_of (answer.Denied error) = Some Denied
 cause_of other = None
 
+-- how many requests there were at the endpoint
+abbrev pub count_at : Asked → Endpoint → ℕ
+count_at asked endpoint = slice_index_or asked.counts (place_of endpoint) 0
+
 -- one more request at the endpoint, or at a path of none
 abbrev pub asked_at : Asked → Option Endpoint → Asked
-asked_at asked (Some Authorize) = record asked { authorize = one_more asked.authorize }
-asked_at asked (Some GiveConsent) = record asked { consent = one_more asked.consent }
-asked_at asked (Some IssueToken) = record asked { token = one_more asked.token }
-asked_at asked (Some RevokeToken) = record asked { revoke = one_more asked.revoke }
-asked_at asked (Some Introspect) = record asked { introspect = one_more asked.introspect }
-asked_at asked (Some InstallHook) = record asked { hook_installation = one_more asked.hook_installation }
-asked_at asked (Some RemoveHook) = record asked { hook_removal = one_more asked.hook_removal }
-asked_at asked (Some ListHooks) = record asked { hook_list = one_more asked.hook_list }
+asked_at asked (Some endpoint) =
+    record asked { counts = slice_set asked.counts (place_of endpoint) (one_more (count_at asked endpoint)) }
 asked_at asked None = record asked { nowhere = one_more asked.nowhere }
 
 -- one more reply of the status

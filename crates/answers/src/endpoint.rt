@@ -1,6 +1,7 @@
-//! The endpoints and their paths.
-ghost use Rattle.std.specs.Prelude.{◌≡◌, Some};
-ghost use Rattle.answers.specs.Paths.{endpoint_at, method_at};
+//! The endpoints: their paths, their methods, and how their requests are counted.
+ghost use Rattle.std.specs.Prelude.{◌≡◌, ◌<◌, Some, bytes_eq, find, slice_get};
+ghost use Rattle.answers.specs.Paths.{endpoint_at, method_at, name_at, path_at, place_of};
+ghost use Rattle.answers.specs.declared.endpoint.TheConstants.{ENDPOINTS};
 
 /// What a path is for.
 #[derive(Clone, Copy, Debug, PartialEq, Eq)]
@@ -12,39 +13,80 @@ pub enum Endpoint {
     Introspect,
     InstallHook,
     RemoveHook,
-    ListHooks,
+    /// The document is told, by reading alone.
+    Read(Document),
 }
 
+/// What is told of a server, by GET.
+#[derive(Clone, Copy, Debug, PartialEq, Eq)]
+pub enum Document {
+    /// The names of its hooks.
+    Hooks,
+}
+
+/// How many endpoints there are.
+pub const ENDPOINT_COUNT: usize = 8;
+
+/// All endpoints, each at its place.
+pub const ENDPOINTS: [Endpoint; ENDPOINT_COUNT] = [
+    Endpoint::Authorize,
+    Endpoint::GiveConsent,
+    Endpoint::IssueToken,
+    Endpoint::RevokeToken,
+    Endpoint::Introspect,
+    Endpoint::InstallHook,
+    Endpoint::RemoveHook,
+    Endpoint::Read(Document::Hooks),
+];
+
 impl Endpoint {
-    /// The endpoint of a path, byte by byte.
-    pub fn at(path: &[u8]) -> Option<Endpoint>
-        ensures { result ≡ endpoint_at path.now }
+    // Its place among all.
+    pub(crate) fn place(self) -> usize
+        ensures value { result ≡ place_of self }
+        ensures there { slice_get ENDPOINTS result ≡ Some self }
+        ensures inside { result < 8 }
     {
-        if path == b"/authorize".as_slice() {
-            return Some(Endpoint::Authorize);
+        match self {
+            Endpoint::Authorize => 0,
+            Endpoint::GiveConsent => 1,
+            Endpoint::IssueToken => 2,
+            Endpoint::RevokeToken => 3,
+            Endpoint::Introspect => 4,
+            Endpoint::InstallHook => 5,
+            Endpoint::RemoveHook => 6,
+            Endpoint::Read(Document::Hooks) => 7,
         }
-        if path == b"/consent".as_slice() {
-            return Some(Endpoint::GiveConsent);
+    }
+
+    fn path(self) -> &'static [u8]
+        ensures { result.now ≡ path_at self }
+    {
+        match self {
+            Endpoint::Authorize => b"/authorize".as_slice(),
+            Endpoint::GiveConsent => b"/consent".as_slice(),
+            Endpoint::IssueToken => b"/token".as_slice(),
+            Endpoint::RevokeToken => b"/revoke".as_slice(),
+            Endpoint::Introspect => b"/introspect".as_slice(),
+            Endpoint::InstallHook => b"/hooks".as_slice(),
+            Endpoint::RemoveHook => b"/hooks/remove".as_slice(),
+            Endpoint::Read(Document::Hooks) => b"/hooks/list".as_slice(),
         }
-        if path == b"/token".as_slice() {
-            return Some(Endpoint::IssueToken);
+    }
+
+    /// The name under which its requests are counted.
+    pub fn name(self) -> &'static str
+        ensures { result.now ≡ name_at self }
+    {
+        match self {
+            Endpoint::Authorize => "authorize",
+            Endpoint::GiveConsent => "consent",
+            Endpoint::IssueToken => "token",
+            Endpoint::RevokeToken => "revoke",
+            Endpoint::Introspect => "introspect",
+            Endpoint::InstallHook => "hooks",
+            Endpoint::RemoveHook => "hooks_remove",
+            Endpoint::Read(Document::Hooks) => "hooks_list",
         }
-        if path == b"/revoke".as_slice() {
-            return Some(Endpoint::RevokeToken);
-        }
-        if path == b"/introspect".as_slice() {
-            return Some(Endpoint::Introspect);
-        }
-        if path == b"/hooks".as_slice() {
-            return Some(Endpoint::InstallHook);
-        }
-        if path == b"/hooks/remove".as_slice() {
-            return Some(Endpoint::RemoveHook);
-        }
-        if path == b"/hooks/list".as_slice() {
-            return Some(Endpoint::ListHooks);
-        }
-        None
     }
 
     /// The one method that it answers.
@@ -52,8 +94,26 @@ impl Endpoint {
         ensures { result.now ≡ method_at self }
     {
         match self {
-            Endpoint::Authorize | Endpoint::ListHooks => b"GET".as_slice(),
+            Endpoint::Authorize | Endpoint::Read(_) => b"GET".as_slice(),
             _ => b"POST".as_slice(),
         }
+    }
+
+    /// The endpoint of a path, byte by byte.
+    pub fn at(path: &[u8]) -> Option<Endpoint>
+        ensures { result ≡ endpoint_at path.now }
+    {
+        among(path, &ENDPOINTS)
+    }
+}
+
+// The first of some endpoints that has the path.
+fn among(path: &[u8], endpoints: &[Endpoint]) -> Option<Endpoint>
+    ensures { result ≡ find (λ endpoint. bytes_eq path.now (path_at endpoint)) endpoints.now }
+{
+    match endpoints {
+        [endpoint, ..] if path == endpoint.path() => Some(*endpoint),
+        [_, others @ ..] => among(path, others),
+        [] => None,
     }
 }

@@ -15,7 +15,7 @@ mod writing;
 pub use answer::Answer;
 pub use asking::{authenticated_client, form, named_client, owner, scope, scope_within};
 pub use decision::Decision;
-pub use endpoint::Endpoint;
+pub use endpoint::{Document, ENDPOINTS, Endpoint};
 pub use halt::{Halt, status_of};
 pub use tally::{Asked, Cause, Replied, Tally, Wanted};
 pub use texts::digest_told;

@@ -1,23 +1,16 @@
 //! How many requests were answered, and how.
 ghost use Rattle.std.specs.Prelude.{◌≡◌};
-ghost use Rattle.answers.specs.Tallies.{asked_at, cause_of, with_request, one_more, replied, wanted};
+ghost use Rattle.answers.specs.Tallies.{asked_at, cause_of, count_at, with_request, one_more, replied, wanted};
 
 use crate::answer::Answer;
-use crate::endpoint::Endpoint;
+use crate::endpoint::{ENDPOINT_COUNT, Endpoint};
 use crate::want::Want;
 use http::StatusCode;
 
-/// How many requests there were at each endpoint.
+/// How many requests there were at each endpoint, by its place.
 #[derive(Clone, Copy, Default)]
 pub struct Asked {
-    pub authorize: u64,
-    pub consent: u64,
-    pub token: u64,
-    pub revoke: u64,
-    pub introspect: u64,
-    pub hook_installation: u64,
-    pub hook_removal: u64,
-    pub hook_list: u64,
+    counts: [u64; ENDPOINT_COUNT],
     /// At paths of no endpoint.
     pub nowhere: u64,
 }
@@ -83,22 +76,23 @@ fn one_more(count: u64) -> u64
 }
 
 impl Asked {
+    /// How many there were at the endpoint.
+    pub fn count(&self, endpoint: Endpoint) -> u64
+        ensures { result ≡ count_at self.now endpoint }
+    {
+        match self.counts.get(endpoint.place()) {
+            Some(count) => *count,
+            None => 0,
+        }
+    }
+
     // With one more at the endpoint, or at none.
     fn at(self, endpoint: Option<Endpoint>) -> Asked
         ensures { result ≡ asked_at self endpoint }
     {
         let mut asked = self;
         match endpoint {
-            Some(Endpoint::Authorize) => asked.authorize = one_more(asked.authorize),
-            Some(Endpoint::GiveConsent) => asked.consent = one_more(asked.consent),
-            Some(Endpoint::IssueToken) => asked.token = one_more(asked.token),
-            Some(Endpoint::RevokeToken) => asked.revoke = one_more(asked.revoke),
-            Some(Endpoint::Introspect) => asked.introspect = one_more(asked.introspect),
-            Some(Endpoint::InstallHook) => {
-                asked.hook_installation = one_more(asked.hook_installation)
-            }
-            Some(Endpoint::RemoveHook) => asked.hook_removal = one_more(asked.hook_removal),
-            Some(Endpoint::ListHooks) => asked.hook_list = one_more(asked.hook_list),
+            Some(endpoint) => asked.counts[endpoint.place()] = one_more(self.count(endpoint)),
             None => asked.nowhere = one_more(asked.nowhere),
         }
         asked

@@ -1,12 +1,13 @@
 //! The one place that writes replies.
-ghost use Rattle.std.specs.Prelude.{◌≡◌, ◌≤◌, IfOk, IsOk, IfSome, length, map};
+ghost use Rattle.std.specs.Prelude.{◌≡◌, ◌≤◌, [], ◌∷◌, IfOk, IsOk, IfSome, codes, length, map};
 ghost use Rattle.std.specs.Option.{option_copied};
 ghost use Rattle.clients.specs.Limits.{identifier_limit, key_limit};
 ghost use Rattle.clients.specs.Owners.{sub_of};
 ghost use Rattle.token_store.specs.Found.{owner_number};
 ghost use Rattle.hook_host.specs.Names.{AreHookNames};
-ghost use Rattle.messages.specs.Reply.{IsBare, plain};
-ghost use Rattle.messages.specs.Reply.Body.{Consent, HookRefused, Hooks};
+ghost use Rattle.messages.specs.Members.Member.{Texts};
+ghost use Rattle.messages.specs.Reply.{IsBare, consent_body, plain, refused_body};
+ghost use Rattle.messages.specs.Reply.Body.{Told};
 ghost use Rattle.messages.specs.Written.{in_writing};
 ghost use Rattle.pkce.specs.Token.{token_text};
 ghost use Rattle.hook_host.specs.Faults.{hook_fault_text};
@@ -22,8 +23,8 @@ use consent::{ClientNo, OwnerNo, ScopeSet};
 use hook_host::{HookFault, HookHost};
 use http::StatusCode;
 use messages::{
-    ActiveToken, Draws, ErrorName, Response, active, consent, failure, hook, hook_refused, hooks,
-    inactive, redirect, tokens,
+    ActiveToken, Draws, ErrorName, Member, Response, active, failure, inactive, redirect, tokens,
+    told,
 };
 use pkce::token_text;
 use std::alloc::{AllocError, Global};
@@ -60,19 +61,23 @@ fn both(
 }
 
 fn consented(alloc: Global, rules: &Registry, mask: ScopeSet) -> Result<Response, AllocError>
-    ensures value { IfOk result (λ reply. reply ≡ in_writing (plain 200 (Consent (scope_text rules.now.scopes mask)))) }
+    ensures value { IfOk result (λ reply. reply ≡ in_writing (plain 200 (consent_body (scope_text rules.now.scopes mask)))) }
     ensures short { IfOk result IsShortReply }
 {
     let scope = rules.catalogue().scope_text(alloc, mask)?;
-    consent(alloc, &scope)
+    told(alloc, StatusCode::OK, &[Member::Text("scope", &scope)])
 }
 
 fn fault(alloc: Global, fault: HookFault) -> Result<Response, AllocError>
-    ensures value { IfOk result (λ reply. reply ≡ in_writing (plain 400 (HookRefused (hook_fault_text fault)))) }
+    ensures value { IfOk result (λ reply. reply ≡ in_writing (plain 400 (refused_body (hook_fault_text fault)))) }
     ensures short { IfOk result IsShortReply }
 {
     let detail = format!(in alloc; "{fault}")?;
-    hook_refused(alloc, &detail)
+    let members = [
+        Member::Text("detail", &detail),
+        Member::Text("error", "hook_refused"),
+    ];
+    told(alloc, StatusCode::BAD_REQUEST, &members)
 }
 
 // The id of the client of the number.
@@ -114,11 +119,11 @@ fn hook_names<H: HookHost>(alloc: Global, host: &H) -> Result<Vec<&str>, AllocEr
 }
 
 fn all_hooks<H: HookHost>(alloc: Global, host: &H) -> Result<Response, AllocError>
-    ensures value { IfOk result (λ reply. reply ≡ in_writing (plain 200 (Hooks (H.names host.now)))) }
+    ensures value { IfOk result (λ reply. reply ≡ in_writing (plain 200 (Told (Texts (codes "hooks") (H.names host.now) ∷ [])))) }
     ensures short { IfOk result IsShortReply }
 {
     let names = hook_names(alloc, host)?;
-    hooks(alloc, &names)
+    told(alloc, StatusCode::OK, &[Member::Texts("hooks", &names)])
 }
 
 // Sent back with a code.
@@ -191,7 +196,7 @@ pub fn write<H: HookHost>(
             live(alloc, token)
         }
         Answer::Inactive => inactive(alloc),
-        Answer::HookDone { name } => hook(alloc, name),
+        Answer::HookDone { name } => told(alloc, StatusCode::OK, &[Member::Text("name", name)]),
         Answer::HookRefused(refused) => fault(alloc, refused),
         Answer::Hooks => all_hooks(alloc, host),
     }

@@ -1,6 +1,11 @@
 -- The line of a report, as tokens of JSON.
 use Rattle.std.specs.Prelude.{ℕ, List, [], ◌∷◌, ◌++◌, codes, decimal, Option, Some, None}
+use Rattle.std.specs.List.{flat_map}
 use Rattle.json.specs.Token.{Token, begin_object, end_object, key, number}
+use Rattle.answers.specs.Paths.{name_at}
+use Rattle.answers.specs.Tallies.{count_at}
+use Rattle.answers.specs.declared.endpoint.TheConstants.{ENDPOINTS}
+use Rattle.answers.specs.declared.endpoint.Endpoint.{Endpoint}
 use Rattle.answers.specs.declared.tally.Asked.{Asked}
 use Rattle.answers.specs.declared.tally.Replied.{Replied}
 use Rattle.answers.specs.declared.tally.Wanted.{Wanted}
@@ -16,17 +21,14 @@ connections_tokens report =
     key (codes "connections") ∷ begin_object ∷ count_tokens (codes "open") report.open
     ++ count_tokens (codes "accepted") report.accepted ++ end_object ∷ []
 
+-- how many requests there were at the endpoint
+abbrev pub endpoint_tokens : Asked → Endpoint → List Token
+endpoint_tokens asked endpoint = count_tokens (name_at endpoint) (count_at asked endpoint)
+
 -- how many requests there were, by their endpoints
 abbrev pub asked_tokens : Asked → List Token
 asked_tokens asked =
-    key (codes "requests") ∷ begin_object ∷ count_tokens (codes "authorize") asked.authorize
-    ++ count_tokens (codes "consent") asked.consent
-    ++ count_tokens (codes "token") asked.token
-    ++ count_tokens (codes "revoke") asked.revoke
-    ++ count_tokens (codes "introspect") asked.introspect
-    ++ count_tokens (codes "hooks") asked.hook_installation
-    ++ count_tokens (codes "hooks_remove") asked.hook_removal
-    ++ count_tokens (codes "hooks_list") asked.hook_list
+    key (codes "requests") ∷ begin_object ∷ flat_map (endpoint_tokens asked) ENDPOINTS
     ++ count_tokens (codes "nowhere") asked.nowhere ++ end_object ∷ []
 
 -- how many replies, by their statuses

@@ -1,9 +1,11 @@
 //! Reports as lines of JSON.
 ghost use Rattle.std.specs.Prelude.{◌≡◌, ◌++◌, IfOk, OnOk};
+ghost use Rattle.std.specs.List.{flat_map};
 ghost use Rattle.json.specs.Print.{print};
-ghost use Rattle.daemon.specs.ReportTokens.{asked_tokens, connections_tokens, kept_tokens, replied_tokens, report_tokens, state_tokens, wanted_tokens};
+ghost use Rattle.daemon.specs.ReportTokens.{asked_tokens, connections_tokens, endpoint_tokens, kept_tokens, replied_tokens, report_tokens, state_tokens, wanted_tokens};
 
-use endpoints::{Asked, Replied, Wanted};
+use answers::ENDPOINTS;
+use endpoints::{Asked, Endpoint, Replied, Wanted};
 use event_loop::Report;
 use messages::Object;
 use std::alloc::{AllocError, Global};
@@ -21,19 +23,22 @@ fn connections(line: &mut Object, report: &Report) -> Result<(), AllocError>
     line.end()
 }
 
+// How many requests there were at these endpoints.
+fn counts(line: &mut Object, asked: &Asked, endpoints: &[Endpoint]) -> Result<(), AllocError>
+    ensures { OnOk result (line.new.json.tokens ≡ line.old.json.tokens ++ flat_map (endpoint_tokens asked.now) endpoints.now) }
+{
+    for endpoint in endpoints {
+        line.number(endpoint.name(), asked.count(*endpoint))?;
+    }
+    Ok(())
+}
+
 // How many requests there were, by their endpoints.
 fn asked(line: &mut Object, asked: &Asked) -> Result<(), AllocError>
     ensures { OnOk result (line.new.json.tokens ≡ line.old.json.tokens ++ asked_tokens asked.now) }
 {
     line.begin("requests")?;
-    line.number("authorize", asked.authorize)?;
-    line.number("consent", asked.consent)?;
-    line.number("token", asked.token)?;
-    line.number("revoke", asked.revoke)?;
-    line.number("introspect", asked.introspect)?;
-    line.number("hooks", asked.hook_installation)?;
-    line.number("hooks_remove", asked.hook_removal)?;
-    line.number("hooks_list", asked.hook_list)?;
+    counts(line, asked, &ENDPOINTS)?;
     line.number("nowhere", asked.nowhere)?;
     line.end()
 }

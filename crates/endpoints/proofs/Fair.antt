@@ -1,6 +1,6 @@
 -- What the endpoints do but the token endpoint may come next and is right.
 use Rattle.std.proofs.Common.{◌≡◌, ◌⊎◌, inl, inr, ℕ, List, [], ◌∷◌, true, Option, Some, None, length, refl, ap, ◌∙◌}
-use Rattle.std.specs.Prelude.{◌==◌, not, codes, bytes_eq, is_some, option_and_then}
+use Rattle.std.specs.Prelude.{◌==◌, not, codes, bytes_eq, is_some, option_and_then, Result, Ok, Err}
 use Rattle.std.specs.Option.{option_map_or}
 use Rattle.std.specs.Result.{result_ok}
 use Rattle.sha2.specs.Sha256.{sha256}
@@ -18,11 +18,12 @@ use Rattle.consent.specs.History.Change.{Consented, CodeGiven, Issued, Spent, Fa
 use Rattle.consent.specs.HistoryLaws.{grant_at-placed}
 use Rattle.consent.specs.Facts.{GivenCode}
 use Rattle.messages.specs.Asked.{Asked}
+use Rattle.messages.specs.Members.{Member}
 use Rattle.messages.specs.Target.{query_of}
 use Rattle.messages.specs.declared.error.ErrorName.{ErrorName}
 use Rattle.messages.specs.declared.error.ErrorName.TheVariants.{InvalidRequest, InvalidGrant, InvalidScope, UnauthorizedClient, UnsupportedResponseType, AccessDenied}
 use Rattle.messages.specs.Reply.{Reply, plain, sent_back}
-use Rattle.messages.specs.Reply.Body.{Empty, Hooks, Inactive}
+use Rattle.messages.specs.Reply.Body.{Empty, Inactive, Told}
 use Rattle.answers.specs.Outcomes.{Outcome, bare, only, refuse, unavailable}
 use Rattle.answers.specs.Requesters.{Parameters, KnownClient, known_client, client_named, form_of, owner_of_key, scope_asked, scope_within}
 use Rattle.answers.specs.Setting.{Setting}
@@ -31,7 +32,7 @@ use Rattle.answers.specs.Tokens.{live_token}
 use Rattle.endpoints.specs.Authorize.{authorize, challenge_sent, code_sent_back, redirect_sent, state_sent, turned_back}
 use Rattle.endpoints.specs.Bounded.{AllRightAfter, MayHave, allowed_to}
 use Rattle.endpoints.specs.ConsentPath.{give_consent}
-use Rattle.endpoints.specs.HookPaths.{is_operator, list_hooks}
+use Rattle.endpoints.specs.Documents.{document_outcome}
 use Rattle.endpoints.specs.Introspect.{introspect}
 use Rattle.endpoints.specs.Revoke.{revoke_token, revoked}
 use Rattle.endpoints.proofs.Points.{known_at, error_all, unavailable_all, point_all, need_all, unless_all, authenticated_all}
@@ -81,11 +82,11 @@ module _ (s : Setting) (is : IsHistory s.history s.moment) where
       point_all Fair still (not (has_consent_room s.history owner known.number mask)) unavailable _ (λ _. unavailable_all Fair still)
       (λ _. record { follow = (tt, tt); right = (tt, tt); tame = inr tt })))))
 
-  -- THE LIST OF HOOKS
+  -- DOCUMENTS
 
-  pub list_fair : (asked : Asked) → Fair (list_hooks s asked)
-  list_fair asked =
-      point_all Fair still (not (is_operator s.rules asked)) (refuse AccessDenied) (only (plain 200 (Hooks s.host.names))) (λ _. error AccessDenied) (λ _. still _)
+  pub document_fair : (told : Result (List Member) ErrorName) → Fair (document_outcome told)
+  document_fair (Ok members) = still (plain 200 (Told members))
+  document_fair (Err name) = error name
 
   -- REVOCATION
 

@@ -6,8 +6,7 @@ use Rattle.hook_host.specs.declared.fault.HookFault.{HookFault}
 use Rattle.hook_host.specs.declared.fault.HookFault.TheVariants.{Insn, Verify, NameTaken, BadName, Full, Unknown, Memory}
 use Rattle.hook_host.specs.declared.host.HookHost.{Ghosts as Hosting}
 use Rattle.hook_host.specs.Faults.{hook_fault_text}
-use Rattle.messages.specs.Reply.{plain}
-use Rattle.messages.specs.Reply.Body.{HookRefused}
+use Rattle.messages.specs.Reply.{plain, refused_body}
 use Rattle.answers.specs.Outcomes.{only}
 use Rattle.answers.specs.Setting.{Setting}
 use Rattle.answers.specs.declared.halt.Halt.{Halt}
@@ -17,7 +16,7 @@ use Rattle.endpoints.specs.HookPaths.{by_fault}
 use Rattle.endpoints.specs.RulingParts.{IsHookRefused, RulesHooks}
 use Rattle.endpoints.specs.declared.ruling.Ruling.{Ruling}
 
-fault_told : (change : Change) (fault : HookFault) → fault ≢ Memory → only (plain 400 (HookRefused (hook_fault_text fault))) ≡ by_fault change (Some fault)
+fault_told : (change : Change) (fault : HookFault) → fault ≢ Memory → only (plain 400 (refused_body (hook_fault_text fault))) ≡ by_fault change (Some fault)
 fault_told change (Insn f) other = refl
 fault_told change (Verify f) other = refl
 fault_told change NameTaken other = refl

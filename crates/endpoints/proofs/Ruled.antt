@@ -43,7 +43,7 @@ use Rattle.endpoints.specs.RulingParts.{RulesHooks}
 use Rattle.endpoints.specs.Rulings.{Asking, FitsNow, IsRuled, IsRuling, asking_of, comes_to, setting_now}
 use Rattle.endpoints.specs.RulingsParts.{IsAlone}
 use Rattle.endpoints.specs.Server.{SeenServer}
-use Rattle.endpoints.proofs.Fair.{IsConsent, IsFair, IsOneConsent, authorize_fair, consent_fair, introspect_fair, list_fair, revoke_fair}
+use Rattle.endpoints.proofs.Fair.{IsConsent, IsFair, IsOneConsent, authorize_fair, consent_fair, introspect_fair, document_fair, revoke_fair}
 use Rattle.endpoints.proofs.ReadingOn.{points_of}
 use Rattle.endpoints.proofs.SoundToken.{issue_token_sound}
 use Rattle.endpoints.proofs.Stepping.{AllQuiet, IsQuiet}
@@ -202,7 +202,7 @@ module _ {H : Type 0} (hosting : Hosting H) where
           record { follow = issue_token_follows (setting_now hosting server history draws None) is asked; right = sound.right; tame = inl sound.quiet }
       by_reading reading.RevokeToken alone = revoke_fair (setting_now hosting server history draws None) is asked
       by_reading reading.Introspect alone = introspect_fair (setting_now hosting server history draws None) is asked
-      by_reading reading.ListHooks alone = list_fair (setting_now hosting server history draws None) is asked
+      by_reading (reading.Read document) alone = document_fair (setting_now hosting server history draws None) is _
       by_reading (reading.InstallHook params) alone = absurd alone
       by_reading (reading.RemoveHook params) alone = absurd alone
 
@@ -215,7 +215,7 @@ alone_of reading.GiveConsent one other = tt
 alone_of reading.IssueToken one other = tt
 alone_of reading.RevokeToken one other = tt
 alone_of reading.Introspect one other = tt
-alone_of reading.ListHooks one other = tt
+alone_of (reading.Read document) one other = tt
 
 -- CHANGES OF THE HOOKS
 

@@ -12,8 +12,8 @@ use Rattle.consent.specs.declared.grant.Kind.TheVariants.{Code, Token}
 use Rattle.consent.specs.declared.change.Changes.TheVariants.{One}
 use Rattle.consent.specs.declared.change.Change.TheVariants as change
 use Rattle.consent.specs.declared.grant.TokenKind.{TokenKind}
-use Rattle.messages.specs.Reply.{plain}
-use Rattle.messages.specs.Reply.Body.{Active, Consent, Empty, Inactive}
+use Rattle.messages.specs.Reply.{consent_body, plain}
+use Rattle.messages.specs.Reply.Body.{Active, Empty, Inactive}
 use Rattle.messages.specs.declared.error.ErrorName.TheVariants.{InvalidGrant}
 use Rattle.answers.specs.Halts.{Halts}
 use Rattle.answers.specs.Outcomes.{Outcome, bare, need, only, point, refuse, unavailable}
@@ -46,7 +46,7 @@ no_consent_room s owner client mask full = rw full refl
 
 pub consent_room : (s : Setting) (owner client mask : ℕ) → has_consent_room s.history owner client mask ≡ true →
     consent_given s owner client mask
-    ≡ record { reply = plain 200 (Consent (scope_text s.rules.scopes mask)); changes = Consented owner client mask ∷ [] }
+    ≡ record { reply = plain 200 (consent_body (scope_text s.rules.scopes mask)); changes = Consented owner client mask ∷ [] }
 consent_room s owner client mask room = rw room refl
 
 -- LIVE TOKENS

@@ -5,8 +5,7 @@ use Rattle.consent.specs.History.{has_consent_room}
 use Rattle.consent.specs.History.Change.{Consented}
 use Rattle.messages.specs.declared.error.ErrorName.TheVariants.{InvalidRequest, InvalidScope, AccessDenied}
 use Rattle.messages.specs.Asked.{Asked}
-use Rattle.messages.specs.Reply.{plain}
-use Rattle.messages.specs.Reply.Body.{Consent}
+use Rattle.messages.specs.Reply.{consent_body, plain}
 use Rattle.answers.specs.Outcomes.{Outcome, point, need, refuse, unavailable}
 use Rattle.answers.specs.Requesters.{with_form, client_named, owner_of_key, scope_asked}
 use Rattle.answers.specs.Setting.{Setting}
@@ -16,7 +15,7 @@ abbrev pub consent_given : Setting → ℕ → ℕ → ℕ → Outcome
 consent_given setting owner client mask =
     point (not (has_consent_room setting.history owner client mask)) unavailable
     (record {
-      reply = plain 200 (Consent (scope_text setting.rules.scopes mask));
+      reply = plain 200 (consent_body (scope_text setting.rules.scopes mask));
       changes = Consented owner client mask ∷ [];
     })
 

@@ -1,4 +1,4 @@
--- POST /hooks, POST /hooks/remove and GET /hooks/list: the operator's requests
+-- POST /hooks and POST /hooks/remove: the operator's requests
 use Rattle.std.specs.Prelude.{ℕ, List, [], ◌∷◌, not, codes, bytes_eq, Bool, false, Option, Some, None, if◌then◌else◌, option_and_then, option_map}
 use Rattle.std.specs.Option.{option_map_or}
 use Rattle.std.specs.Result.{result_ok}
@@ -15,8 +15,7 @@ use Rattle.hook_host.specs.Faults.{hook_fault_text}
 use Rattle.messages.specs.Asked.{Asked}
 use Rattle.messages.specs.Target.{query_of}
 use Rattle.messages.specs.declared.error.ErrorName.TheVariants.{InvalidRequest, AccessDenied}
-use Rattle.messages.specs.Reply.{plain}
-use Rattle.messages.specs.Reply.Body.{Hook, HookRefused, Hooks}
+use Rattle.messages.specs.Reply.{hook_body, plain, refused_body}
 use Rattle.answers.specs.Outcomes.{Outcome, point, need, only, refuse, unavailable}
 use Rattle.answers.specs.Requesters.{Parameters, form_of}
 use Rattle.answers.specs.Setting.{Setting}
@@ -62,12 +61,12 @@ removal asked = option_and_then hook_gone (form_of asked)
 abbrev pub hook_change_at : Endpoint → Asked → Option Change
 hook_change_at endpoint.InstallHook asked = installation asked
 hook_change_at endpoint.RemoveHook asked = removal asked
-hook_change_at endpoint.ListHooks asked = None
 hook_change_at endpoint.Authorize asked = None
 hook_change_at endpoint.GiveConsent asked = None
 hook_change_at endpoint.IssueToken asked = None
 hook_change_at endpoint.RevokeToken asked = None
 hook_change_at endpoint.Introspect asked = None
+hook_change_at (endpoint.Read document) asked = None
 
 -- WHAT IS DONE
 
@@ -79,9 +78,9 @@ hook_name _ = []
 
 -- by the fault that the host has for the change, if it has one
 abbrev pub by_fault : Change → Option HookFault → Outcome
-by_fault change None = record { reply = plain 200 (Hook (hook_name change)); changes = change ∷ [] }
+by_fault change None = record { reply = plain 200 (hook_body (hook_name change)); changes = change ∷ [] }
 by_fault change (Some hook.Memory) = unavailable
-by_fault change (Some fault) = only (plain 400 (HookRefused (hook_fault_text fault)))
+by_fault change (Some fault) = only (plain 400 (refused_body (hook_fault_text fault)))
 
 -- the change that is asked for, if one is, which the host makes or refuses
 abbrev pub change_hooks : Setting → Asked → Option Change → Outcome
@@ -95,6 +94,3 @@ install_hook setting asked = change_hooks setting asked (installation asked)
 
 abbrev pub remove_hook : Setting → Asked → Outcome
 remove_hook setting asked = change_hooks setting asked (removal asked)
-
-abbrev pub list_hooks : Setting → Asked → Outcome
-list_hooks setting asked = with_operator setting.rules asked (only (plain 200 (Hooks setting.host.names)))

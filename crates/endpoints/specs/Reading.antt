@@ -12,7 +12,7 @@ use Rattle.answers.specs.declared.halt.Halt.{Halt}
 use Rattle.answers.specs.declared.endpoint.Endpoint.{Endpoint}
 use Rattle.answers.specs.declared.endpoint.Endpoint.TheVariants as endpoint
 use Rattle.endpoints.specs.declared.reading.Reading.{Reading}
-use Rattle.endpoints.specs.declared.reading.Reading.TheVariants.{Authorize, GiveConsent, IssueToken, RevokeToken, Introspect, InstallHook, RemoveHook, ListHooks}
+use Rattle.endpoints.specs.declared.reading.Reading.TheVariants.{Authorize, GiveConsent, IssueToken, RevokeToken, Introspect, InstallHook, RemoveHook, Read}
 use Rattle.endpoints.specs.Authorize.{HasShortState, with_query}
 use Rattle.endpoints.specs.HookPaths.{with_operator}
 use Rattle.endpoints.specs.Replies.{outcome_at}
@@ -26,7 +26,7 @@ endpoint_of RevokeToken = endpoint.RevokeToken
 endpoint_of Introspect = endpoint.Introspect
 endpoint_of (InstallHook params) = endpoint.InstallHook
 endpoint_of (RemoveHook params) = endpoint.RemoveHook
-endpoint_of ListHooks = endpoint.ListHooks
+endpoint_of (Read document) = endpoint.Read document
 
 -- what is sent back of it is short
 abbrev pub IsShortReading : Reading → Type 0
@@ -40,7 +40,6 @@ IsRequestRead rules asked (InstallHook params) =
     (next : Parameters → Outcome) → with_operator rules asked (with_query asked next) ≡ next params
 IsRequestRead rules asked (RemoveHook params) =
     (next : Parameters → Outcome) → with_operator rules asked (with_form asked next) ≡ next params
-IsRequestRead rules asked ListHooks = (next : Outcome) → with_operator rules asked next ≡ next
 IsRequestRead rules asked _ = Unit {0}
 
 -- or one of them ends the request

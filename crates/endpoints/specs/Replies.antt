@@ -4,16 +4,17 @@ use Rattle.consent.specs.History.{Change}
 use Rattle.messages.specs.Asked.{Asked}
 use Rattle.messages.specs.Target.{path_of}
 use Rattle.answers.specs.Outcomes.{Outcome, point, need, bare, chosen}
-use Rattle.answers.specs.Setting.{Setting}
+use Rattle.answers.specs.Setting.{Setting, situation_of}
 use Rattle.answers.specs.declared.endpoint.Endpoint.{Endpoint}
-use Rattle.answers.specs.declared.endpoint.Endpoint.TheVariants.{Authorize, GiveConsent, IssueToken, RevokeToken, Introspect, InstallHook, RemoveHook, ListHooks}
+use Rattle.answers.specs.declared.endpoint.Endpoint.TheVariants.{Authorize, GiveConsent, IssueToken, RevokeToken, Introspect, InstallHook, RemoveHook, Read}
 use Rattle.answers.specs.Paths.{endpoint_at, method_at}
 use Rattle.endpoints.specs.Authorize.{authorize}
 use Rattle.endpoints.specs.ConsentPath.{give_consent}
 use Rattle.token_endpoint.specs.TokenPath.{issue_token}
 use Rattle.endpoints.specs.Revoke.{revoke_token}
 use Rattle.endpoints.specs.Introspect.{introspect}
-use Rattle.endpoints.specs.HookPaths.{install_hook, remove_hook, list_hooks, hook_change_at}
+use Rattle.endpoints.specs.HookPaths.{install_hook, remove_hook, hook_change_at}
+use Rattle.endpoints.specs.Documents.{document_at, document_outcome}
 
 abbrev pub outcome_at : Endpoint → Setting → Asked → Outcome
 outcome_at Authorize setting asked = authorize setting asked
@@ -23,7 +24,7 @@ outcome_at RevokeToken setting asked = revoke_token setting asked
 outcome_at Introspect setting asked = introspect setting asked
 outcome_at InstallHook setting asked = install_hook setting asked
 outcome_at RemoveHook setting asked = remove_hook setting asked
-outcome_at ListHooks setting asked = list_hooks setting asked
+outcome_at (Read document) setting asked = document_outcome (document_at document (situation_of setting) asked)
 
 -- No such path, another method, and then the endpoint's own points, or 503 where memory was refused for what they want.
 -- The first two want none.

@@ -8,7 +8,7 @@ ghost use Rattle.answers.specs.Outcomes.{Outcome};
 ghost use Rattle.answers.specs.Setting.{Setting};
 ghost use Rattle.answers.specs.Short.{IsShortAnswer};
 ghost use Rattle.endpoints.specs.HookAsking.{IsAskedFor};
-ghost use Rattle.endpoints.specs.HookPaths.{hook_gone, hook_set_by, version_asked, with_operator};
+ghost use Rattle.endpoints.specs.HookPaths.{hook_gone, hook_set_by, is_operator, version_asked, with_operator};
 ghost use Rattle.endpoints.specs.RulingParts.{IsHookRefused, RulesHooks};
 
 use crate::redo::layout_of;
@@ -20,14 +20,25 @@ use hook_host::{HookFault, HookHost};
 use messages::{ErrorName, Request};
 use params::Params;
 
+/// Whether the operator's key was sent.
+pub(crate) fn is_operator(rules: &Registry, request: &Request<'_>) -> bool
+    ensures { result ≡ is_operator rules.now (asked_of request.entry.now) }
+{
+    match request.operator_key {
+        Some(key) => rules.is_operator(key),
+        None => false,
+    }
+}
+
 /// The operator's key was sent.
 pub(crate) fn operator(rules: &Registry, request: &Request<'_>) -> Result<(), Halt>
     ensures { (next : Outcome) →
         LeadsOrHalts result (with_operator rules.now (asked_of request.entry.now) next) (λ _. next) }
 {
-    match request.operator_key {
-        Some(key) if rules.is_operator(key) => Ok(()),
-        _ => Err(Halt::Refuse(ErrorName::AccessDenied)),
+    if is_operator(rules, request) {
+        Ok(())
+    } else {
+        Err(Halt::Refuse(ErrorName::AccessDenied))
     }
 }
 

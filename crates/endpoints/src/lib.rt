@@ -5,6 +5,7 @@
 mod authorize;
 mod beside;
 mod consenting;
+mod documents;
 mod hooks;
 mod image_keeper;
 mod introspect;
@@ -18,7 +19,7 @@ mod right;
 mod ruling;
 mod server;
 
-pub use answers::{Asked, Endpoint, Replied, Tally, Wanted};
+pub use answers::{Asked, Document, Endpoint, Replied, Tally, Wanted};
 pub use consent::Moment;
 pub use image_keeper::{ImageFault, ImageKeeper};
 pub use laws::{codes_and_tokens_keep_their_bounds, wider_rules_keep_what_is_right};

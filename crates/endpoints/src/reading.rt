@@ -6,7 +6,7 @@ ghost use Rattle.endpoints.specs.Reading.{EndsAt, IsRequestRead, IsShortReading,
 
 use crate::authorize::query;
 use crate::hooks::operator;
-use answers::{Endpoint, Halt, form};
+use answers::{Document, Endpoint, Halt, form};
 use clients::Registry;
 use messages::Request;
 use params::Params;
@@ -22,10 +22,10 @@ pub enum Reading<'a> {
     Introspect,
     InstallHook(Params<'a>),
     RemoveHook(Params<'a>),
-    ListHooks,
+    Read(Document),
 }
 
-/// Reads a request at its endpoint. Of the operator's requests the key is looked at first.
+/// Reads a request at its endpoint. Of a change of the hooks the operator's key is looked at first.
 pub(crate) fn read<'a>(
     alloc: Global,
     rules: &Registry,
@@ -57,9 +57,6 @@ pub(crate) fn read<'a>(
                 Err(halt) => Err(halt),
             }
         }
-        Endpoint::ListHooks => {
-            operator(rules, request)?;
-            Ok(Reading::ListHooks)
-        }
+        Endpoint::Read(document) => Ok(Reading::Read(document)),
     }
 }

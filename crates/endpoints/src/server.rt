@@ -23,6 +23,7 @@ ghost use Rattle.token_store.specs.Fits.{FitsStore};
 use crate::authorize::authorize;
 use crate::beside::make_beside;
 use crate::consenting::consent;
+use crate::documents::tell;
 use crate::hooks::{install, remove};
 use crate::introspect::introspect;
 use crate::noting::{note_prepared, prepare};
@@ -191,7 +192,7 @@ impl<H: HookHost> Server<H> {
         }
     }
 
-    /// Reads a request at its endpoint. Of the operator's requests the key is looked at first.
+    /// Reads a request at its endpoint. Of a change of the hooks the operator's key is looked at first.
     pub fn read<'a>(&self, endpoint: Endpoint, request: &Request<'a>) -> Result<Reading<'a>, Halt>
         ensures endpoint { IfOk result (λ reading. endpoint_of reading ≡ endpoint) }
         ensures read { IfOk result (IsRequestRead self.now.rules (asked_of request.now)) }
@@ -224,8 +225,9 @@ impl<H: HookHost> Server<H> {
             Reading::IssueToken => decide(self.alloc, &view, &self.host, request),
             Reading::RevokeToken => revoke(self.alloc, &view, request),
             Reading::Introspect => introspect(self.alloc, &view, request),
-            Reading::InstallHook(_) | Reading::RemoveHook(_) | Reading::ListHooks => Ok(Decision {
-                answer: Answer::Hooks,
+            Reading::Read(document) => tell(&view, request, *document),
+            Reading::InstallHook(_) | Reading::RemoveHook(_) => Ok(Decision {
+                answer: Answer::Done,
                 changes: Changes::Nothing,
             }),
         }

@@ -17,7 +17,7 @@ use Rattle.consent.specs.declared.grant.Kind.{Kind}
 use Rattle.consent.specs.declared.grant.Kind.TheVariants.{Code, Token}
 use Rattle.consent.specs.declared.grant.TokenKind.{TokenKind}
 use Rattle.messages.specs.Reply.{Body, plain}
-use Rattle.messages.specs.Reply.Body.{Empty, Failure, Tokens, Consent, Active, Inactive, Hook, HookRefused, Hooks}
+use Rattle.messages.specs.Reply.Body.{Empty, Failure, Tokens, Active, Inactive, Told}
 use Rattle.messages.specs.declared.error.ErrorName.TheVariants.{InvalidRequest}
 use Rattle.answers.specs.Outcomes.{Outcome, need, point, only, refuse, bare, chosen, unavailable}
 use Rattle.answers.specs.Requesters.{Parameters, KnownClient, with_client}
@@ -117,12 +117,9 @@ module _ (rules : RegistryRecord) (history : List Event) (m : ℕ) (is : IsHisto
   quiet_no Empty quiet active = absurd active
   quiet_no (Failure error) quiet active = absurd active
   quiet_no (Tokens access life refresh scope) quiet active = absurd active
-  quiet_no (Consent scope) quiet active = absurd active
   quiet_no (Active client expires issued scope sub kind) quiet active = absurd quiet
   quiet_no Inactive quiet active = absurd active
-  quiet_no (Hook name) quiet active = absurd active
-  quiet_no (HookRefused detail) quiet active = absurd active
-  quiet_no (Hooks names) quiet active = absurd active
+  quiet_no (Told members) quiet active = absurd active
 
   by_shown : (x : Shown (setting_on rules history occasion) occasion.arrival.asked) → P (only (plain 200 (told_of rules x.token x.token.kind)))
   by_shown x active =

@@ -33,10 +33,14 @@ use Rattle.hook_record.specs.declared.Narrowed.TheVariants.{Allowed, Denied, Emp
 use Rattle.messages.specs.declared.error.ErrorName.{ErrorName}
 use Rattle.messages.specs.declared.error.ErrorName.TheVariants.{InvalidRequest, InvalidClient, InvalidGrant, InvalidScope, UnauthorizedClient, UnsupportedGrantType, UnsupportedResponseType, AccessDenied}
 use Rattle.messages.specs.Asked.{Asked}
+use Rattle.messages.specs.Members.{Member}
 use Rattle.messages.specs.Target.{path_of, query_of}
-use Rattle.messages.specs.Reply.{Body, plain, sent_back}
-use Rattle.messages.specs.Reply.Body.{Empty, Failure, Tokens, Consent, Active, Inactive, Hook, HookRefused, Hooks}
-use Rattle.answers.specs.Outcomes.{Extent, Outcome, point, need, only, refuse, bare, unavailable, unless_denied, chosen, status_of}
+use Rattle.messages.specs.Reply.{Body, consent_body, hook_body, plain, refused_body, sent_back}
+use Rattle.messages.specs.Reply.Body.{Empty, Failure, Tokens, Active, Inactive, Told}
+use Rattle.answers.specs.declared.endpoint.Endpoint.{Endpoint}
+use Rattle.answers.specs.declared.endpoint.Endpoint.TheVariants.{Authorize, GiveConsent, IssueToken, RevokeToken, Introspect, InstallHook, RemoveHook, Read}
+use Rattle.answers.specs.Outcomes.{Extent, Outcome, need, only, refuse, bare, unavailable, unless_denied, status_of}
+use Rattle.answers.specs.Paths.{endpoint_at, method_at}
 use Rattle.answers.specs.Replies.{access_reply, both_reply}
 use Rattle.answers.specs.Requesters.{Parameters, KnownClient, form_of, known_client, with_client, with_authenticated, scope_within, scope_asked, client_named, owner_of_key}
 use Rattle.answers.specs.Setting.{Setting}
@@ -50,8 +54,10 @@ use Rattle.token_endpoint.specs.TokenPath.{issue_token, grant_points}
 use Rattle.endpoints.specs.Authorize.{authorize, challenge_sent, redirect_sent, state_sent, turned_back}
 use Rattle.endpoints.specs.ConsentPath.{give_consent}
 use Rattle.endpoints.specs.Revoke.{revoke_token, revoked}
-use Rattle.endpoints.specs.HookPaths.{install_hook, remove_hook, list_hooks, change_hooks, by_fault, installation, removal, is_operator, hook_name, hook_set, hook_set_by, hook_gone, version_asked}
+use Rattle.endpoints.specs.HookPaths.{change_hooks, by_fault, installation, removal, is_operator, hook_name, hook_set, hook_set_by, hook_gone, version_asked}
 use Rattle.endpoints.specs.Introspect.{introspect, told_of}
+use Rattle.endpoints.specs.Documents.{document_outcome}
+use Rattle.endpoints.specs.Replies.{outcome_at}
 use Rattle.headline.specs.Occasions.{Occasion, outcome_of, setting_on}
 use Rattle.headline.proofs.Walking.{at_point, at_need, at_untaken, at_chosen, other}
 
@@ -395,11 +401,11 @@ pub record Ways (P : Outcome → Type 0) (s : Setting) (asked : Asked) : Type 0 
         changes = CodeGiven (length s.history) code (sha256 s.draws.first) ∷ [];
       })
   pub consented : (owner client mask : ℕ) → owner_of_key s.rules asked ≡ Some owner →
-      P (record { reply = plain 200 (Consent (scope_text s.rules.scopes mask)); changes = Consented owner client mask ∷ [] })
+      P (record { reply = plain 200 (consent_body (scope_text s.rules.scopes mask)); changes = Consented owner client mask ∷ [] })
   pub revokes : (x : Shown s asked) → x.token.client ≡ x.sender.known.number → P (revoked x.token)
   pub tells : (x : Shown s asked) → P (only (plain 200 (told_of s.rules x.token x.token.kind)))
   pub hooks : (change : Change) → IsOfHooks change → is_operator s.rules asked ≡ true →
-      P (record { reply = plain 200 (Hook (hook_name change)); changes = change ∷ [] })
+      P (record { reply = plain 200 (hook_body (hook_name change)); changes = change ∷ [] })
 
 -- no error has the status 302
 pub no_error_302 : (error : ErrorName) → status_of error ≡ 302 → ⊥
@@ -485,7 +491,7 @@ module _ (P : Outcome → Type 0) (s : Setting) (asked : Asked) (ways : Ways P s
   by_hook : (change : Change) → IsOfHooks change → is_operator s.rules asked ≡ true → (fault : Option HookFault) → P (by_fault change fault)
   by_hook change of operator None = ways.hooks change of operator
   by_hook change of operator (Some hook.Memory) = wanting
-  by_hook change of operator (Some fault) = ways.quiet 400 (HookRefused (hook_fault_text fault)) (other 400 302 refl) tt
+  by_hook change of operator (Some fault) = ways.quiet 400 (refused_body (hook_fault_text fault)) (other 400 302 refl) tt
 
   at_hooks : (change : Option Change) → ((c : Change) → change ≡ Some c → IsOfHooks c) → P (change_hooks s asked change)
   at_hooks change of =
@@ -496,10 +502,9 @@ module _ (P : Outcome → Type 0) (s : Setting) (asked : Asked) (ways : Ways P s
       is_so true e = refl
       is_so false e = absurd (false≢true (sym e))
 
-  at_list : P (list_hooks s asked)
-  at_list =
-      at_point P (not (is_operator s.rules asked)) (refuse AccessDenied) _ (λ _. refused AccessDenied)
-      (λ _. ways.quiet 200 (Hooks s.host.names) (other 200 302 refl) tt)
+  at_document : (told : Result (List Member) ErrorName) → P (document_outcome told)
+  at_document (Ok members) = ways.quiet 200 (Told members) (other 200 302 refl) tt
+  at_document (Err error) = refused error
 
 -- what is asked for is of the hooks
 install_is : (asked : Asked) (c : Change) → installation asked ≡ Some c → IsOfHooks c
@@ -531,29 +536,20 @@ removal_is asked c e = by_params (form_of asked) e
 -- what holds on each way holds of the outcome
 module _ (P : Outcome → Type 0) (rules : RegistryRecord) (history : List Event) (occasion : Occasion)
     (ways : Ways P (setting_on rules history occasion) occasion.arrival.asked) where
-  first_or : {A : Type 0} (b : Bool) (x : A) (o : Option A) (without : Outcome) (later : A → Outcome) →
-      P (later x) → P (need o without later) → P (need (cond b (Some x) o) without later)
-  first_or true x o without later here there = here
-  first_or false x o without later here there = there
+  at_endpoint : (endpoint : Endpoint) → P (outcome_at endpoint (setting_on rules history occasion) occasion.arrival.asked)
+  at_endpoint Authorize = at_authorize P (setting_on rules history occasion) occasion.arrival.asked ways
+  at_endpoint GiveConsent = at_consent P (setting_on rules history occasion) occasion.arrival.asked ways
+  at_endpoint IssueToken = at_token P (setting_on rules history occasion) occasion.arrival.asked ways.token
+  at_endpoint RevokeToken = at_revoke P (setting_on rules history occasion) occasion.arrival.asked ways
+  at_endpoint Introspect = at_introspect P (setting_on rules history occasion) occasion.arrival.asked ways
+  at_endpoint InstallHook =
+      at_hooks P (setting_on rules history occasion) occasion.arrival.asked ways (installation occasion.arrival.asked) (install_is occasion.arrival.asked)
+  at_endpoint RemoveHook =
+      at_hooks P (setting_on rules history occasion) occasion.arrival.asked ways (removal occasion.arrival.asked) (removal_is occasion.arrival.asked)
+  at_endpoint (Read document) = at_document P (setting_on rules history occasion) occasion.arrival.asked ways _
 
   pub at_each : P (outcome_of rules history occasion)
   at_each =
-      let path = path_of occasion.arrival.asked.target in
-      let asked = occasion.arrival.asked in
-      let s = setting_on rules history occasion in
-      let get = not (bytes_eq asked.method (codes "GET")) in
-      let post = not (bytes_eq asked.method (codes "POST")) in
-      first_or (bytes_eq path (codes "/authorize")) _ _ (bare 404) _ (one get (authorize s asked) (at_authorize P s asked ways))
-      (first_or (bytes_eq path (codes "/consent")) _ _ (bare 404) _ (one post (give_consent s asked) (at_consent P s asked ways))
-      (first_or (bytes_eq path (codes "/token")) _ _ (bare 404) _ (one post (issue_token s asked) (at_token P s asked ways.token))
-      (first_or (bytes_eq path (codes "/revoke")) _ _ (bare 404) _ (one post (revoke_token s asked) (at_revoke P s asked ways))
-      (first_or (bytes_eq path (codes "/introspect")) _ _ (bare 404) _ (one post (introspect s asked) (at_introspect P s asked ways))
-      (first_or (bytes_eq path (codes "/hooks")) _ _ (bare 404) _ (one post (install_hook s asked) (at_hooks P s asked ways (installation asked) (install_is asked)))
-      (first_or (bytes_eq path (codes "/hooks/remove")) _ _ (bare 404) _ (one post (remove_hook s asked) (at_hooks P s asked ways (removal asked) (removal_is asked)))
-      (first_or (bytes_eq path (codes "/hooks/list")) _ _ (bare 404) _ (one get (list_hooks s asked) (at_list P s asked ways))
-      (ways.quiet 404 Empty (other 404 302 refl) tt))))))))
-    where
-      one : (b : Bool) (o : Outcome) → P o → P (point b (bare 405) (chosen occasion.refused o))
-      one b o p =
-          at_point P b (bare 405) (chosen occasion.refused o) (λ _. ways.quiet 405 Empty (other 405 302 refl) tt)
-          (λ _. at_chosen P occasion.refused o (ways.quiet 503 Empty (other 503 302 refl) tt) p)
+      at_need P {A = Endpoint} (endpoint_at (path_of occasion.arrival.asked.target)) (bare 404) _ (ways.quiet 404 Empty (other 404 302 refl) tt) (λ endpoint _.
+      at_point P (not (bytes_eq occasion.arrival.asked.method (method_at endpoint))) (bare 405) _ (λ _. ways.quiet 405 Empty (other 405 302 refl) tt) (λ _.
+      at_chosen P occasion.refused _ (ways.quiet 503 Empty (other 503 302 refl) tt) (at_endpoint endpoint)))

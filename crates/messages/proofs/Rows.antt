@@ -6,8 +6,9 @@ use Rattle.form_urlencoded.specs.Form.{byte_serialize}
 use Rattle.percent_encoding.specs.Percent.{percent_encode_byte}
 use Rattle.consent.specs.declared.grant.TokenKind.TheVariants.{Access, Refresh}
 use Rattle.messages.specs.declared.error.ErrorName.TheVariants.{InvalidClient, AccessDenied}
-use Rattle.messages.specs.Reply.{plain, sent_back}
-use Rattle.messages.specs.Reply.Body.{Empty, Failure, Tokens, Active, Inactive, HookRefused, Hooks}
+use Rattle.messages.specs.Members.Member.{Texts}
+use Rattle.messages.specs.Reply.{plain, refused_body, sent_back}
+use Rattle.messages.specs.Reply.Body.{Empty, Failure, Tokens, Active, Inactive, Told}
 use Rattle.messages.specs.Written.{body_text, error_text, in_writing, reply_bytes, faulty_bytes}
 
 -- client credentials: an access token alone
@@ -50,12 +51,12 @@ inactive_text : body_text Inactive ≡ Some (codes "{\"active\":false}")
 unfolding escape_byte
 inactive_text = refl
 
-refused_text : body_text (HookRefused (codes "Insn Empty")) ≡ Some (codes "{\"detail\":\"Insn Empty\",\"error\":\"hook_refused\"}")
+refused_text : body_text (refused_body (codes "Insn Empty")) ≡ Some (codes "{\"detail\":\"Insn Empty\",\"error\":\"hook_refused\"}")
 unfolding escape_byte
 refused_text = refl
 
 -- a quote, a backslash, a control character and a letter beyond ASCII
-hooks_text : body_text (Hooks (codes "h1" ∷ (codes "a\"b\\c" ++ 7 ∷ 195 ∷ 169 ∷ []) ∷ []))
+hooks_text : body_text (Told (Texts (codes "hooks") (codes "h1" ∷ (codes "a\"b\\c" ++ 7 ∷ 195 ∷ 169 ∷ []) ∷ []) ∷ []))
     ≡ Some (codes "{\"hooks\":[\"h1\",\"a\\\"b\\\\c\\u0007" ++ 195 ∷ 169 ∷ codes "\"]}")
 unfolding escape_byte
 hooks_text = refl

@@ -3,6 +3,7 @@ pub mod Asked
 pub mod Target
 pub mod MediaType
 pub mod Live
+pub mod Members
 pub mod Reply
 pub mod Written
 pub mod Small

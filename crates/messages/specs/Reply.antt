@@ -2,6 +2,8 @@
 use Rattle.std.specs.Prelude.{◌≡◌, ℕ, List, [], ◌∷◌, Option, Some, None, codes}
 use Rattle.consent.specs.declared.grant.TokenKind.{TokenKind}
 use Rattle.messages.specs.declared.error.ErrorName.{ErrorName}
+use Rattle.messages.specs.Members.{Member}
+use Rattle.messages.specs.Members.Member.{Text}
 
 -- a redirect URI, and the pairs that are sent to it (RFC 6749, section 4.1.2)
 pub record Redirection : Type 0 where
@@ -20,15 +22,22 @@ pub data Body : Type 0 where
   Failure : (error : ErrorName) → Body
   -- the texts of an access and a refresh token, the life of the one, and the scope of both (section 5.1)
   Tokens : (access : List ℕ) → (life : ℕ) → (refresh : Option (List ℕ)) → (scope : List ℕ) → Body
-  -- what is consented to
-  Consent : (scope : List ℕ) → Body
   -- RFC 7662, section 2.2
   Active : (client : List ℕ) → (expires issued : ℕ) → (scope : List ℕ) → (sub : Option (List ℕ)) → (kind : TokenKind) → Body
   Inactive : Body
-  -- a hook that was installed or removed, the fault for which it was not, and all hooks
-  Hook : (name : List ℕ) → Body
-  HookRefused : (detail : List ℕ) → Body
-  Hooks : (names : List (List ℕ)) → Body
+  -- an object of these members
+  Told : (members : List Member) → Body
+
+-- what is consented to
+abbrev pub consent_body : List ℕ → Body
+consent_body scope = Told (Text (codes "scope") scope ∷ [])
+
+-- a hook that was installed or removed, and the fault for which it was not
+abbrev pub hook_body : List ℕ → Body
+hook_body name = Told (Text (codes "name") name ∷ [])
+
+abbrev pub refused_body : List ℕ → Body
+refused_body detail = Told (Text (codes "detail") detail ∷ Text (codes "error") (codes "hook_refused") ∷ [])
 
 pub record Reply : Type 0 where
   pub status : ℕ

@@ -1,20 +1,21 @@
 -- Each reply of short texts has fewer bytes than the limit.
 use Rattle.std.proofs.Common.{◌≡◌, ◌≤◌, ◌<◌, ℕ, ◌+◌, ◌*◌, ◌^◌, List, [], ◌∷◌, ◌++◌, Bool, true, false, Option, Some, None, cond, length, length-append, refl, sym, subst, ap, arith}
 use Rattle.std.specs.Fmt.{digits}
-use Rattle.std.specs.Prelude.{codes, decimal, unwrap_or, is_some, All, ◌==◌, ◌||◌}
+use Rattle.std.specs.Prelude.{codes, decimal, unwrap_or, is_some, ◌==◌, ◌||◌}
 use Rattle.std.proofs.lemmas.Bool.{eqb-true}
 use Rattle.std.proofs.lemmas.Fmt.{length-decimal-le}
-use Rattle.std.proofs.lemmas.List.Elements.{All-tail}
 use Rattle.form_urlencoded.specs.Form.{extend_pairs}
 use Rattle.json.specs.Print.{escape_byte}
-use Rattle.serde_json.specs.Written.{items_text}
+use Rattle.serde_json.specs.Written.{comma_if, items_text, members_text}
 use Rattle.consent.specs.declared.grant.TokenKind.TheVariants.{Access, Refresh}
 use Rattle.messages.specs.declared.error.ErrorName.{ErrorName}
 use Rattle.messages.specs.declared.error.ErrorName.TheVariants as error
 use Rattle.messages.specs.Reply.{Redirection, Body, Reply, sent_back}
-use Rattle.messages.specs.Reply.Body.{Empty, Failure, Tokens, Consent, Active, Inactive, Hook, HookRefused, Hooks}
-use Rattle.messages.specs.Written.{Written, in_writing, body_text, location_text, string_items, error_text, line, line_if, is_bare, status_line, type_line, cache_lines, location_line, challenge_line, length_line, crlf, head_bytes, reply_bytes}
-use Rattle.messages.specs.Small.{reply_limit, is_reply_status, IsSmallRedirection, IsSmallBody, IsSmallContent, IsSmallReply}
+use Rattle.messages.specs.Reply.Body.{Empty, Failure, Tokens, Active, Inactive, Told}
+use Rattle.messages.specs.Members.{Member}
+use Rattle.messages.specs.Members.Member.{Text, Number, Texts}
+use Rattle.messages.specs.Written.{Written, in_writing, body_text, each_member, location_text, string_items, error_text, line, line_if, is_bare, status_line, type_line, cache_lines, location_line, challenge_line, length_line, crlf, head_bytes, reply_bytes}
+use Rattle.messages.specs.Small.{reply_limit, members_size, texts_size, is_reply_status, IsSmallRedirection, IsSmallBody, IsSmallContent, IsSmallReply}
 use Rattle.messages.specs.SizeLaws.{length-escape, length-extend_pairs}
 
 -- LINES
@@ -67,21 +68,39 @@ error_short error.UnsupportedGrantType = omega arith
 error_short error.UnsupportedResponseType = omega arith
 error_short error.AccessDenied = omega arith
 
-names_short : (later : Bool) (names : List (List ℕ)) → All (λ name. length name ≤ 64) names →
-    length (items_text later (string_items names)) ≤ 400 * length names + 1
-names_short later [] short = omega arith
-names_short true (name ∷ names) short =
-    let here : length name ≤ 64 = short 0 [] (omega arith) in
-    let a = length-escape name in
-    let b = names_short true names (All-tail (λ name. length name ≤ 64) name names short) in
-    simp length-append (omega (arith, here, a, b))
-names_short false (name ∷ names) short =
-    let here : length name ≤ 64 = short 0 [] (omega arith) in
-    let a = length-escape name in
-    let b = names_short true names (All-tail (λ name. length name ≤ 64) name names short) in
-    simp length-append (omega (arith, here, a, b))
+comma_short : (later : Bool) → length (comma_if later) ≤ 1
+comma_short true = omega arith
+comma_short false = omega arith
 
-number_short : (n : ℕ) → n < 2 ^ 64 → length (decimal n) ≤ 20
+texts_short : (later : Bool) (texts : List (List ℕ)) → length (items_text later (string_items texts)) ≤ 6 * texts_size texts + 1
+texts_short later [] = omega arith
+texts_short later (text ∷ texts) =
+    let a = length-escape text in
+    let b = texts_short true texts in
+    let c = comma_short later in
+    simp length-append (omega (arith, a, b, c))
+
+members_short : (later : Bool) (members : List Member) → length (members_text later (each_member members)) ≤ 6 * members_size members + 1
+members_short later [] = omega arith
+members_short later (Text name text ∷ members) =
+    let a = length-escape name in
+    let b = length-escape text in
+    let c = members_short true members in
+    let d = comma_short later in
+    simp length-append (omega (arith, a, b, c, d))
+members_short later (Number name n ∷ members) =
+    let a = length-escape name in
+    let b = members_short true members in
+    let c = comma_short later in
+    simp length-append (omega (arith, a, b, c))
+members_short later (Texts name texts ∷ members) =
+    let a = length-escape name in
+    let b = texts_short false texts in
+    let c = members_short true members in
+    let d = comma_short later in
+    simp length-append (omega (arith, a, b, c, d))
+
+pub number_short : (n : ℕ) → n < 2 ^ 64 → length (decimal n) ≤ 20
 number_short n small = length-decimal-le 20 n (omega arith) (omega (arith, small)) small
 
 body_short : (body : Body) → IsSmallBody body → length (unwrap_or (body_text body) []) ≤ 16000
@@ -102,9 +121,6 @@ body_short (Tokens access life (Some refresh) scope) small =
     let c = number_short life small.1 in
     let d = length-escape refresh in
     simp length-append (omega (arith, a, b, c, d, small.0, small.2, small.3))
-body_short (Consent scope) small =
-    let a = length-escape scope in
-    simp length-append (omega (arith, a, small))
 body_short (Active client expires issued scope None Access) small =
     let a = length-escape client in
     let b = length-escape scope in
@@ -132,15 +148,9 @@ body_short (Active client expires issued scope (Some sub) Refresh) small =
     let e = length-escape sub in
     simp length-append (omega (arith, a, b, c, d, e, small.0, small.3, small.4))
 body_short Inactive small = omega arith
-body_short (Hook name) small =
-    let a = length-escape name in
-    simp length-append (omega (arith, a, small))
-body_short (HookRefused detail) small =
-    let a = length-escape detail in
-    simp length-append (omega (arith, a, small))
-body_short (Hooks names) small =
-    let a = names_short false names small.1 in
-    simp length-append (omega (arith, a, small.0))
+body_short (Told members) small =
+    let a = members_short false members in
+    omega (arith, a, small)
 
 -- REPLIES
 

@@ -9,7 +9,9 @@ use Rattle.consent.specs.declared.grant.TokenKind.TheVariants.{Access, Refresh}
 use Rattle.messages.specs.declared.error.ErrorName.{ErrorName}
 use Rattle.messages.specs.declared.error.ErrorName.TheVariants as error
 use Rattle.messages.specs.Reply.{Redirection, Body, Reply}
-use Rattle.messages.specs.Reply.Body.{Empty, Failure, Tokens, Consent, Active, Inactive, Hook, HookRefused, Hooks}
+use Rattle.messages.specs.Reply.Body.{Empty, Failure, Tokens, Active, Inactive, Told}
+use Rattle.messages.specs.Members.{Member}
+use Rattle.messages.specs.Members.Member.{Text, Number, Texts}
 
 -- ERRORS (RFC 6749, sections 4.1.2.1 and 5.2)
 
@@ -47,6 +49,15 @@ abbrev pub string_items : List (List ℕ) → Items
 string_items [] = no_items
 string_items (text ∷ texts) = item (string text) (string_items texts)
 
+abbrev pub with_member : Member → Members → Members
+with_member (Text name text) members = text_member name text members
+with_member (Number name n) members = number_member name n members
+with_member (Texts name texts) members = member name (array (string_items texts)) members
+
+abbrev pub each_member : List Member → Members
+each_member [] = no_members
+each_member (m ∷ ms) = with_member m (each_member ms)
+
 abbrev pub json_of : Body → Option Data
 json_of Empty = None
 json_of (Failure error) = Some (object (text_member (codes "error") (error_text error) no_members))
@@ -56,7 +67,6 @@ json_of (Tokens access life refresh scope) =
     (refresh_member refresh
     (text_member (codes "scope") scope
     (type_member Access))))))
-json_of (Consent scope) = Some (object (text_member (codes "scope") scope no_members))
 json_of (Active client expires issued scope sub kind) =
     Some (object (member (codes "active") (boolean true)
     (text_member (codes "client_id") client
@@ -66,10 +76,7 @@ json_of (Active client expires issued scope sub kind) =
     (with_sub sub
     (type_member kind))))))))
 json_of Inactive = Some (object (member (codes "active") (boolean false) no_members))
-json_of (Hook name) = Some (object (text_member (codes "name") name no_members))
-json_of (HookRefused detail) =
-    Some (object (text_member (codes "detail") detail (text_member (codes "error") (codes "hook_refused") no_members)))
-json_of (Hooks names) = Some (object (member (codes "hooks") (array (string_items names)) no_members))
+json_of (Told members) = Some (object (each_member members))
 
 -- TEXTS
 

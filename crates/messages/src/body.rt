@@ -4,10 +4,12 @@ ghost use Rattle.json.specs.Token.{end_object};
 ghost use Rattle.json.specs.Tree.{members_tokens};
 ghost use Rattle.serde_json.specs.Written.{members_outline};
 ghost use Rattle.messages.specs.Live.{live_body};
-ghost use Rattle.messages.specs.Reply.Body.{Failure, Tokens, Consent, Inactive, Hook, HookRefused, Hooks};
+ghost use Rattle.messages.specs.Members.{members_of};
+ghost use Rattle.messages.specs.Reply.Body.{Failure, Tokens, Inactive, Told};
 ghost use Rattle.messages.specs.Written.{body_text, type_member};
 
 use crate::error::ErrorName;
+use crate::member::{Member, room_of};
 use crate::object::Object;
 use crate::token::ActiveToken;
 use consent::TokenKind;
@@ -52,14 +54,6 @@ pub(crate) fn tokens(
     json.finish()
 }
 
-pub(crate) fn consent(alloc: Global, scope: &str) -> Result<Vec<u8>, AllocError>
-    ensures { IfOk result (λ text. body_text (Consent scope.now) ≡ Some text.items) }
-{
-    let mut json = Object::new(alloc, scope.len())?;
-    json.text("scope", scope)?;
-    json.finish()
-}
-
 pub(crate) fn active(alloc: Global, token: ActiveToken<'_>) -> Result<Vec<u8>, AllocError>
     ensures { IfOk result (λ text. body_text (live_body token.entry) ≡ Some text.items) }
 {
@@ -84,27 +78,10 @@ pub(crate) fn inactive(alloc: Global) -> Result<Vec<u8>, AllocError>
     json.finish()
 }
 
-pub(crate) fn hook(alloc: Global, name: &str) -> Result<Vec<u8>, AllocError>
-    ensures { IfOk result (λ text. body_text (Hook name.now) ≡ Some text.items) }
+pub(crate) fn object(alloc: Global, members: &[Member<'_>]) -> Result<Vec<u8>, AllocError>
+    ensures { IfOk result (λ text. body_text (Told (members_of members.now)) ≡ Some text.items) }
 {
-    let mut json = Object::new(alloc, name.len())?;
-    json.text("name", name)?;
-    json.finish()
-}
-
-pub(crate) fn hook_refused(alloc: Global, detail: &str) -> Result<Vec<u8>, AllocError>
-    ensures { IfOk result (λ text. body_text (HookRefused detail.now) ≡ Some text.items) }
-{
-    let mut json = Object::new(alloc, detail.len())?;
-    json.text("detail", detail)?;
-    json.text("error", "hook_refused")?;
-    json.finish()
-}
-
-pub(crate) fn hooks(alloc: Global, names: &[&str]) -> Result<Vec<u8>, AllocError>
-    ensures { IfOk result (λ text. body_text (Hooks (map (λ name. name.now) names.now)) ≡ Some text.items) }
-{
-    let mut json = Object::new(alloc, 0)?;
-    json.texts("hooks", names)?;
+    let mut json = Object::new(alloc, room_of(members))?;
+    json.members(members)?;
     json.finish()
 }

@@ -1,13 +1,15 @@
 //! Replies, each with what its body says.
-ghost use Rattle.std.specs.Prelude.{◌≡◌, IfOk, map, option_copied};
+ghost use Rattle.std.specs.Prelude.{◌≡◌, IfOk, option_copied};
 ghost use Rattle.messages.specs.Reply.{plain, sent_back};
 ghost use Rattle.messages.specs.Live.{live_body};
-ghost use Rattle.messages.specs.Reply.Body.{Failure, Tokens, Consent, Inactive, Hook, HookRefused, Hooks};
+ghost use Rattle.messages.specs.Members.{members_of};
+ghost use Rattle.messages.specs.Reply.Body.{Failure, Tokens, Inactive, Told};
 ghost use Rattle.messages.specs.Written.{in_writing};
 
 use crate::body;
 use crate::error::ErrorName;
 use crate::location::location_of;
+use crate::member::Member;
 use crate::response::Response;
 use crate::token::ActiveToken;
 use http::StatusCode;
@@ -35,13 +37,6 @@ pub fn tokens(
     Ok(Response::with_body(StatusCode::OK, text))
 }
 
-/// The scope that an owner consents to.
-pub fn consent(alloc: Global, scope: &str) -> Result<Response, AllocError>
-    ensures { IfOk result (λ reply. reply ≡ in_writing (plain 200 (Consent scope.now))) }
-{
-    Ok(Response::with_body(StatusCode::OK, body::consent(alloc, scope)?))
-}
-
 /// What is told of a live token (RFC 7662, section 2.2).
 pub fn active(alloc: Global, token: ActiveToken<'_>) -> Result<Response, AllocError>
     ensures { IfOk result (λ reply. reply ≡ in_writing (plain 200 (live_body token.entry))) }
@@ -56,26 +51,15 @@ pub fn inactive(alloc: Global) -> Result<Response, AllocError>
     Ok(Response::with_body(StatusCode::OK, body::inactive(alloc)?))
 }
 
-/// The name of a hook that was installed or removed.
-pub fn hook(alloc: Global, name: &str) -> Result<Response, AllocError>
-    ensures { IfOk result (λ reply. reply ≡ in_writing (plain 200 (Hook name.now))) }
+/// An object of these members, which stand in order of their names.
+pub fn told(
+    alloc: Global,
+    status: StatusCode,
+    members: &[Member<'_>],
+) -> Result<Response, AllocError>
+    ensures { IfOk result (λ reply. reply ≡ in_writing (plain status (Told (members_of members.now)))) }
 {
-    Ok(Response::with_body(StatusCode::OK, body::hook(alloc, name)?))
-}
-
-/// Why a hook was not installed or removed, as its fault prints.
-pub fn hook_refused(alloc: Global, detail: &str) -> Result<Response, AllocError>
-    ensures { IfOk result (λ reply. reply ≡ in_writing (plain 400 (HookRefused detail.now))) }
-{
-    let text = body::hook_refused(alloc, detail)?;
-    Ok(Response::with_body(StatusCode::BAD_REQUEST, text))
-}
-
-/// The names of all hooks, in the order in which they run.
-pub fn hooks(alloc: Global, names: &[&str]) -> Result<Response, AllocError>
-    ensures { IfOk result (λ reply. reply ≡ in_writing (plain 200 (Hooks (map (λ name. name.now) names.now)))) }
-{
-    Ok(Response::with_body(StatusCode::OK, body::hooks(alloc, names)?))
+    Ok(Response::with_body(status, body::object(alloc, members)?))
 }
 
 /// The user agent is sent to the URI with a pair and, if it was sent, the state (RFC 6749, section 4.1.2).

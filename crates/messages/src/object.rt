@@ -1,8 +1,11 @@
 //! A JSON object, written member by member.
 ghost use Rattle.std.specs.Prelude.{◌≡◌, [], ◌∷◌, ◌++◌, IfOk, OnOk, decimal, map};
+ghost use Rattle.std.specs.List.{flat_map};
 ghost use Rattle.json.specs.Token.{begin_object, end_object, begin_array, end_array, key, string, number, boolean};
 ghost use Rattle.json.specs.Print.{print};
+ghost use Rattle.messages.specs.Members.{member_tokens};
 
+use crate::member::Member;
 use json::Writer;
 use std::alloc::{AllocError, Global};
 
@@ -75,6 +78,27 @@ impl Object {
             self.json.string(text)?;
         }
         self.json.end_array()
+    }
+
+    /// One more member.
+    pub fn member(&mut self, member: &Member<'_>) -> Result<(), AllocError>
+        ensures { OnOk result (self.new.json.tokens ≡ self.old.json.tokens ++ member_tokens member.now) }
+    {
+        match *member {
+            Member::Text(name, text) => self.text(name, text),
+            Member::Number(name, value) => self.number(name, value),
+            Member::Texts(name, texts) => self.texts(name, texts),
+        }
+    }
+
+    /// More members.
+    pub fn members(&mut self, members: &[Member<'_>]) -> Result<(), AllocError>
+        ensures { OnOk result (self.new.json.tokens ≡ self.old.json.tokens ++ flat_map member_tokens members.now) }
+    {
+        for member in members {
+            self.member(member)?;
+        }
+        Ok(())
     }
 
     /// The object's text.

@@ -1,6 +1,7 @@
 //! What is counted of requests, of those too that memory is refused for.
 
 use super::exchanges::{Exchange, assert_answered, opened};
+use endpoints::Endpoint;
 use std::test::Fail;
 
 /// From a consent to a token that is told of, and a hook.
@@ -110,8 +111,11 @@ fn answers_are_counted(rt: HostRuntime) -> Result<(), Fail> {
     assert!(rt; wanted.fresh_draw == 1 && wanted.store_room == 0 && wanted.consent_room == 0);
     assert_eq!(rt; tally.denied, 2);
     if wanted.memory == 0 {
-        assert!(rt; asked.authorize == 1 && asked.consent == 1 && asked.token == 7);
-        assert!(rt; asked.introspect == 1 && asked.hook_installation == 3);
+        assert_eq!(rt; asked.count(Endpoint::Authorize), 1);
+        assert_eq!(rt; asked.count(Endpoint::GiveConsent), 1);
+        assert_eq!(rt; asked.count(Endpoint::IssueToken), 7);
+        assert_eq!(rt; asked.count(Endpoint::Introspect), 1);
+        assert_eq!(rt; asked.count(Endpoint::InstallHook), 3);
     }
     assert_eq!(rt; asked.nowhere, 1);
     assert!(rt; server.record_count() == 5 && server.consent_count() == 1);

@@ -1,6 +1,7 @@
-use Rattle.std.proofs.Common.{rules}
+use Rattle.std.proofs.Common.{rules, codes, ◌∷◌, []}
+use Rattle.messages.specs.Members.Member.{Texts}
 use Rattle.messages.specs.Reply.{plain}
-use Rattle.messages.specs.Reply.Body.{Hooks}
+use Rattle.messages.specs.Reply.Body.{Told}
 use Rattle.answers.proofs.Listing.{names_small}
 use Rattle.answers.proofs.Sizes.{if_short}
 use Rattle.answers.proofs.writing.all_hooks.Goals as goal
@@ -8,4 +9,4 @@ use Rattle.answers.proofs.writing.all_hooks.Goals as goal
 pub returns-clause-short : goal.returns-clause-short
 returns-clause-short g c =
     let names = g.H.HookHost.names c.args.host.now in
-    if_short c.hooks.result (plain 200 (Hooks names)) (names_small names c.in_ok-names.ensures.names) (search rules)
+    if_short c.told.result (plain 200 (Told (Texts (codes "hooks") names ∷ []))) (names_small names c.in_ok-names.ensures.names) (search rules)

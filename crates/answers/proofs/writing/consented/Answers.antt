@@ -1,12 +1,11 @@
-use Rattle.std.proofs.Common.{rules, ◌≤◌, length, refl}
+use Rattle.std.proofs.Common.{rules, ◌≤◌, length, refl, arith}
 use Rattle.params.specs.Limits.{scope_text_limit}
 use Rattle.params.specs.Scope.{scope_text}
-use Rattle.messages.specs.Reply.{plain}
-use Rattle.messages.specs.Reply.Body.{Consent}
+use Rattle.messages.specs.Reply.{consent_body, plain}
 use Rattle.answers.proofs.Sizes.{if_short}
 use Rattle.answers.proofs.writing.consented.Goals as goal
 
 pub returns-clause-short : goal.returns-clause-short
 returns-clause-short c =
     let scope : length (scope_text c.args.rules.now.scopes c.args.mask) ≤ scope_text_limit = rw (c.in_ok-scope.ensures.text, c.catalogue.ensures.value) at c.in_ok-scope.ensures.short in
-    if_short c.consent.result (plain 200 (Consent (scope_text c.args.rules.now.scopes c.args.mask))) (record { status = refl; short = scope }) (search rules)
+    if_short c.told.result (plain 200 (consent_body (scope_text c.args.rules.now.scopes c.args.mask))) (record { status = refl; short = omega (arith, scope) }) (search rules)

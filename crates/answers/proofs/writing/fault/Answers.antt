@@ -4,8 +4,7 @@ use Rattle.insn.specs.declared.verify_fault.VerifyFault.TheVariants as verify
 use Rattle.hook_host.specs.declared.fault.HookFault.{HookFault}
 use Rattle.hook_host.specs.declared.fault.HookFault.TheVariants.{Insn, Verify, NameTaken, BadName, Full, Unknown, Memory}
 use Rattle.hook_host.specs.Faults.{hook_fault_text}
-use Rattle.messages.specs.Reply.{plain}
-use Rattle.messages.specs.Reply.Body.{HookRefused}
+use Rattle.messages.specs.Reply.{plain, refused_body}
 use Rattle.answers.proofs.FaultSizes.{hook_slot, hook_fault_short}
 use Rattle.answers.proofs.Sizes.{if_short}
 use Rattle.answers.proofs.writing.fault.Goals as goal
@@ -13,7 +12,8 @@ use Rattle.answers.proofs.writing.fault.Goals as goal
 -- the slot of the fault is a word, as its field says
 pub returns-clause-short : goal.returns-clause-short
 returns-clause-short c =
-    if_short c.hook_refused.result (plain 400 (HookRefused (hook_fault_text c.args.fault))) (record { status = refl; short = hook_fault_short c.args.fault (word c.args.fault refl) }) (search rules)
+    let short = hook_fault_short c.args.fault (word c.args.fault refl) in
+    if_short c.told.result (plain 400 (refused_body (hook_fault_text c.args.fault))) (record { status = refl; short = omega (arith, short) }) (search rules)
   where
     word : (fault : HookFault) → c.args.fault ≡ fault → hook_slot fault < 2 ^ 64
     word (Insn (insn.UnknownOpcode slot)) is = (let fits = rw is at c.well_formed.1.0 in search rules)

@@ -2,8 +2,8 @@ use Rattle.std.proofs.Common.{rules, ◌≤◌, ℕ, List, [], Option, Some, Non
 use Rattle.std.specs.Prelude.{IfSome, unwrap_or, option_copied}
 use Rattle.clients.specs.Limits.{key_limit}
 use Rattle.hook_host.specs.Names.{name_limit}
-use Rattle.messages.specs.Reply.{plain}
-use Rattle.messages.specs.Reply.Body.{Empty, Failure, Inactive, Hook}
+use Rattle.messages.specs.Reply.{hook_body, plain}
+use Rattle.messages.specs.Reply.Body.{Empty, Failure, Inactive}
 use Rattle.answers.specs.Outcomes.{status_of}
 use Rattle.answers.proofs.Sizes.{failure_small, if_short, written_short}
 use Rattle.answers.proofs.writing.write.Goals as goal
@@ -40,4 +40,4 @@ returns-in-Inactive-clause-short g c = λ _. if_short c.inactive.result (plain 2
 pub returns-in-HookDone-clause-short : goal.returns-in-HookDone-clause-short
 returns-in-HookDone-clause-short g c = λ short.
     let named : length c.in-HookDone.name.now ≤ name_limit = rw c.in-HookDone.is at short in
-    if_short c.hook.result (plain 200 (Hook c.in-HookDone.name.now)) (record { status = refl; short = omega (arith, named) }) (search rules)
+    if_short c.told.result (plain 200 (hook_body c.in-HookDone.name.now)) (record { status = refl; short = omega (arith, named) }) (search rules)
