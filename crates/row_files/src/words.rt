@@ -38,5 +38,8 @@ pub fn words_of(alloc: Global, text: &str) -> Result<Vec<Word>, LineFault> {
         })?;
         rest = behind;
     }
-    Ok(words)
+    match rest {
+        None => Ok(words),
+        Some(_) => Err(BAD_WORDS),
+    }
 }
