@@ -8,7 +8,7 @@
 //! A row begins with `== ` and its name, and goes up to the next one. In it a line that begins with `$ ` (or is `$`) is a command
 //! line, and one that begins with `-- ` begins a section. What stands behind these belongs to them.
 
-use crate::fault::{LineFault, Stop, Why};
+use crate::fault::{LineFault, Stop};
 use std::alloc::Global;
 
 /// What begins with a line.
@@ -82,23 +82,16 @@ fn section_in(line: &str) -> Option<Heading<'_>> {
     if line == "$" {
         return Some(Heading::Command(""));
     }
-    match line.strip_prefix("-- ") {
-        Some(section) => Some(Heading::Section(section)),
-        None => None,
-    }
+    line.strip_prefix("-- ").map(Heading::Section)
 }
 
-impl Place {
-    /// What begins with a line that stands here, if anything does.
-    fn heading_in(self, line: &str) -> Option<Heading<'_>> {
-        if let Some(name) = line.strip_prefix("== ") {
-            return Some(Heading::Row(name));
-        }
-        match self {
-            Place::Outside => definition_in(line),
-            Place::Definition => None,
-            Place::Row => section_in(line),
-        }
+/// What begins with a line that stands here, if anything does.
+fn heading_in(place: Place, line: &str) -> Option<Heading<'_>> {
+    match (line.strip_prefix("== "), place) {
+        (Some(name), _) => Some(Heading::Row(name)),
+        (None, Place::Outside) => definition_in(line),
+        (None, Place::Definition) => None,
+        (None, Place::Row) => section_in(line),
     }
 }
 
@@ -121,7 +114,7 @@ fn put_line(blocks: &mut Vec<Block<'_>>, place: Place, line: &str) -> Result<Pla
             Ok(place)
         }
         _ if says_nothing(line) => Ok(place),
-        _ => Err(LineFault::Wrong(Why::NoDefinition)),
+        _ => Err(LineFault::Wrong("no definition")),
     }
 }
 
@@ -135,7 +128,7 @@ pub fn blocks_of<'f, 't>(
     let mut place = Place::Outside;
     for (index, text) in text.split('\n').enumerate() {
         let line = index.saturating_add(1);
-        if let Some(heading) = place.heading_in(text) {
+        if let Some(heading) = heading_in(place, text) {
             let body = String::new(alloc);
             blocks.push(Block {
                 line,

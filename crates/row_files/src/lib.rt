@@ -1,5 +1,5 @@
 //! Files of rows: what stands in them, what a talk over connections is as a transcript, and where what a row came to differs
-//! from what it wants.
+//! from what it wants. And a machine with another clock, on which rows run, and tests.
 #![tactic(auto)]
 
 mod blocks;
@@ -11,3 +11,4 @@ pub mod row;
 mod sections;
 pub mod talk;
 mod words;
+pub mod world;

@@ -3,7 +3,6 @@
 #![tactic(auto)]
 
 mod running;
-mod world;
 
 use row_files::fault::Stop;
 use row_files::names::Names;

@@ -1,12 +1,12 @@
 //! Running a row.
 
-use crate::world::World;
 use command_line::perform;
 use commands::Status;
 use row_files::comparing::{Ended, Ending, differences};
 use row_files::fault::Stop;
-use row_files::row::{Likeness, Making, Row, RowFile, Talk, Wanted, Word};
+use row_files::row::{Likeness, Row, RowFile, Talk, Wanted, Word};
 use row_files::talk::Cut;
+use row_files::world::World;
 use std::alloc::{AllocError, Global};
 use std::fs::{self, File, OpenOptions};
 use std::io::{self, Write};
@@ -14,12 +14,30 @@ use std::net::Net;
 use std::os::unix::fs::OpenOptionsExt;
 use std::random::RandomSource;
 use std::rt::{Clock, Files};
+use std::time::Duration;
 
 /// The machine's clock, where a row does not set it.
 const NOW: u64 = 1060;
 
 /// The file of a talk.
 const TRANSCRIPT: &str = "transcript";
+
+/// The machine's clock, which tells the same time since 1970 at each look.
+#[derive(Drop)]
+struct Standing<'m, R> {
+    machine: &'m R,
+    now: Duration,
+}
+
+impl<R: Clock> Clock for Standing<'_, R> {
+    fn monotonic(&self) -> io::Result<Duration> {
+        self.machine.monotonic()
+    }
+
+    fn since_1970(&self) -> io::Result<Duration> {
+        Ok(self.now)
+    }
+}
 
 /// Writes a file that its owner alone may read.
 fn write_file<R: Files>(rt: &R, name: &str, bytes: &[u8]) -> io::Result<()> {
@@ -79,7 +97,7 @@ fn write_files<'f, R: Files<File = File> + Net + Clock + RandomSource + AllocGlo
 ) -> Result<String, Stop<'f>> {
     for file in files {
         write_file(rt, file.name.as_str(), &file.bytes)?;
-        if let Making::Assembled = file.making {
+        if file.is_assembled {
             let told = assemble(rt, file.name.as_str())?;
             if !told.is_empty() {
                 return Ok(told);
@@ -216,7 +234,11 @@ pub fn run_row<'f, R: Files<File = File> + Net + Clock + RandomSource + AllocGlo
     rt: &R,
     row: &Row,
 ) -> Result<String, Stop<'f>> {
-    let world = World::new(rt, row.now.unwrap_or(NOW));
+    let clock = Standing {
+        machine: rt,
+        now: Duration::from_secs(row.now.unwrap_or(NOW)),
+    };
+    let world = World { machine: rt, clock };
     let mut told = write_files(&world, &row.files)?;
     if told.is_empty() {
         told = run_on_files(&world, row)?;

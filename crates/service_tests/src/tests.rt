@@ -1,11 +1,12 @@
 //! Clients of `serve` and `start`, over the machine's sockets.
 
 use command_line::perform;
-use std::alloc::{AllocError, Allocator, Global};
+use row_files::world::World;
+use std::alloc::{AllocError, Global};
 use std::cell::Cell;
-use std::fs::{self, File, Metadata, OpenOptions};
+use std::fs::{self, File};
 use std::io::{self, ErrorKind, Read, Write};
-use std::net::{Net, OpenStream, Shutdown, SocketAddr, TcpStream};
+use std::net::{Net, OpenStream, Shutdown, TcpStream};
 use std::process::Abort;
 use std::random::RandomSource;
 use std::rt::{Clock, Files};
@@ -77,15 +78,15 @@ fn clients_of<R: Net + AllocGlobal>(
     })
 }
 
-/// A machine that has clients. They listen at each look at its steady clock, which fails once all has come.
+/// A machine's clock, at each look at which the clients listen. It fails once all has come.
 #[derive(Drop)]
-struct Visited<'r, R: Net> {
+struct Looked<'r, R: Net> {
     rt: &'r R,
     seats: &'r Seats<R>,
     looks: Cell<u32>,
 }
 
-impl<'r, R: Net> Visited<'r, R> {
+impl<R: Net> Looked<'_, R> {
     /// The clients listen. Whether all has come, or they have waited for long enough.
     fn is_over(&self) -> bool {
         let looks = self.looks.get().saturating_add(1);
@@ -100,21 +101,7 @@ impl<'r, R: Net> Visited<'r, R> {
     }
 }
 
-impl<'r, R: Net + AllocGlobal> Alloc for Visited<'r, R> {
-    type A = Global;
-
-    fn alloc(&self) -> Global {
-        self.rt.alloc()
-    }
-}
-
-impl<'r, R: Net + RandomSource> RandomSource for Visited<'r, R> {
-    fn fill_bytes(&self, buf: &mut [u8]) -> io::Result<()> {
-        self.rt.fill_bytes(buf)
-    }
-}
-
-impl<'r, R: Net + Clock> Clock for Visited<'r, R> {
+impl<R: Net + Clock> Clock for Looked<'_, R> {
     fn monotonic(&self) -> io::Result<Duration> {
         if self.is_over() {
             return Err(io::Error::from(ErrorKind::Other));
@@ -124,66 +111,6 @@ impl<'r, R: Net + Clock> Clock for Visited<'r, R> {
 
     fn since_1970(&self) -> io::Result<Duration> {
         self.rt.since_1970()
-    }
-}
-
-impl<'r, R: Net + Files> Files for Visited<'r, R> {
-    type File = R::File;
-
-    type Dir = R::Dir;
-
-    fn open_file(&self, how: &OpenOptions, path: &str) -> io::Result<R::File> {
-        self.rt.open_file(how, path)
-    }
-
-    fn open_dir(&self, path: &str) -> io::Result<R::Dir> {
-        self.rt.open_dir(path)
-    }
-
-    fn metadata(&self, path: &str) -> io::Result<Metadata> {
-        self.rt.metadata(path)
-    }
-
-    fn symlink_metadata(&self, path: &str) -> io::Result<Metadata> {
-        self.rt.symlink_metadata(path)
-    }
-
-    fn copy(&self, from: &str, to: &str) -> io::Result<u64> {
-        self.rt.copy(from, to)
-    }
-
-    fn rename(&self, from: &str, to: &str) -> io::Result<()> {
-        self.rt.rename(from, to)
-    }
-
-    fn remove_file(&self, path: &str) -> io::Result<()> {
-        self.rt.remove_file(path)
-    }
-
-    fn create_dir(&self, path: &str) -> io::Result<()> {
-        self.rt.create_dir(path)
-    }
-
-    fn remove_dir(&self, path: &str) -> io::Result<()> {
-        self.rt.remove_dir(path)
-    }
-
-    fn remove_dir_all<B: Allocator>(&self, alloc: B, path: &str) -> io::Result<()> {
-        self.rt.remove_dir_all(alloc, path)
-    }
-}
-
-impl<'r, R: Net> Net for Visited<'r, R> {
-    type Stream = R::Stream;
-
-    type Listener = R::Listener;
-
-    fn bind(&self, addr: SocketAddr) -> io::Result<R::Listener> {
-        self.rt.bind(addr)
-    }
-
-    fn connect(&self, addr: SocketAddr) -> io::Result<R::Stream> {
-        self.rt.connect(addr)
     }
 }
 
@@ -218,11 +145,11 @@ struct Page {
 }
 
 impl Page {
-    fn new(alloc: Global) -> Page {
+    fn new(alloc: Global, room: usize, is_full: bool) -> Page {
         Page {
             text: Vec::new(alloc),
-            room: usize::MAX,
-            is_full: false,
+            room,
+            is_full,
         }
     }
 
@@ -272,18 +199,19 @@ fn served<R: Files<File = File> + Net + Clock + RandomSource + AllocGlobal>(
 ) -> Result<Visit<R::Stream>, Fail> {
     let words = words_of(rt.alloc(), texts)?;
     let seats = Cell::new(None);
-    let visited = Visited {
+    let clock = Looked {
         rt,
         seats: &seats,
         looks: Cell::new(0),
     };
+    let visited = World { machine: rt, clock };
     let mut door = Door {
         rt,
         seats: &seats,
         request,
         line: Vec::new(rt.alloc()),
     };
-    let mut err = Page::new(rt.alloc());
+    let mut err = Page::new(rt.alloc(), usize::MAX, false);
     let status = perform(&visited, &words, &mut door, &mut err).code();
     match seats.replace(None) {
         Some(clients) => Ok(Visit {
@@ -332,12 +260,11 @@ fn a_client_of_serve_reads_its_reply(rt: HostRuntime) -> Result<(), Fail> {
 #[test]
 fn no_connection_is_served(rt: HostRuntime) -> Result<(), Fail> {
     let config = registry_path(&rt)?;
-    let words = words_of(rt.alloc(), &["serve", "127.0.0.1:0", &config, SEED, "0"])?;
-    let (mut out, mut err) = (Page::new(rt.alloc()), Page::new(rt.alloc()));
-    assert_eq!(rt; perform(&rt, &words, &mut out, &mut err).code(), 0);
+    let served = done(&rt, &["serve", "127.0.0.1:0", &config, SEED, "0"])?;
     fs::remove_file(&rt, &config)?;
-    assert_eq!(rt; err.text(), "");
-    let line = out.text();
+    assert_eq!(rt; served.status, 0);
+    assert_eq!(rt; served.err.text(), "");
+    let line = served.out.text();
     assert!(rt;
         line.starts_with("listening 127.0.0.1:") && !line.ends_with(":0\n"),
         "{line}"
@@ -374,15 +301,26 @@ struct Outcome {
     err: Page,
 }
 
+/// Carries out a command whose output has so much room, and is full at its end or not.
+fn done_with<R: Files<File = File> + Net + Clock + RandomSource + AllocGlobal>(
+    rt: &R,
+    texts: &[&str],
+    room: usize,
+    is_full: bool,
+) -> Result<Outcome, Fail> {
+    let words = words_of(rt.alloc(), texts)?;
+    let mut out = Page::new(rt.alloc(), room, is_full);
+    let mut err = Page::new(rt.alloc(), usize::MAX, false);
+    let status = perform(rt, &words, &mut out, &mut err).code();
+    Ok(Outcome { status, out, err })
+}
+
 /// Carries out a command.
 fn done<R: Files<File = File> + Net + Clock + RandomSource + AllocGlobal>(
     rt: &R,
     texts: &[&str],
 ) -> Result<Outcome, Fail> {
-    let words = words_of(rt.alloc(), texts)?;
-    let (mut out, mut err) = (Page::new(rt.alloc()), Page::new(rt.alloc()));
-    let status = perform(rt, &words, &mut out, &mut err).code();
-    Ok(Outcome { status, out, err })
+    done_with(rt, texts, usize::MAX, false)
 }
 
 /// The path of a state file that was just made.
@@ -490,19 +428,14 @@ fn what_an_unfinished_write_left_is_put_aside(rt: HostRuntime) -> Result<(), Fai
     let alloc = rt.alloc();
     let config = registry_path(&rt)?;
     let path = path_of(&rt, b"oauthd state v2\n\0abc")?;
-    let words = words_of(alloc, &["start", "127.0.0.1:0", &config, "--state", &path])?;
     // It can't tell where it listens, and so it ends.
-    let mut out = Page {
-        text: Vec::new(alloc),
-        room: 0,
-        is_full: false,
-    };
-    let mut err = Page::new(alloc);
+    let words = ["start", "127.0.0.1:0", &config, "--state", &path];
+    let begun = done_with(&rt, &words, 0, false)?;
     let told = format!(in alloc;
         "oauthd: state: 3 bytes of an unfinished write are in {path}.torn\noauthd: cannot write\n"
     )?;
-    assert_eq!(rt; perform(&rt, &words, &mut out, &mut err).code(), 2);
-    assert_eq!(rt; err.text(), told.as_str());
+    assert_eq!(rt; begun.status, 2);
+    assert_eq!(rt; begun.err.text(), told.as_str());
     let torn = format!(in alloc; "{path}.torn")?;
     assert!(rt; fs::read(&rt, &torn)?.as_slice() == b"abc".as_slice());
     let listed = done(&rt, &["state", &path])?;
@@ -543,30 +476,15 @@ const RECORD: &str =
     "0100000001000000e80300000000000001000000000000000100000000000000030000000000000003000000000000002c010000000000000300000000000000";
 
 #[test]
-fn answers_that_cannot_be_written(rt: HostRuntime) -> Result<(), Fail> {
-    let words = words_of(rt.alloc(), &["run", ALLOW, RECORD])?;
+fn answers_and_faults_that_cannot_be_written(rt: HostRuntime) -> Result<(), Fail> {
     for (room, is_full) in [(0usize, false), (8, false), (4096, true)] {
-        let mut out = Page {
-            text: Vec::new(rt.alloc()),
-            room,
-            is_full,
-        };
-        let mut err = Page::new(rt.alloc());
-        assert_eq!(rt; perform(&rt, &words, &mut out, &mut err).code(), 2);
-        assert_eq!(rt; err.text(), "oauthd: cannot write\n");
+        let ran = done_with(&rt, &["run", ALLOW, RECORD], room, is_full)?;
+        assert_eq!(rt; ran.status, 2);
+        assert_eq!(rt; ran.err.text(), "oauthd: cannot write\n");
     }
-    Ok(())
-}
-
-#[test]
-fn a_fault_that_cannot_be_told(rt: HostRuntime) -> Result<(), Fail> {
     let words = words_of(rt.alloc(), &["run", "", RECORD])?;
-    let mut out = Page::new(rt.alloc());
-    let mut err = Page {
-        text: Vec::new(rt.alloc()),
-        room: 0,
-        is_full: false,
-    };
+    let mut out = Page::new(rt.alloc(), usize::MAX, false);
+    let mut err = Page::new(rt.alloc(), 0, false);
     assert_eq!(rt; perform(&rt, &words, &mut out, &mut err).code(), 2);
     assert_eq!(rt; out.text(), "");
     Ok(())

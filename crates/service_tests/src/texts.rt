@@ -12,101 +12,85 @@ use insn::verify_fault::VerifyFault;
 use std::process::Abort;
 use std::test::Fail;
 
-/// Asserts that a fault is told in this line.
-fn assert_line<R: Abort + AllocGlobal>(
+/// Asserts that a fault is told in a line behind the program's name.
+fn assert_told<R: Abort + AllocGlobal>(
     rt: &R,
     fault: CommandFault<'_>,
-    line: &str,
+    text: &str,
 ) -> Result<(), Fail> {
     let told = format!(in rt.alloc(); "{fault}")?;
-    assert_eq!(rt; told.as_str(), line);
+    let line = format!(in rt.alloc(); "oauthd: {text}\n")?;
+    assert_eq!(rt; told.as_str(), line.as_str());
     Ok(())
 }
 
-/// The fault of a command about a hook.
-fn of_hook(fault: HookCommandFault<'_>) -> CommandFault<'_> {
-    CommandFault::HookCommand(fault)
-}
-
 #[test]
-fn memory_that_was_refused_is_told_alike(rt: HostRuntime) -> Result<(), Fail> {
-    let line = "oauthd: out of memory\n";
-    assert_line(&rt, CommandFault::OutOfMemory, line)?;
-    assert_line(&rt, of_hook(HookCommandFault::OutOfMemory), line)?;
-    assert_line(&rt, of_hook(HookCommandFault::Text(AsmFault::Memory)), line)?;
-    assert_line(
-        &rt,
-        of_hook(HookCommandFault::Insn(InsnFault::Memory)),
-        line,
-    )?;
-    assert_line(
-        &rt,
-        of_hook(HookCommandFault::Verify(VerifyFault::Memory)),
-        line,
-    )
-}
-
-#[test]
-fn programs_that_are_too_long(rt: HostRuntime) -> Result<(), Fail> {
-    let insn = of_hook(HookCommandFault::Insn(InsnFault::TooLong));
-    assert_line(&rt, insn, "oauthd: Insn TooLong\n")?;
-    let text = of_hook(HookCommandFault::Text(AsmFault::TooLong(4097)));
-    assert_line(&rt, text, "oauthd: line 4097: TooLong\n")
+fn memory_that_was_refused_is_told_alike_and_what_is_too_long(rt: HostRuntime) -> Result<(), Fail> {
+    assert_told(&rt, CommandFault::OutOfMemory, "out of memory")?;
+    for (fault, text) in [
+        (HookCommandFault::OutOfMemory, "out of memory"),
+        (HookCommandFault::Text(AsmFault::Memory), "out of memory"),
+        (HookCommandFault::Insn(InsnFault::Memory), "out of memory"),
+        (
+            HookCommandFault::Verify(VerifyFault::Memory),
+            "out of memory",
+        ),
+        (HookCommandFault::Insn(InsnFault::TooLong), "Insn TooLong"),
+        (
+            HookCommandFault::Text(AsmFault::TooLong(4097)),
+            "line 4097: TooLong",
+        ),
+    ] {
+        assert_told(&rt, CommandFault::HookCommand(fault), text)?;
+    }
+    Ok(())
 }
 
 #[test]
 fn sockets_that_the_system_refuses(rt: HostRuntime) -> Result<(), Fail> {
-    for (reason, line) in [
-        (
-            SocketFault::NoAddress,
-            "oauthd: cannot listen on a:1: no address\n",
-        ),
-        (
-            SocketFault::AddressInUse,
-            "oauthd: cannot listen on a:1: address in use\n",
-        ),
-        (
-            SocketFault::AddressNotAvailable,
-            "oauthd: cannot listen on a:1: address not available\n",
-        ),
-        (
-            SocketFault::PermissionDenied,
-            "oauthd: cannot listen on a:1: permission denied\n",
-        ),
-        (
-            SocketFault::Other,
-            "oauthd: cannot listen on a:1: the system refuses it\n",
-        ),
+    for (reason, text) in [
+        (SocketFault::NoAddress, "no address"),
+        (SocketFault::AddressInUse, "address in use"),
+        (SocketFault::AddressNotAvailable, "address not available"),
+        (SocketFault::PermissionDenied, "permission denied"),
+        (SocketFault::Other, "the system refuses it"),
     ] {
-        assert_line(&rt, CommandFault::CannotListen("a:1", reason), line)?;
+        let text = format!(in rt.alloc(); "cannot listen on a:1: {text}")?;
+        assert_told(&rt, CommandFault::CannotListen("a:1", reason), &text)?;
     }
-    assert_line(&rt, CommandFault::NoSeed, "oauthd: no random bytes\n")
+    assert_told(&rt, CommandFault::NoSeed, "no random bytes")
 }
 
 #[test]
 fn servers_that_stop(rt: HostRuntime) -> Result<(), Fail> {
-    for (fault, line) in [
-        (LoopFault::Wait, "oauthd: stopped: Wait\n"),
-        (LoopFault::Clock, "oauthd: stopped: Clock\n"),
-        (LoopFault::Keep, "oauthd: stopped: State\n"),
-        (LoopFault::Rounds, "oauthd: stopped: Rounds\n"),
-    ] {
-        assert_line(&rt, CommandFault::Stopped(fault, None), line)?;
-    }
-    for (fault, line) in [
-        (BatchFault::Memory, "oauthd: stopped: State: Memory\n"),
+    let full = BatchFault::Failed(SystemFault::StorageFull);
+    for (fault, cause, text) in [
+        (LoopFault::Wait, None, "stopped: Wait"),
+        (LoopFault::Clock, None, "stopped: Clock"),
+        (LoopFault::Keep, None, "stopped: State"),
+        (LoopFault::Rounds, None, "stopped: Rounds"),
         (
-            BatchFault::Failed(SystemFault::StorageFull),
-            "oauthd: stopped: State: no storage space\n",
+            LoopFault::Keep,
+            Some(BatchFault::Memory),
+            "stopped: State: Memory",
         ),
-        (BatchFault::Full, "oauthd: stopped: State: Full\n"),
-        (BatchFault::TooLong, "oauthd: stopped: State: TooLong\n"),
+        (
+            LoopFault::Keep,
+            Some(full),
+            "stopped: State: no storage space",
+        ),
+        (
+            LoopFault::Keep,
+            Some(BatchFault::Full),
+            "stopped: State: Full",
+        ),
+        (
+            LoopFault::Keep,
+            Some(BatchFault::TooLong),
+            "stopped: State: TooLong",
+        ),
     ] {
-        assert_line(
-            &rt,
-            CommandFault::Stopped(LoopFault::Keep, Some(fault)),
-            line,
-        )?;
+        assert_told(&rt, CommandFault::Stopped(fault, cause), text)?;
     }
     Ok(())
 }

@@ -1,16 +1,15 @@
 //! Tests over the layers of both halves, each by the public calls of its crate.
 
+mod asked;
 mod calls;
 mod disk;
 mod drawn_requests;
-mod drawn_store;
 mod draws;
 mod exchanges;
 mod hooks;
 mod hosts;
 mod keeping;
 mod memory;
-mod plain_store;
 mod programs;
 mod sockets;
 mod store;

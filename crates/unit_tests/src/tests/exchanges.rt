@@ -1,5 +1,6 @@
 //! Requests to a server and the replies to them, one after the other. What memory is refused for is asked once more.
 
+use super::asked::{REGISTRY, UNAVAILABLE};
 use clients::{ConfigFault, Registry};
 use consent::Moment;
 use endpoints::Server;
@@ -10,21 +11,15 @@ use messages::Draws;
 use std::alloc::Global;
 use std::process::Abort;
 
-/// Two clients and an owner.
-const REGISTRY: &[u8] =
-    br#"{"access_life":300,"refresh_life":86400,"operator":"op-key","owners":["ann-key"],"scopes":["read","write","admin"],"clients":[{"id":"app","secret":"s3cret","redirects":["https://app.example/cb"],"scope":"read write","grants":["authorization_code","refresh_token"]},{"id":"bot","secret":"b0t","redirects":[],"scope":"read","grants":["client_credentials"]}]}"#;
+/// The second of a request, its two draws, which repeat bytes, and the reply to it.
+pub(super) type Exchange = (u32, (u8, u8), &'static [u8], &'static [u8]);
 
-/// What a request is answered that memory is refused for.
-pub(super) const UNAVAILABLE: &[u8] =
-    b"HTTP/1.1 503 Service Unavailable\r\nContent-Length: 0\r\n\r\n";
-
-/// A request at a second, whose two draws repeat bytes, and the reply to it.
-#[derive(Clone, Copy)]
-pub(super) struct Exchange {
-    pub(super) moment: u32,
-    pub(super) draws: (u8, u8),
-    pub(super) request: &'static [u8],
-    pub(super) reply: &'static [u8],
+/// The draws of a request, which repeat these bytes.
+pub(super) fn draws_of((one, other): (u8, u8)) -> Draws {
+    Draws {
+        first: [one; 32],
+        second: [other; 32],
+    }
 }
 
 /// The registry, where memory was refused once more.
@@ -83,13 +78,10 @@ fn piece<H: HookHost>(
 
 /// A request comes on connection 1, where memory was refused once more.
 fn asked<H: HookHost>(edge: &mut Edge<H>, exchange: &Exchange) -> Result<(), EdgeFault> {
-    let (one, other) = exchange.draws;
-    let draws = [Draws {
-        first: [one; 32],
-        second: [other; 32],
-    }];
-    match piece(edge, exchange.request, exchange.moment, &draws) {
-        Err(EdgeFault::Memory) => piece(edge, exchange.request, exchange.moment, &draws),
+    let (moment, draws, request, _) = *exchange;
+    let draws = [draws_of(draws)];
+    match piece(edge, request, moment, &draws) {
+        Err(EdgeFault::Memory) => piece(edge, request, moment, &draws),
         answer => answer,
     }
 }
@@ -108,12 +100,13 @@ pub(super) fn assert_answered<H: HookHost>(
     exchanges: &[Exchange],
 ) {
     for (i, exchange) in exchanges.iter().enumerate() {
+        let (_, _, _, reply) = *exchange;
         assert_eq!(rt; asked(edge, exchange), Ok(()), "exchange {i}");
-        if edge.output(first()) == UNAVAILABLE && exchange.reply != UNAVAILABLE {
+        if edge.output(first()) == UNAVAILABLE && reply != UNAVAILABLE {
             take_all(edge);
             assert_eq!(rt; asked(edge, exchange), Ok(()), "exchange {i}");
         }
-        assert!(rt; edge.output(first()) == exchange.reply, "exchange {i}");
+        assert!(rt; edge.output(first()) == reply, "exchange {i}");
         take_all(edge);
     }
 }

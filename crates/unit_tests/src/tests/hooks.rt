@@ -1,14 +1,12 @@
-//! Hooks under refused memory, programs that run alike on both machines, and the longest programs.
+//! Programs that run alike on both machines, the longest programs, and indexes into tables.
 
 use super::draws::{below, byte};
 use super::programs::PROGRAMS;
 use assembler::AsmFault;
 use encoding::decode;
 use flat_machine::run;
-use hook_chain::Chain;
 use hook_commands::{HookAnswer, HookCommand, HookCommandFault, bytes_of_hex};
-use hook_host::{HookFault, HookHost};
-use hook_record::{Ask, Kind, Narrowed};
+use hook_record::Narrowed;
 use insn::fault::InsnFault;
 use insn::layout::Layout;
 use insn::verify_fault::VerifyFault;
@@ -19,43 +17,6 @@ use std::alloc::{AllocError, Global};
 use std::process::Abort;
 use std::test::Fail;
 use verifier::verified::{Verified, verify};
-
-const ASK: Ask = Ask {
-    kind: Kind::Code,
-    now: 1000,
-    client: 1,
-    owner: 1,
-    asked: 3,
-    scope: 3,
-    life: 300,
-    allowed: 7,
-    consented: 0,
-    access_limit: 0,
-    refresh_limit: 0,
-};
-
-/// `stw r1 48 250`, `mov64 r0 1`, `exit`.
-const CAP: &[u8] = b"\x62\x01\x30\0\xfa\0\0\0\xb7\0\0\0\x01\0\0\0\x95\0\0\0\0\0\0\0";
-
-/// Under refused memory an install is refused for it, leaves the chain as it was, and can be made again.
-#[test]
-fn a_chain_under_refused_memory(rt: HostRuntime) {
-    let mut chain = Chain::new(rt.alloc());
-    for name in ["a", "b"] {
-        if chain.install(name, Layout::V1, CAP) == Err(HookFault::Memory) {
-            assert_eq!(rt; chain.remove(name), Err(HookFault::Unknown));
-            assert_eq!(rt; chain.install(name, Layout::V1, CAP), Ok(()));
-        }
-    }
-    assert_eq!(rt; chain.name_at(0), Some("a"));
-    assert_eq!(rt; chain.name_at(1), Some("b"));
-    assert_eq!(rt; chain.name_at(2), None);
-    let capped = Narrowed::Allowed {
-        scope: 3,
-        life: 250,
-    };
-    assert!(rt; chain.decide(&ASK) == capped);
-}
 
 /// The program of some code where it is accepted.
 fn accepted(alloc: Global, layout: Layout, code: &[u8]) -> Result<Option<Verified>, AllocError> {
@@ -97,7 +58,7 @@ fn change(rng: &mut ChaCha20Rng, code: &mut [u8]) {
 }
 
 /// How many programs are drawn from each, and how many of them have to be accepted in all, so that the test tests something.
-const DRAWN: u32 = 100;
+const DRAWN: u32 = 200;
 
 const ACCEPTED: usize = 500;
 
@@ -107,7 +68,7 @@ fn assert_all_run_alike<R: Abort + AllocGlobal>(
     rt: &R,
     rng: &mut ChaCha20Rng,
     layout: Layout,
-    code: &mut Vec<u8>,
+    code: &[u8],
 ) -> Result<usize, Fail> {
     let Some(verified) = accepted(rt.alloc(), layout, code)? else {
         return Err(Fail::from("it is refused"));
@@ -115,7 +76,7 @@ fn assert_all_run_alike<R: Abort + AllocGlobal>(
     assert_runs_alike(rt, &verified);
     let mut count = 0usize;
     for _ in 0..DRAWN {
-        let mut drawn = code.clone()?;
+        let mut drawn = Vec::from_slice(rt.alloc(), code)?;
         change(rng, &mut drawn);
         if below(rng, 2) == 1 {
             change(rng, &mut drawn);
@@ -133,14 +94,14 @@ fn programs_run_alike(rt: HostRuntime) -> Result<(), Fail> {
     let mut rng = ChaCha20Rng::from_seed([7; 32]);
     let mut count = 0usize;
     for line in PROGRAMS.split('\n') {
-        let layout = if line.starts_with("2") {
-            Layout::V2
-        } else {
-            Layout::V1
-        };
-        let (_, digits) = line.rsplit_once(' ').unwrap_or(("", ""));
-        let mut code = bytes_of_hex(rt.alloc(), digits.as_bytes())?.ok_or("it is no hex")?;
-        count = count.saturating_add(assert_all_run_alike(&rt, &mut rng, layout, &mut code)?);
+        let (version, digits) = line.rsplit_once(' ').unwrap_or(("", ""));
+        let code = bytes_of_hex(rt.alloc(), digits.as_bytes())?.ok_or("it is no hex")?;
+        if version.starts_with("1") {
+            let drawn = assert_all_run_alike(&rt, &mut rng, Layout::V1, &code)?;
+            count = count.saturating_add(drawn);
+        }
+        let drawn = assert_all_run_alike(&rt, &mut rng, Layout::V2, &code)?;
+        count = count.saturating_add(drawn);
     }
     assert!(rt; count >= ACCEPTED, "{count} were accepted");
     Ok(())
@@ -152,12 +113,6 @@ const RECORD: &str =
 
 /// `mov64 r0 1`.
 const MOVE: [u8; 8] = [0xb7, 0, 0, 0, 1, 0, 0, 0];
-
-/// `exit`.
-const EXIT: [u8; 8] = [0x95, 0, 0, 0, 0, 0, 0, 0];
-
-/// The first slot of `lddw r0`.
-const WIDE: [u8; 8] = [0x18, 0, 0, 0, 0, 0, 0, 0];
 
 /// What stands in a program between its first move and its end.
 #[derive(Clone, Copy)]
@@ -179,21 +134,18 @@ fn slot(middle: Middle, left: u16) -> [u8; 8] {
     }
 }
 
-/// The hex of a move, so many slots, and an end.
-fn long_program(
-    alloc: Global,
-    middle: Middle,
-    count: u16,
-    end: [u8; 8],
-) -> Result<String, AllocError> {
-    let mut code = Vec::new(alloc);
-    code.extend_from_slice(&MOVE)?;
+/// The hex of a move, so many slots, and an exit.
+fn long_program(alloc: Global, middle: Middle, count: u16) -> Result<String, AllocError> {
+    let mut code = Vec::from_slice(alloc, &MOVE)?;
     for passed in 0..count {
         code.extend_from_slice(&slot(middle, count.wrapping_sub(passed).wrapping_sub(1)))?;
     }
-    code.extend_from_slice(&end)?;
+    code.extend_from_slice(&[0x95, 0, 0, 0, 0, 0, 0, 0])?;
     hex::encode(alloc, &code)
 }
+
+/// `asm` of a file.
+const ASSEMBLE: HookCommand<'static> = HookCommand::Assemble { path: "hook" };
 
 /// `check` or `check2` of a file.
 fn check(layout: Layout) -> HookCommand<'static> {
@@ -223,33 +175,23 @@ fn assert_accepted<R: Abort + AllocGlobal>(rt: &R, code: &str) {
     assert!(rt; judged.r0 == 1 && judged.steps == 4096 && judged.answer == whole);
 }
 
-/// Asserts that a file spells no program.
-fn assert_unspelled<R: Abort + AllocGlobal>(rt: &R, code: &str, wanted: InsnFault) {
-    match check(Layout::V1).answer(rt.alloc(), Some(code.as_bytes())) {
-        Err(HookCommandFault::Insn(fault)) => assert_eq!(rt; fault, wanted),
-        _ => panic!(rt; "it is a program"),
-    }
-}
-
 #[test]
 fn programs_of_4_096_slots(rt: HostRuntime) -> Result<(), Fail> {
     let alloc = rt.alloc();
     for middle in [Middle::Moves, Middle::ToTheEnd, Middle::ToTheNext] {
-        let code = long_program(alloc, middle, 4094, EXIT)?;
-        assert_accepted(&rt, &code);
+        assert_accepted(&rt, &long_program(alloc, middle, 4094)?);
     }
-    let mut code = long_program(alloc, Middle::Moves, 4094, WIDE)?;
-    assert_unspelled(&rt, &code, InsnFault::TruncatedWide(4095));
-    code.push_str("00")?;
-    assert_unspelled(&rt, &code, InsnFault::BadLength);
-    let code = long_program(alloc, Middle::Moves, 4095, EXIT)?;
-    assert_unspelled(&rt, &code, InsnFault::TooLong);
-    let run = HookCommand::Run {
-        code_hex: &code,
-        record_hex: RECORD,
-    };
-    let ran = run.answer(alloc, None);
-    assert!(rt; matches!(ran, Err(HookCommandFault::Insn(InsnFault::TooLong))));
+    let code = long_program(alloc, Middle::Moves, 4095)?;
+    let checked = check(Layout::V1).answer(alloc, Some(code.as_bytes()));
+    assert!(rt; matches!(checked, Err(HookCommandFault::Insn(InsnFault::TooLong))));
+    let text = "exit\n".repeat(alloc, 4097)?;
+    let assembled = ASSEMBLE.answer(alloc, Some(text.as_bytes()));
+    assert!(rt;
+        matches!(
+            assembled,
+            Err(HookCommandFault::Text(AsmFault::TooLong(4097)))
+        )
+    );
     Ok(())
 }
 
@@ -259,8 +201,7 @@ type Faults = (VerifyFault, VerifyFault);
 /// Asserts that a store at an index of at most `most`, into a table of so many bytes, is accepted where it stays in it.
 fn assert_table<R: Abort + AllocGlobal>(rt: &R, text: &str, most: u64, size: u64, faults: Faults) {
     let (range, region) = faults;
-    let asm = HookCommand::Assemble { path: "hook" };
-    let Ok(HookAnswer::Code(code)) = asm.answer(rt.alloc(), Some(text.as_bytes())) else {
+    let Ok(HookAnswer::Code(code)) = ASSEMBLE.answer(rt.alloc(), Some(text.as_bytes())) else {
         panic!(rt; "{text}");
     };
     match check(Layout::V1).answer(rt.alloc(), Some(code.as_bytes())) {
@@ -292,29 +233,5 @@ fn indexes_are_accepted_where_they_stay_in_the_table(rt: HostRuntime) -> Result<
             assert_table(&rt, &tested, most, size, tested_faults);
         }
     }
-    Ok(())
-}
-
-/// Asserts that a text has too many instructions up to a line.
-fn assert_too_long<R: Abort + AllocGlobal>(rt: &R, text: &str, line: usize) {
-    let asm = HookCommand::Assemble { path: "hook" };
-    match asm.answer(rt.alloc(), Some(text.as_bytes())) {
-        Err(HookCommandFault::Text(fault)) => assert_eq!(rt; fault, AsmFault::TooLong(line)),
-        _ => panic!(rt; "it is a program"),
-    }
-}
-
-#[test]
-fn texts_of_4_097_instructions(rt: HostRuntime) -> Result<(), Fail> {
-    let text = "exit\n".repeat(rt.alloc(), 4097)?;
-    assert_too_long(&rt, &text, 4097);
-    // A label at each of 4,096 slots.
-    let mut text = String::new(rt.alloc());
-    for n in 0..4096 {
-        let lines = format!(in rt.alloc(); "label_{n}:\njeq64 r1 5 label_{n}\n")?;
-        text.push_str(&lines)?;
-    }
-    text.push_str("\nexit")?;
-    assert_too_long(&rt, &text, 8194);
     Ok(())
 }

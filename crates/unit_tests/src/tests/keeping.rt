@@ -5,10 +5,7 @@ use change_codec::{Batch, KeepFault, Keeper, decode};
 use clients::ConfigFault;
 use consent::Moment;
 use endpoints::{ImageFault, ImageKeeper, Server};
-use event_loop::{
-    Accepted, ConnectionFault, Journal, LoopFault, Notice, Ready, Received, Sent, Sockets, Tools,
-    serve_all,
-};
+use event_loop::{Accepted, LoopFault, Ready, Received, Sent, Sockets, Tools, serve_all};
 use hook_host::HookHost;
 use rand_chacha::ChaCha20Rng;
 use rand_core::SeedableRng;
@@ -105,6 +102,8 @@ struct Patient<'t> {
     moments: usize,
     /// How often it was asked for an image.
     images: &'t Cell<usize>,
+    /// Whether it has to refuse them.
+    is_long: bool,
 }
 
 impl Keeper for Patient<'_> {
@@ -149,15 +148,19 @@ impl Keeper for Patient<'_> {
 }
 
 impl ImageKeeper for Patient<'_> {
-    ghost is_long = { λ _. ⊥ };
+    ghost use Rattle.std.specs.Prelude.{◌≡◌, true};
+
+    ghost is_long = { λ keeper. keeper.is_long ≡ true };
 
     fn put_image<H: HookHost>(&mut self, server: &Server<H>) -> Result<(), ImageFault> {
         match server.unkept() {
-            Some(batch) if !batch.is_empty() => Err(ImageFault::Failed),
-            _ => {
-                self.images.set(self.images.get().wrapping_add(1));
-                Ok(())
-            }
+            Some(batch) if !batch.is_empty() => return Err(ImageFault::Failed),
+            _ => self.images.set(self.images.get().wrapping_add(1)),
+        }
+        if self.is_long {
+            Err(ImageFault::Unwritten)
+        } else {
+            Ok(())
         }
     }
 }
@@ -170,14 +173,20 @@ struct Outcome {
     changes: Vec<usize>,
     moments: usize,
     images: usize,
+    refusals: u64,
 }
 
-fn outcome_of(alloc: Global, most: usize) -> Result<Outcome, ConfigFault> {
+fn outcome_of(
+    alloc: Global,
+    requests: &[&str],
+    most: usize,
+    is_long: bool,
+) -> Result<Outcome, ConfigFault> {
     let kept = Cell::new(0);
     let images = Cell::new(0);
     let mut tools = Tools {
         sockets: OneClient {
-            requests: &[ASKS, STRAYS, ASKS],
+            requests,
             read: 0,
             has_come: false,
             kept: &kept,
@@ -189,6 +198,7 @@ fn outcome_of(alloc: Global, most: usize) -> Result<Outcome, ConfigFault> {
         journal: Count {
             reports: 0,
             last: None,
+            refusals: 0,
         },
         keeper: Patient {
             alloc,
@@ -197,6 +207,7 @@ fn outcome_of(alloc: Global, most: usize) -> Result<Outcome, ConfigFault> {
             changes: Vec::new(alloc),
             moments: 0,
             images: &images,
+            is_long,
         },
     };
     let fault = serve_all(&mut tools, limits(None));
@@ -206,6 +217,7 @@ fn outcome_of(alloc: Global, most: usize) -> Result<Outcome, ConfigFault> {
         changes: tools.keeper.changes,
         moments: tools.keeper.moments,
         images: images.get(),
+        refusals: tools.journal.refusals,
     })
 }
 
@@ -219,9 +231,7 @@ fn what_changes_is_kept_before_the_reply(rt: HostRuntime) -> Result<(), Fail> {
         (0, LoopFault::Keep, &[], &[], (2, 2)),
     ];
     for (most, fault, writes, changes, (images, moments)) in rows {
-        let Ok(outcome) = outcome_of(rt.alloc(), most) else {
-            return Err(Fail::from("no registry"));
-        };
+        let outcome = outcome_of(rt.alloc(), &[ASKS, STRAYS, ASKS], most, false)?;
         assert_eq!(rt; outcome.fault, fault, "most {most}");
         assert_eq!(rt; outcome.writes.as_slice(), writes, "most {most}");
         assert_eq!(rt; outcome.changes.as_slice(), changes, "most {most}");
@@ -231,95 +241,12 @@ fn what_changes_is_kept_before_the_reply(rt: HostRuntime) -> Result<(), Fail> {
     Ok(())
 }
 
-/// It keeps all, and refuses each image.
-#[derive(Drop)]
-struct Refusing<'t> {
-    /// How often it was asked for one.
-    images: &'t Cell<usize>,
-}
-
-impl Keeper for Refusing<'_> {
-    ghost use Rattle.std.specs.Prelude.{⊤, None};
-
-    ghost stands_for = { λ _ _. ⊤ };
-
-    ghost tells = { λ _ _. ⊤ };
-
-    ghost may_leave = { λ _ _. ⊥ };
-
-    ghost moment = { λ _. 0 };
-
-    ghost left_since = { λ _ _ _. ⊥ };
-
-    ghost size_of = { λ _. None };
-
-    fn keep_moment(&mut self, _now: Moment) -> Result<(), KeepFault> {
-        Ok(())
-    }
-
-    fn keep(&mut self, _batch: &Batch) -> Result<(), KeepFault> {
-        Ok(())
-    }
-
-    fn size(&self) -> Option<u64> {
-        None
-    }
-
-    ghost only_now = { λ keeper c left. left };
-}
-
-impl ImageKeeper for Refusing<'_> {
-    ghost use Rattle.std.specs.Prelude.{⊤};
-
-    ghost is_long = { λ _. ⊤ };
-
-    fn put_image<H: HookHost>(&mut self, _server: &Server<H>) -> Result<(), ImageFault> {
-        self.images.set(self.images.get().wrapping_add(1));
-        Err(ImageFault::Unwritten)
-    }
-}
-
-/// How often it was told that an image is refused.
-#[derive(Drop)]
-struct Refusals(usize);
-
-impl Journal for Refusals {
-    ghost use Rattle.std.specs.Prelude.{⊤};
-
-    ghost notes = { λ _ _ _. ⊤ };
-
-    ghost reports = { λ _ _ _. ⊤ };
-
-    fn note(&mut self, _fault: ConnectionFault) {}
-
-    fn report(&mut self, notice: &Notice) {
-        if let Notice::ImageRefused = notice {
-            self.0 = self.0.saturating_add(1);
-        }
-    }
-}
-
 #[test]
 fn a_refused_image_is_tried_each_minute_and_told_once(rt: HostRuntime) -> Result<(), Fail> {
-    let kept = Cell::new(0);
-    let images = Cell::new(0);
-    let mut tools = Tools {
-        sockets: OneClient {
-            requests: &[STRAYS; 200],
-            read: 0,
-            has_come: false,
-            kept: &kept,
-            writes: Vec::new(rt.alloc()),
-        },
-        edge: edge_that_notes(rt.alloc(), true)?,
-        clocks: Ticking { steady: 0 },
-        generator: ChaCha20Rng::from_seed([0; 32]),
-        journal: Refusals(0),
-        keeper: Refusing { images: &images },
-    };
-    assert_eq!(rt; serve_all(&mut tools, limits(None)), LoopFault::Wait);
+    let outcome = outcome_of(rt.alloc(), &[STRAYS; 200], 9, true)?;
+    assert_eq!(rt; outcome.fault, LoopFault::Wait);
     // In the seconds 1, 61, 121 and 181.
-    assert_eq!(rt; images.get(), 4);
-    assert_eq!(rt; tools.journal.0, 1);
+    assert_eq!(rt; outcome.images, 4);
+    assert_eq!(rt; outcome.refusals, 1);
     Ok(())
 }

@@ -34,8 +34,8 @@ const REQUEST: &[u8; 19] = b"GET /x HTTP/1.1\r\n\r\n";
 
 const REPLY: &[u8; 45] = b"HTTP/1.1 404 Not Found\r\nContent-Length: 0\r\n\r\n";
 
-/// A client that sends so many bytes, and how far it is.
-#[derive(Clone, Copy)]
+/// A client that sends so many bytes, and how far it is. It begins as nobody.
+#[derive(Clone, Copy, Default)]
 struct Peer {
     is_there: bool,
     total: usize,
@@ -49,20 +49,6 @@ struct Peer {
     tells_writable: bool,
     is_blocked: bool,
 }
-
-const NOBODY: Peer = Peer {
-    is_there: false,
-    total: 0,
-    arrived: 0,
-    read: 0,
-    taken: 0,
-    window: 0,
-    has_ended: false,
-    has_failed: false,
-    tells_readable: false,
-    tells_writable: false,
-    is_blocked: false,
-};
 
 impl Peer {
     /// What happens to it while the loop waits: so many bytes may arrive, and so many be taken.
@@ -274,7 +260,7 @@ impl Sockets for Fake {
         } else if peer.taken == replies {
             self.served = self.served.saturating_add(1);
         }
-        *peer = NOBODY;
+        *peer = Peer::default();
     }
 }
 
@@ -298,11 +284,12 @@ impl Clocks for Ticking {
     }
 }
 
-/// How many reports were told, and the last one.
+/// How many reports were told, and the last one, and how often that an image is refused.
 #[derive(Drop)]
 pub(super) struct Count {
     pub(super) reports: u64,
     pub(super) last: Option<Report>,
+    pub(super) refusals: u64,
 }
 
 impl Journal for Count {
@@ -315,9 +302,13 @@ impl Journal for Count {
     fn note(&mut self, _fault: ConnectionFault) {}
 
     fn report(&mut self, notice: &Notice) {
-        if let Notice::Reported(report) = notice {
-            self.reports = self.reports.saturating_add(1);
-            self.last = Some(*report);
+        match notice {
+            Notice::Reported(report) => {
+                self.reports = self.reports.saturating_add(1);
+                self.last = Some(*report);
+            }
+            Notice::ImageRefused => self.refusals = self.refusals.saturating_add(1),
+            _ => {}
         }
     }
 }
@@ -345,7 +336,7 @@ fn ended(alloc: Global, seed: u8, failures: Option<u32>) -> Result<Run, ConfigFa
     let rng = ChaCha20Rng::from_seed([seed; 32]);
     let sockets = Fake {
         rng,
-        peers: Vec::from_elem(alloc, NOBODY, 64)?,
+        peers: Vec::from_elem(alloc, Peer::default(), 64)?,
         to_come: 80,
         tells_listener: true,
         failures,
@@ -362,6 +353,7 @@ fn ended(alloc: Global, seed: u8, failures: Option<u32>) -> Result<Run, ConfigFa
         journal: Count {
             reports: 0,
             last: None,
+            refusals: 0,
         },
         keeper: NoKeeper,
     };
@@ -376,27 +368,16 @@ fn ended(alloc: Global, seed: u8, failures: Option<u32>) -> Result<Run, ConfigFa
 }
 
 #[test]
-fn all_requests_are_answered_through_short_reads_and_writes(rt: HostRuntime) -> Result<(), Fail> {
-    for seed in [1u8, 2] {
-        let run = ended(rt.alloc(), seed, None)?;
-        assert!(rt; run.fault == LoopFault::Wait);
-        assert_eq!(rt; run.sockets.wrong_bytes, 0, "seed {seed}");
-        assert_eq!(rt; run.sockets.served, 80, "seed {seed}");
-    }
-    Ok(())
-}
-
-#[test]
-fn a_failure_ends_its_connection_alone(rt: HostRuntime) -> Result<(), Fail> {
-    for seed in [1u8, 2] {
-        let run = ended(rt.alloc(), seed, Some(50))?;
-        assert!(rt; run.fault == LoopFault::Wait);
+fn all_requests_are_answered_and_a_failure_ends_its_connection_alone(
+    rt: HostRuntime,
+) -> Result<(), Fail> {
+    for (seed, failures) in [(1u8, None), (2, None), (1, Some(50)), (2, Some(50))] {
+        let run = ended(rt.alloc(), seed, failures)?;
         let (served, cut_off) = (run.sockets.served, run.sockets.cut_off);
+        assert!(rt; run.fault == LoopFault::Wait);
         assert_eq!(rt; run.sockets.wrong_bytes, 0, "seed {seed}");
-        assert!(rt;
-            cut_off > 0 && served.saturating_add(cut_off) == 80,
-            "seed {seed}"
-        );
+        assert_eq!(rt; served.saturating_add(cut_off), 80, "seed {seed}");
+        assert_eq!(rt; cut_off > 0, failures.is_some(), "seed {seed}");
     }
     Ok(())
 }

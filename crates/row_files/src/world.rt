@@ -1,4 +1,4 @@
-//! The machine as a row has it: with a clock of its own.
+//! A machine that has another clock.
 
 use std::alloc::{Allocator, Global};
 use std::fs::{File, Metadata, OpenOptions};
@@ -8,23 +8,16 @@ use std::random::RandomSource;
 use std::rt::{Clock, Files};
 use std::time::Duration;
 
-/// The machine, whose clock stands.
+/// The machine, with this clock in the place of its own.
 #[derive(Drop)]
-pub struct World<'m, R> {
-    machine: &'m R,
-    /// What its clock tells, since 1970.
-    now: Duration,
+pub struct World<'m, R, C> {
+    /// The machine.
+    pub machine: &'m R,
+    /// The clock.
+    pub clock: C,
 }
 
-impl<'m, R> World<'m, R> {
-    /// The machine at so many seconds since 1970.
-    pub fn new(machine: &'m R, seconds: u64) -> World<'m, R> {
-        let now = Duration::from_secs(seconds);
-        World { machine, now }
-    }
-}
-
-impl<'m, R: AllocGlobal> Alloc for World<'m, R> {
+impl<R: AllocGlobal, C> Alloc for World<'_, R, C> {
     type A = Global;
 
     fn alloc(&self) -> Global {
@@ -32,23 +25,23 @@ impl<'m, R: AllocGlobal> Alloc for World<'m, R> {
     }
 }
 
-impl<'m, R: RandomSource> RandomSource for World<'m, R> {
+impl<R: RandomSource, C> RandomSource for World<'_, R, C> {
     fn fill_bytes(&self, buf: &mut [u8]) -> io::Result<()> {
         self.machine.fill_bytes(buf)
     }
 }
 
-impl<'m, R: Clock> Clock for World<'m, R> {
+impl<R, C: Clock> Clock for World<'_, R, C> {
     fn monotonic(&self) -> io::Result<Duration> {
-        self.machine.monotonic()
+        self.clock.monotonic()
     }
 
     fn since_1970(&self) -> io::Result<Duration> {
-        Ok(self.now)
+        self.clock.since_1970()
     }
 }
 
-impl<'m, R: Files> Files for World<'m, R> {
+impl<R: Files, C> Files for World<'_, R, C> {
     type File = R::File;
 
     type Dir = R::Dir;
@@ -94,7 +87,7 @@ impl<'m, R: Files> Files for World<'m, R> {
     }
 }
 
-impl<'m, R: Net> Net for World<'m, R> {
+impl<R: Net, C> Net for World<'_, R, C> {
     type Stream = R::Stream;
 
     type Listener = R::Listener;
