@@ -1,8 +1,8 @@
 //! Client authentication by HTTP Basic or by parameters (RFC 6749, section 2.3.1; RFC 7617).
 
-ghost use Rattle.std.specs.Prelude.{◌≡◌, ◌≤◌, length, ◌==◌, ℕ, List, true, false, not, drop, bytes_eq, if◌then◌else◌, string_bytes, option_copied, IfOk, IfErr, Ok, Err, None, Some};
+ghost use Rattle.std.specs.Prelude.{◌≡◌, ◌≤◌, length, ◌==◌, ◌&&◌, ℕ, List, true, false, not, nat_lt, drop, bytes_eq, if◌then◌else◌, string_bytes, option_copied, IfOk, IfErr, Ok, Err, None, Some};
 ghost use Rattle.std.specs.Cow.{cow_str_bytes};
-ghost use Rattle.std.specs.List.{position};
+ghost use Rattle.std.specs.List.{list_all};
 ghost use Rattle.std.specs.Option.{ok_or, option_map_or};
 ghost use Rattle.std.specs.Str.{is_utf8};
 ghost use Rattle.authentication.specs.FaultTexts.{auth_fault_text};
@@ -104,28 +104,30 @@ fn basic_text(alloc: Global, header: &[u8]) -> Result<String, AuthFault>
     utf8_text(base64_bytes(alloc, encoded)?)
 }
 
-// The place of the first colon.
-fn colon(text: &[u8]) -> Option<usize>
-    ensures { result ≡ position (λ b. b == 58) text.now }
-{
-    text.iter().position(|byte| *byte == b':')
-}
-
-// The bytes on the two sides of the first colon.
-fn around_colon(text: &[u8]) -> Result<(&[u8], &[u8]), AuthFault>
+// The texts on the two sides of the first colon.
+fn around_colon(text: &str) -> Result<(&str, &str), AuthFault>
     ensures { seen_by (λ p. (p.0.now, p.1.now)) result ≡ around_colon text.now }
 {
-    match colon(text) {
-        Some(place) => Ok((&text[..place], &text[place + 1..])),
-        None => Err(AuthFault::BadHeader),
-    }
+    text.split_once(':').ok_or(AuthFault::BadHeader)
+}
+
+// Whether the text stands for itself in a form: it is ASCII, and has neither `+` nor `%`.
+fn is_plain(text: &[u8]) -> bool
+    ensures { result ≡ list_all (λ b. nat_lt b 128 && not (b == 43) && not (b == 37)) text.now }
+{
+    text.iter()
+        .all(|byte| *byte < 128 && *byte != b'+' && *byte != b'%')
 }
 
 // The text that was form-encoded (RFC 6749, appendix B): where it stands as it is, it is no copy.
-fn form_text(alloc: Global, bytes: &[u8]) -> Result<CowStr<'_>, AuthFault>
-    ensures { GivesUnless AuthFault.Memory Unit (seen_by cow_str_bytes result) (form_text bytes.now) }
+#[tactic(auto, using(crate::proofs::Plain::same_text))]
+fn form_text(alloc: Global, encoded: &str) -> Result<CowStr<'_>, AuthFault>
+    ensures { GivesUnless AuthFault.Memory Unit (seen_by cow_str_bytes result) (form_text encoded.now) }
 {
-    let text = decode(alloc, bytes)?;
+    if is_plain(encoded.as_bytes()) {
+        return Ok(CowStr::Borrowed(encoded));
+    }
+    let text = decode(alloc, encoded.as_bytes())?;
     if has_replacement(&text) {
         return Err(AuthFault::BadHeader);
     }
@@ -143,7 +145,7 @@ struct Credentials<'a> {
 fn read_credentials(alloc: Global, text: &str) -> Result<Credentials<'_>, AuthFault>
     ensures { GivesUnless AuthFault.Memory Unit (seen_by (λ c. (cow_str_bytes c.id, cow_str_bytes c.secret)) result) (credentials_in text.now) }
 {
-    let (id, secret) = around_colon(text.as_bytes())?;
+    let (id, secret) = around_colon(text)?;
     Ok(Credentials {
         id: form_text(alloc, id)?,
         secret: form_text(alloc, secret)?,
