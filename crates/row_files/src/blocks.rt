@@ -8,7 +8,7 @@
 //! A row begins with `== ` and its name, and goes up to the next one. In it a line that begins with `$ ` (or is `$`) is a command
 //! line, and one that begins with `-- ` begins a section. What stands behind these belongs to them.
 
-use crate::fault::{LineFault, Stop};
+use crate::fault::{LineFault, Stop, Why};
 use std::alloc::Global;
 
 /// What begins with a line.
@@ -82,16 +82,23 @@ fn section_in(line: &str) -> Option<Heading<'_>> {
     if line == "$" {
         return Some(Heading::Command(""));
     }
-    line.strip_prefix("-- ").map(Heading::Section)
+    match line.strip_prefix("-- ") {
+        Some(section) => Some(Heading::Section(section)),
+        None => None,
+    }
 }
 
-/// What begins with a line that stands here, if anything does.
-fn heading_in(place: Place, line: &str) -> Option<Heading<'_>> {
-    match (line.strip_prefix("== "), place) {
-        (Some(name), _) => Some(Heading::Row(name)),
-        (None, Place::Outside) => definition_in(line),
-        (None, Place::Definition) => None,
-        (None, Place::Row) => section_in(line),
+impl Place {
+    /// What begins with a line that stands here, if anything does.
+    fn heading_in(self, line: &str) -> Option<Heading<'_>> {
+        if let Some(name) = line.strip_prefix("== ") {
+            return Some(Heading::Row(name));
+        }
+        match self {
+            Place::Outside => definition_in(line),
+            Place::Definition => None,
+            Place::Row => section_in(line),
+        }
     }
 }
 
@@ -114,7 +121,7 @@ fn put_line(blocks: &mut Vec<Block<'_>>, place: Place, line: &str) -> Result<Pla
             Ok(place)
         }
         _ if says_nothing(line) => Ok(place),
-        _ => Err(LineFault::Wrong("no definition")),
+        _ => Err(LineFault::Wrong(Why::NoDefinition)),
     }
 }
 
@@ -128,7 +135,7 @@ pub fn blocks_of<'f, 't>(
     let mut place = Place::Outside;
     for (index, text) in text.split('\n').enumerate() {
         let line = index.saturating_add(1);
-        if let Some(heading) = heading_in(place, text) {
+        if let Some(heading) = place.heading_in(text) {
             let body = String::new(alloc);
             blocks.push(Block {
                 line,

@@ -2,6 +2,7 @@
 
 use crate::row::{Likeness, Wanted};
 use std::alloc::{AllocError, Global};
+use std::fmt::{self, Display, Formatter};
 
 /// How a command line ended.
 #[derive(Drop)]
@@ -25,8 +26,30 @@ pub struct Ending<'w> {
     pub err: Option<&'w Wanted>,
 }
 
-/// The parts of the texts that are wanted and found, which are shown where they differ.
-type Shown = (String, String);
+/// What differs.
+#[derive(Clone, Copy)]
+enum Aspect {
+    Status,
+    Out,
+    Err,
+}
+
+impl Display for Aspect {
+    fn fmt<W: fmt::Write>(&self, f: &mut Formatter<W>) -> fmt::Result {
+        f.write_str(match self {
+            Aspect::Status => "exit status",
+            Aspect::Out => "standard output",
+            Aspect::Err => "standard error",
+        })
+    }
+}
+
+/// The parts of two texts that are shown where they differ.
+#[derive(Drop)]
+struct Shown {
+    wanted: String,
+    found: String,
+}
 
 /// So many bytes are shown before the first one that differs.
 const BEFORE: usize = 60;
@@ -53,7 +76,13 @@ fn parted(alloc: Global, wanted: &[u8], found: &[u8]) -> Result<Option<Shown>, A
     }
     let place = common_length(wanted, found);
     let wanted = part_round(alloc, wanted, place)?;
-    Ok(Some((wanted, part_round(alloc, found, place)?)))
+    let found = part_round(alloc, found, place)?;
+    Ok(Some(Shown { wanted, found }))
+}
+
+/// Whether a text has this line.
+fn has_line(text: &str, line: &str) -> bool {
+    text.split('\n').any(|other| other == line)
 }
 
 /// The first line of a text that is none of another one, if there is one.
@@ -61,9 +90,10 @@ fn missing(alloc: Global, wanted: &[u8], found: &[u8]) -> Result<Option<Shown>, 
     let lines = String::from_utf8_lossy(alloc, wanted)?;
     let text = String::from_utf8_lossy(alloc, found)?;
     for line in lines.trim_end_matches('\n').split('\n') {
-        if !text.split('\n').any(|other| other == line) {
+        if !has_line(text.as_str(), line) {
             let wanted = String::from_str(alloc, line)?;
-            return Ok(Some((wanted, part_round(alloc, found, 0)?)));
+            let found = part_round(alloc, found, 0)?;
+            return Ok(Some(Shown { wanted, found }));
         }
     }
     Ok(None)
@@ -92,12 +122,12 @@ fn difference(
 fn tell_output(
     alloc: Global,
     told: &mut String,
-    output: &str,
+    aspect: Aspect,
     wanted: Option<&Wanted>,
     found: &[u8],
 ) -> Result<(), AllocError> {
-    if let Some((wanted, found)) = difference(alloc, wanted, found)? {
-        let text = format!(in alloc; ": standard {output}: wanted {wanted:?}, found {found:?}")?;
+    if let Some(Shown { wanted, found }) = difference(alloc, wanted, found)? {
+        let text = format!(in alloc; ": {aspect}: wanted {wanted:?}, found {found:?}")?;
         told.push_str(text.as_str())?;
     }
     Ok(())
@@ -108,10 +138,11 @@ pub fn differences(alloc: Global, ending: Ending<'_>, ended: &Ended) -> Result<S
     let mut told = String::new(alloc);
     let (wanted, found) = (ending.status, ended.status);
     if wanted != found {
-        let text = format!(in alloc; ": exit status: wanted {wanted}, found {found}")?;
+        let aspect = Aspect::Status;
+        let text = format!(in alloc; ": {aspect}: wanted {wanted}, found {found}")?;
         told.push_str(text.as_str())?;
     }
-    tell_output(alloc, &mut told, "error", ending.err, &ended.err)?;
-    tell_output(alloc, &mut told, "output", ending.out, &ended.out)?;
+    tell_output(alloc, &mut told, Aspect::Err, ending.err, &ended.err)?;
+    tell_output(alloc, &mut told, Aspect::Out, ending.out, &ended.out)?;
     Ok(told)
 }

@@ -4,10 +4,8 @@
 //! the other, in the order in which they are defined, so that a text may name those that are defined behind it. Lines of a talk
 //! stand in the place of `with NAME`.
 
-use crate::fault::LineFault;
+use crate::fault::{LineFault, Why};
 use std::alloc::{AllocError, Global};
-
-const UNDEFINED: LineFault = LineFault::Wrong("undefined name");
 
 /// A text behind its name.
 #[derive(Drop)]
@@ -35,6 +33,15 @@ fn text_behind<'d>(definitions: &'d [Definition], name: &str) -> Option<&'d str>
     None
 }
 
+/// A text with what stands behind a name in its places, in which other names may stand.
+fn put_in(alloc: Global, text: String, definition: &Definition) -> Result<String, AllocError> {
+    if text.contains('$') {
+        text.replace(alloc, definition.name.as_str(), definition.text.as_str())
+    } else {
+        Ok(text)
+    }
+}
+
 /// Whether a byte may stand in a name.
 fn is_of_name(byte: u8) -> bool {
     byte.is_ascii_uppercase() || byte.is_ascii_digit() || byte == b'_'
@@ -46,6 +53,11 @@ fn is_name(text: &str) -> bool {
         Some(name) => !name.is_empty() && name.bytes().all(is_of_name),
         None => false,
     }
+}
+
+/// Whether one of two names begins the other.
+fn begin_alike(one: &str, other: &str) -> bool {
+    one.starts_with(other) || other.starts_with(one)
 }
 
 impl Names {
@@ -62,12 +74,13 @@ impl Names {
         self.texts
             .retain(|definition| definition.name.as_str() != name.as_str());
         if !is_name(name.as_str()) {
-            return Err(LineFault::Wrong("no name"));
+            return Err(LineFault::Wrong(Why::NoName));
         }
-        for other in &self.texts {
-            if other.name.starts_with(name.as_str()) || name.starts_with(other.name.as_str()) {
-                return Err(LineFault::Wrong("a name that begins another one, or begins with it"));
-            }
+        if self.texts.iter().any(|definition| begin_alike(
+            definition.name.as_str(),
+            name.as_str(),
+        )) {
+            return Err(LineFault::Wrong(Why::Clash));
         }
         self.texts.push(Definition { name, text })?;
         Ok(())
@@ -85,17 +98,17 @@ impl Names {
     pub fn written_out(&self, alloc: Global, text: &str) -> Result<String, AllocError> {
         let mut whole = String::from_str(alloc, text)?;
         for definition in &self.texts {
-            if whole.contains('$') {
-                whole = whole.replace(alloc, definition.name.as_str(), definition.text.as_str())?;
-            }
+            whole = put_in(alloc, whole, definition)?;
         }
         Ok(whole)
     }
 
     /// The text behind a name that begins with `$`, written out.
     pub fn text_of(&self, alloc: Global, name: &str) -> Result<String, LineFault> {
-        let text = text_behind(&self.texts, name).ok_or(UNDEFINED)?;
-        Ok(self.written_out(alloc, text)?)
+        match text_behind(&self.texts, name) {
+            Some(text) => Ok(self.written_out(alloc, text)?),
+            None => Err(LineFault::Wrong(Why::Undefined)),
+        }
     }
 
     /// Lines with those that are named in the places of `with NAME`.
@@ -103,7 +116,7 @@ impl Names {
         let mut all = String::new(alloc);
         for line in lines.split('\n') {
             let put = match line.strip_prefix("with ") {
-                Some(name) => text_behind(&self.lines, name).ok_or(UNDEFINED)?,
+                Some(name) => text_behind(&self.lines, name).ok_or(Why::Undefined)?,
                 None => line,
             };
             all.push_str(put)?;

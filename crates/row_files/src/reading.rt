@@ -1,10 +1,10 @@
 //! Reading a file of rows.
 
 use crate::blocks::{Block, Heading, blocks_of, say_nothing};
-use crate::fault::{LineFault, Stop};
+use crate::fault::{LineFault, Stop, Why};
 use crate::names::Names;
-use crate::row::Row;
-use crate::sections::{OUTSIDE, put_section};
+use crate::row::{Row, Section};
+use crate::sections::section_of;
 use crate::words::words_of;
 use std::alloc::{AllocError, Global};
 
@@ -24,15 +24,61 @@ fn blank_row(alloc: Global, line: usize, name: &str) -> Result<Row, AllocError> 
     })
 }
 
+/// Says what is not yet said.
+fn say<T: Drop>(place: &mut Option<T>, value: T) -> Result<(), LineFault> {
+    match place.replace(value) {
+        None => Ok(()),
+        Some(_) => Err(LineFault::Wrong(Why::Twice)),
+    }
+}
+
+/// Puts a section into its row.
+fn put_section(row: &mut Row, section: Section) -> Result<(), LineFault> {
+    match section {
+        Section::Command(words) => Ok(row.commands.push(words)?),
+        Section::File(file) if row.has_file(file.name.as_str()) => {
+            Err(LineFault::Wrong(Why::Twice))
+        }
+        Section::File(file) => Ok(row.files.push(file)?),
+        Section::Out(wanted) => say(&mut row.out, wanted),
+        Section::Err(wanted) => say(&mut row.err, wanted),
+        Section::Status(code) => say(&mut row.status, code),
+        Section::Now(seconds) => say(&mut row.now, seconds),
+        Section::Talk(talk) => say(&mut row.talk, talk),
+    }
+}
+
+/// The text of lines, joined without line ends.
+fn joined(alloc: Global, lines: &str) -> Result<String, AllocError> {
+    lines.replace(alloc, '\n', "")
+}
+
+/// A command line, with no lines behind it.
+fn command(alloc: Global, names: &Names, words: &str, body: &str) -> Result<Section, LineFault> {
+    if !say_nothing(body) {
+        return Err(LineFault::Wrong(Why::NoSection));
+    }
+    let words = names.written_out(alloc, words)?;
+    Ok(Section::Command(words_of(alloc, words.as_str())?))
+}
+
 /// A row of this name, with no lines behind it.
 fn row(alloc: Global, line: usize, name: &str, body: &str) -> Result<Row, LineFault> {
     if name.is_empty() {
-        return Err(LineFault::Wrong("no name"));
+        return Err(LineFault::Wrong(Why::NoName));
     }
     if !say_nothing(body) {
-        return Err(OUTSIDE);
+        return Err(LineFault::Wrong(Why::NoSection));
     }
     Ok(blank_row(alloc, line, name)?)
+}
+
+/// Puts a section into the row that was begun last.
+fn put_in_last(rows: &mut Vec<Row>, section: Section) -> Result<(), LineFault> {
+    match rows.last_mut() {
+        Some(row) => put_section(row, section),
+        None => Err(LineFault::Wrong(Why::NoSection)),
+    }
 }
 
 /// Defines a name of a text.
@@ -48,21 +94,6 @@ fn define_lines(alloc: Global, names: &mut Names, name: &str, body: &str) -> Res
     Ok(names.define_lines(name, lines)?)
 }
 
-/// Puts a command line, with no lines behind it, into its row.
-fn put_command(
-    alloc: Global,
-    names: &Names,
-    row: &mut Row,
-    words: &str,
-    body: &str,
-) -> Result<(), LineFault> {
-    if !say_nothing(body) {
-        return Err(OUTSIDE);
-    }
-    let words = names.written_out(alloc, words)?;
-    Ok(row.commands.push(words_of(alloc, words.as_str())?)?)
-}
-
 /// Reads a block: defines a name, or goes on with the rows.
 fn read_block(
     alloc: Global,
@@ -71,32 +102,31 @@ fn read_block(
     block: &Block<'_>,
 ) -> Result<(), LineFault> {
     let body = block.body.as_str();
-    match (block.heading, rows.last_mut()) {
-        (Heading::Name(name, text), _) => define(
-            alloc,
-            names,
-            name,
-            String::from_str(alloc, text)?,
-        ),
-        // The lines are joined without their ends.
-        (Heading::LongName(name), _) => define(alloc, names, name, body.replace(alloc, '\n', "")?),
-        (Heading::Lines(name), _) => define_lines(alloc, names, name, body),
-        (Heading::Row(name), _) => Ok(rows.push(row(alloc, block.line, name, body)?)?),
-        (Heading::Command(words), Some(row)) => put_command(alloc, names, row, words, body),
-        (Heading::Section(heading), Some(row)) => put_section(alloc, names, row, heading, body),
-        (Heading::Command(_) | Heading::Section(_), None) => Err(OUTSIDE),
+    match block.heading {
+        Heading::Name(name, text) => define(alloc, names, name, String::from_str(alloc, text)?),
+        Heading::LongName(name) => define(alloc, names, name, joined(alloc, body)?),
+        Heading::Lines(name) => define_lines(alloc, names, name, body),
+        Heading::Row(name) => Ok(rows.push(row(alloc, block.line, name, body)?)?),
+        Heading::Command(words) => put_in_last(rows, command(alloc, names, words, body)?),
+        Heading::Section(heading) => put_in_last(rows, section_of(alloc, names, heading, body)?),
+    }
+}
+
+/// What is wrong with a row that was read, if anything is.
+fn wrong_with(row: &Row) -> Option<Why> {
+    if !row.is_called() {
+        Some(Why::NoCommand)
+    } else if !row.has_its_files() {
+        Some(Why::NoFile)
+    } else {
+        None
     }
 }
 
 /// Looks for a row with which something is wrong.
 fn look_at_rows<'f>(path: &'f str, rows: &[Row]) -> Result<(), Stop<'f>> {
     for row in rows {
-        if !row.is_called() {
-            let why = "no command line and no talk, or both";
-            return Err(Stop::NoRows(path, row.line, why));
-        }
-        if !row.has_its_files() {
-            let why = "a word of a file that the row has not";
+        if let Some(why) = wrong_with(row) {
             return Err(Stop::NoRows(path, row.line, why));
         }
     }

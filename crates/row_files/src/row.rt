@@ -20,13 +20,22 @@ pub struct Wanted {
     pub bytes: Vec<u8>,
 }
 
+/// What a file is made of.
+#[derive(Clone, Copy)]
+pub enum Making {
+    /// It has the bytes that the row gives.
+    Given,
+    /// It has what `asm` makes of these.
+    Assembled,
+}
+
 /// A file that stands in the folder while its row runs.
 #[derive(Drop)]
 pub struct RowFile {
     /// Its name.
     pub name: String,
-    /// Whether it has what `asm` makes of the bytes, in their place.
-    pub is_assembled: bool,
+    /// What it is made of.
+    pub making: Making,
     /// The bytes that the row gives.
     pub bytes: Vec<u8>,
 }
@@ -62,6 +71,25 @@ pub struct Talk {
     pub pieces: Pieces,
     /// What comes and goes out, in lines.
     pub lines: String,
+}
+
+/// A section of a row.
+#[derive(Drop)]
+pub enum Section {
+    /// A command line.
+    Command(Vec<Word>),
+    /// A file.
+    File(RowFile),
+    /// What is to be written to standard output.
+    Out(Wanted),
+    /// What is to be written to standard error.
+    Err(Wanted),
+    /// The exit status.
+    Status(u8),
+    /// The machine's clock, in seconds since 1970.
+    Now(u64),
+    /// A talk, in place of command lines.
+    Talk(Talk),
 }
 
 /// A row.

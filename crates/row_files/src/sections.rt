@@ -13,19 +13,10 @@
 //!   `-- out` or `-- err`.
 
 use crate::blocks::say_nothing;
-use crate::fault::LineFault;
+use crate::fault::{LineFault, Why};
 use crate::names::Names;
-use crate::row::{Likeness, Pieces, Row, RowFile, Talk, Wanted};
+use crate::row::{Likeness, Making, Pieces, RowFile, Section, Talk, Wanted};
 use std::alloc::{AllocError, Global};
-
-/// A line stands where none may stand.
-pub const OUTSIDE: LineFault = LineFault::Wrong("outside of a section");
-
-const UNKNOWN: LineFault = LineFault::Wrong("unknown section");
-
-const TWICE: LineFault = LineFault::Wrong("said twice");
-
-const BAD_NUMBER: LineFault = LineFault::Wrong("bad number");
 
 /// The lines of a section's text, without the empty ones at its end and the end of the last one.
 fn lines_in(text: &str) -> &str {
@@ -50,7 +41,7 @@ fn hex_bytes(alloc: Global, lines: &str) -> Result<Vec<u8>, LineFault> {
     match hex::decode(alloc, digits.as_str()) {
         Ok(bytes) => Ok(bytes),
         Err(hex::FromHexError::OutOfMemory) => Err(LineFault::OutOfMemory),
-        Err(_) => Err(LineFault::Wrong("bad hex")),
+        Err(_) => Err(LineFault::Wrong(Why::BadHex)),
     }
 }
 
@@ -61,7 +52,7 @@ fn bytes_in(alloc: Global, form: &str, text: &str) -> Result<Vec<u8>, LineFault>
         "cut" => Ok(Vec::from_slice(alloc, lines.as_bytes())?),
         "hex" => hex_bytes(alloc, lines),
         "" => Ok(whole_lines(alloc, lines)?),
-        _ => Err(UNKNOWN),
+        _ => Err(LineFault::Wrong(Why::UnknownSection)),
     }
 }
 
@@ -76,7 +67,7 @@ fn wanted(alloc: Global, form: &str, text: &str) -> Result<Wanted, LineFault> {
     let bytes = bytes_in(alloc, form, text)?;
     match likeness {
         Likeness::Front | Likeness::Lines if bytes.is_empty() => {
-            Err(LineFault::Wrong("no text"))
+            Err(LineFault::Wrong(Why::NoText))
         }
         _ => Ok(Wanted { likeness, bytes }),
     }
@@ -86,15 +77,17 @@ fn wanted(alloc: Global, form: &str, text: &str) -> Result<Wanted, LineFault> {
 fn file(alloc: Global, heading: &str, text: &str) -> Result<RowFile, LineFault> {
     let (name, form) = heading.split_once(' ').unwrap_or((heading, ""));
     if name.is_empty() || name.contains('/') {
-        return Err(LineFault::Wrong("no name"));
+        return Err(LineFault::Wrong(Why::NoName));
     }
-    let is_assembled = form == "assembled";
-    let form = if is_assembled { "" } else { form };
+    let (making, form) = match form {
+        "assembled" => (Making::Assembled, ""),
+        form => (Making::Given, form),
+    };
     let bytes = bytes_in(alloc, form, text)?;
     let name = String::from_str(alloc, name)?;
     Ok(RowFile {
         name,
-        is_assembled,
+        making,
         bytes,
     })
 }
@@ -106,58 +99,78 @@ fn pieces(form: &str) -> Result<Pieces, LineFault> {
         "byte by byte" => Ok(Pieces::Bytes),
         "in two pieces" => Ok(Pieces::Two),
         "broken off" => Ok(Pieces::Front),
-        _ => Err(UNKNOWN),
+        _ => Err(LineFault::Wrong(Why::UnknownSection)),
     }
+}
+
+/// The lines of a talk, with those that it names, written out.
+fn talk_lines(alloc: Global, names: &Names, text: &str) -> Result<String, LineFault> {
+    let lines = names.with_lines(alloc, text)?;
+    Ok(names.written_out(alloc, lines.as_str())?)
 }
 
 /// A talk: the name of its registry and in which pieces requests come, and its lines.
 fn talk(alloc: Global, names: &Names, heading: &str, text: &str) -> Result<Talk, LineFault> {
     let (name, form) = heading.split_once(' ').unwrap_or((heading, ""));
-    let lines = names.with_lines(alloc, text)?;
+    let pieces = pieces(form)?;
     let talk = Talk {
         config: names.text_of(alloc, name)?,
-        pieces: pieces(form)?,
-        lines: names.written_out(alloc, lines.as_str())?,
+        pieces,
+        lines: talk_lines(alloc, names, text)?,
     };
     if talk.is_whole() {
         Ok(talk)
     } else {
-        Err(LineFault::Wrong("bad line in a talk"))
+        Err(LineFault::Wrong(Why::BadTalk))
     }
 }
 
-/// Says what is not yet said.
-fn say<T: Drop>(place: &mut Option<T>, value: T) -> Result<(), LineFault> {
-    match place.replace(value) {
-        None => Ok(()),
-        Some(_) => Err(TWICE),
+/// An exit status.
+fn status(form: &str) -> Result<u8, LineFault> {
+    match form.parse() {
+        Ok(status) => Ok(status),
+        Err(_) => Err(LineFault::Wrong(Why::BadNumber)),
     }
 }
 
-/// Puts the section of this heading, behind `-- `, with these lines, into its row.
-pub fn put_section(
+/// A moment, in seconds since 1970.
+fn seconds(form: &str) -> Result<u64, LineFault> {
+    match form.parse() {
+        Ok(seconds) => Ok(seconds),
+        Err(_) => Err(LineFault::Wrong(Why::BadNumber)),
+    }
+}
+
+/// A section of one line, with no lines behind it.
+fn one_line(kind: &str, form: &str, body: &str) -> Result<Section, LineFault> {
+    let section = match kind {
+        "status" => Section::Status(status(form)?),
+        "now" => Section::Now(seconds(form)?),
+        _ => return Err(LineFault::Wrong(Why::UnknownSection)),
+    };
+    if say_nothing(body) {
+        Ok(section)
+    } else {
+        Err(LineFault::Wrong(Why::NoSection))
+    }
+}
+
+/// The section of this heading, behind `-- `, with these lines.
+pub fn section_of(
     alloc: Global,
     names: &Names,
-    row: &mut Row,
     heading: &str,
     body: &str,
-) -> Result<(), LineFault> {
+) -> Result<Section, LineFault> {
     let (kind, form) = heading.split_once(' ').unwrap_or((heading, ""));
+    if kind == "talk" {
+        return Ok(Section::Talk(talk(alloc, names, form, body)?));
+    }
     let text = names.written_out(alloc, body)?;
     match kind {
-        "talk" => say(&mut row.talk, talk(alloc, names, form, body)?),
-        "file" => {
-            let file = file(alloc, form, text.as_str())?;
-            if row.has_file(file.name.as_str()) {
-                return Err(TWICE);
-            }
-            Ok(row.files.push(file)?)
-        }
-        "out" => say(&mut row.out, wanted(alloc, form, text.as_str())?),
-        "err" => say(&mut row.err, wanted(alloc, form, text.as_str())?),
-        "status" | "now" if !say_nothing(body) => Err(OUTSIDE),
-        "status" => say(&mut row.status, form.parse().ok().ok_or(BAD_NUMBER)?),
-        "now" => say(&mut row.now, form.parse().ok().ok_or(BAD_NUMBER)?),
-        _ => Err(UNKNOWN),
+        "file" => Ok(Section::File(file(alloc, form, text.as_str())?)),
+        "out" => Ok(Section::Out(wanted(alloc, form, text.as_str())?)),
+        "err" => Ok(Section::Err(wanted(alloc, form, text.as_str())?)),
+        _ => one_line(kind, form, body),
     }
 }

@@ -12,11 +12,12 @@
 
 use crate::row::{Pieces, Talk};
 use std::alloc::{AllocError, Global};
+use std::ops::Range;
 use std::str;
 
 /// A request, as a line of a talk says it.
 #[derive(Clone, Copy)]
-struct Request<'t> {
+pub struct Request<'t> {
     /// The number of its connection.
     connection: &'t str,
     /// The moment at which it comes.
@@ -31,7 +32,7 @@ struct Request<'t> {
 
 /// A reply, as a line of a talk says it.
 #[derive(Clone, Copy)]
-struct Reply<'t> {
+pub struct Reply<'t> {
     /// The number of its connection.
     connection: &'t str,
     /// Its status.
@@ -42,7 +43,7 @@ struct Reply<'t> {
 
 /// A line of a talk.
 #[derive(Clone, Copy)]
-enum TalkLine<'t> {
+pub enum TalkLine<'t> {
     /// It says nothing.
     Nothing,
     /// A line of a transcript.
@@ -68,7 +69,7 @@ pub enum Cut {
 
 impl<'t> TalkLine<'t> {
     /// What a line says, unless it has another form.
-    fn of(line: &'t str) -> Option<TalkLine<'t>> {
+    pub fn of(line: &'t str) -> Option<TalkLine<'t>> {
         if line.is_empty() || line.starts_with('#') {
             return Some(TalkLine::Nothing);
         }
@@ -98,6 +99,51 @@ impl<'t> TalkLine<'t> {
     }
 }
 
+/// The head of a request, without the empty line at its end, and its body in hex.
+#[derive(Drop)]
+struct Parts {
+    head: String,
+    body: String,
+}
+
+impl Parts {
+    /// Puts a part of a request behind the others.
+    fn put(&mut self, alloc: Global, part: &str) -> Result<(), AllocError> {
+        if part.contains(": ") {
+            self.head.push_str(part)?;
+            self.head.push_str("\r\n")
+        } else if let Some(digits) = part.strip_prefix("0x") {
+            self.body.push_str(digits)
+        } else {
+            let digits = hex::encode(alloc, part)?;
+            self.body.push_str(digits.as_str())
+        }
+    }
+
+    /// Puts the line of the body's length behind the others, where there is a body, and the end of the head.
+    fn end(&mut self, alloc: Global) -> Result<(), AllocError> {
+        if !self.body.is_empty() {
+            let length = self.body.len() / 2;
+            let line = format!(in alloc; "Content-Length: {length}\r\n")?;
+            self.head.push_str(line.as_str())?;
+        }
+        self.head.push_str("\r\n")
+    }
+}
+
+/// The parts of a request.
+fn parts_of(alloc: Global, text: &str) -> Result<Parts, AllocError> {
+    let (line, parts) = text.split_once(" | ").unwrap_or((text, ""));
+    let head = format!(in alloc; "{line} HTTP/1.1\r\n")?;
+    let body = String::new(alloc);
+    let mut all = Parts { head, body };
+    for part in parts.split(" | ") {
+        all.put(alloc, part)?;
+    }
+    all.end(alloc)?;
+    Ok(all)
+}
+
 impl<'t> Request<'t> {
     /// Its bytes in hex.
     fn digits(&self, alloc: Global) -> Result<String, AllocError> {
@@ -105,26 +151,9 @@ impl<'t> Request<'t> {
             let bytes = raw.replace(alloc, '^', "\r\n")?;
             return hex::encode(alloc, bytes.as_str());
         }
-        let (line, parts) = self.text.split_once(" | ").unwrap_or((self.text, ""));
-        let mut head = format!(in alloc; "{line} HTTP/1.1\r\n")?;
-        let mut body = String::new(alloc);
-        for part in parts.split(" | ") {
-            if part.contains(": ") {
-                head.push_str(part)?;
-                head.push_str("\r\n")?;
-            } else if let Some(digits) = part.strip_prefix("0x") {
-                body.push_str(digits)?;
-            } else {
-                body.push_str(hex::encode(alloc, part)?.as_str())?;
-            }
-        }
-        if !body.is_empty() {
-            let length = body.len() / 2;
-            head.push_str(format!(in alloc; "Content-Length: {length}\r\n")?.as_str())?;
-        }
-        head.push_str("\r\n")?;
-        let mut digits = hex::encode(alloc, head.as_str())?;
-        digits.push_str(body.as_str())?;
+        let parts = parts_of(alloc, self.text)?;
+        let mut digits = hex::encode(alloc, parts.head.as_str())?;
+        digits.push_str(parts.body.as_str())?;
         Ok(digits)
     }
 
@@ -321,15 +350,18 @@ impl Talk {
         Ok(longest)
     }
 
+    /// Where the longest request on a connection can be cut.
+    fn places(&self, alloc: Global, connection: &str) -> Result<Range<usize>, AllocError> {
+        Ok(1..self.longest(alloc, connection)?)
+    }
+
     /// The cuts of its requests, for each of which it runs.
     pub fn cuts(&self, alloc: Global) -> Result<Vec<Cut>, AllocError> {
         match self.pieces {
             Pieces::Whole => Vec::from_slice(alloc, &[Cut::Nowhere]),
             Pieces::Bytes => Vec::from_slice(alloc, &[Cut::Everywhere]),
-            Pieces::Two => (1..self.longest(alloc, "1")?)
-                .map(Cut::Behind)
-                .collect(alloc),
-            Pieces::Front => (1..self.longest(alloc, "2")?).map(Cut::Off).collect(alloc),
+            Pieces::Two => self.places(alloc, "1")?.map(Cut::Behind).collect(alloc),
+            Pieces::Front => self.places(alloc, "2")?.map(Cut::Off).collect(alloc),
         }
     }
 }

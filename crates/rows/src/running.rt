@@ -4,7 +4,7 @@ use command_line::perform;
 use commands::Status;
 use row_files::comparing::{Ended, Ending, differences};
 use row_files::fault::Stop;
-use row_files::row::{Likeness, Row, RowFile, Talk, Wanted, Word};
+use row_files::row::{Likeness, Making, Row, RowFile, Talk, Wanted, Word};
 use row_files::talk::Cut;
 use row_files::world::World;
 use std::alloc::{AllocError, Global};
@@ -97,7 +97,7 @@ fn write_files<'f, R: Files<File = File> + Net + Clock + RandomSource + AllocGlo
 ) -> Result<String, Stop<'f>> {
     for file in files {
         write_file(rt, file.name.as_str(), &file.bytes)?;
-        if file.is_assembled {
+        if let Making::Assembled = file.making {
             let told = assemble(rt, file.name.as_str())?;
             if !told.is_empty() {
                 return Ok(told);
