@@ -13,15 +13,13 @@ use Rattle.encoding.specs.declared.slot.Slot.{Slot}
 use Rattle.encoding.specs.declared.slot_fault.SlotFault.{SlotFault}
 use Rattle.insn.specs.Instruction.{reg_number, slots_of}
 use Rattle.encoding.specs.Spelling.{slot, slots, slot_bytes, LOAD_WIDE, JUMP, JUMP_LONG, EXIT}
-use Rattle.encoding.specs.Opcodes.{slot_fault, fault_with, fields_of, Fields}
-use Rattle.encoding.specs.OpcodesParts.{BeginsWith, IsAllOf}
-use Rattle.encoding.specs.OpcodeLaws.{fields_by_halves, memory_fields}
+use Rattle.encoding.specs.Opcodes.{slot_fault, fault_with, fields_of, memory_fields, BeginsWith, Fields, IsAllOf, IsRead}
 use Rattle.encoding.proofs.Spellings.{length-slots}
 
 -- an opcode with none of these low halves loads or stores
 pub by_class : (n : ℕ) → n ≢ LOAD_WIDE → n ≢ JUMP → n ≢ JUMP_LONG → n ≢ EXIT → n % 16 ≢ 4 → n % 16 ≢ 7 → n % 16 ≢ 12 → n % 16 ≢ 15 → n % 16 ≢ 6 → n % 16 ≢ 5 → n % 16 ≢ 14 → n % 16 ≢ 13
-    → fields_by_halves n ≡ memory_fields n
-unfolding fields_by_halves
+    → fields_of n ≡ memory_fields n
+unfolding fields_of
 by_class n wide jump long exit a b c d e f g h =
     rw (ne_eqb n LOAD_WIDE wide, ne_eqb n JUMP jump, ne_eqb n JUMP_LONG long, ne_eqb n EXIT exit, ne_eqb (n % 16) 4 a, ne_eqb (n % 16) 7 b, ne_eqb (n % 16) 12 c, ne_eqb (n % 16) 15 d, ne_eqb (n % 16) 6 e, ne_eqb (n % 16) 5 f, ne_eqb (n % 16) 14 g, ne_eqb (n % 16) 13 h) refl
 
@@ -35,7 +33,7 @@ one_begins i s behind h =
     }
 
 -- an instruction of one slot stands in front of whatever is behind it
-pub one_in_front : (r : Result Insn SlotFault) (s : Slot) (behind : List ℕ) → IfOk r (λ i. IsAllOf i s) → IfOk r (BeginsWith s behind)
+pub one_in_front : (r : Result Insn SlotFault) (s : Slot) (behind : List ℕ) → IsRead r s (slot_fault s []) → IfOk r (BeginsWith s behind)
 one_in_front (Ok i) s behind h = one_begins i s behind h
 one_in_front (Err f) s behind h = tt
 
@@ -44,7 +42,7 @@ same_fault None s behind narrow = refl
 same_fault (Some f) s behind narrow = rw (ne_eqb s.opcode LOAD_WIDE narrow) refl
 
 -- what is behind it is not looked at
-pub fault_in_front : (r : Result Insn SlotFault) (s : Slot) (behind : List ℕ) → s.opcode ≢ LOAD_WIDE → IfErr r (λ f. slot_fault s [] ≡ Some f) → IfErr r (λ f. slot_fault s behind ≡ Some f)
+pub fault_in_front : (r : Result Insn SlotFault) (s : Slot) (behind : List ℕ) → s.opcode ≢ LOAD_WIDE → IsRead r s (slot_fault s []) → IfErr r (λ f. slot_fault s behind ≡ Some f)
 fault_in_front (Ok i) s behind narrow h = tt
 fault_in_front (Err f) s behind narrow h = same_fault (fields_of s.opcode) s behind narrow ∙ h
 

@@ -5,40 +5,20 @@ use Rattle.std.proofs.lemmas.List.{length-append, take-append-drop}
 use Rattle.std.proofs.lemmas.List.Concat.{flat_map-append}
 use Rattle.std.proofs.lemmas.List.Sums.{sum_by-cons}
 use Rattle.insn.specs.declared.instruction.Insn.{Insn}
-use Rattle.insn.specs.declared.instruction.Insn.TheVariants.{Alu64Imm, Alu64Reg, Alu32Imm, Alu32Reg, Divide, Remainder, Negate, MoveSigned, SwapBytes, LoadWide, Load, LoadSigned, StoreReg, StoreImm, Jump, JumpLong, Jump64IfImm, Jump64IfReg, Jump32IfImm, Jump32IfReg, Exit}
-use Rattle.insn.specs.declared.instruction.Operand.TheVariants.{Reg, Imm}
+use Rattle.insn.specs.declared.instruction.Insn.TheVariants.{Divide, Remainder}
+use Rattle.insn.specs.declared.instruction.Operand.TheVariants.{Imm}
 use Rattle.encoding.specs.declared.slot.Slot.{Slot}
 use Rattle.insn.specs.Instruction.{slots_of, Fits}
 use Rattle.insn.specs.Program.{slot_count}
 use Rattle.encoding.specs.Spelling.{IsSlotFault, slots, slot_bytes, spelling, slot_fault_at, FaultAt, FirstInsnFault, IsSlot, IsWhole, Spells}
-use Rattle.encoding.specs.OpcodesParts.{BeginsWith}
+use Rattle.encoding.specs.Opcodes.{BeginsWith}
 use Rattle.encoding.specs.declared.slot_fault.SlotFault.{SlotFault}
-use Rattle.encoding.specs.declared.slot_fault.SlotFault.TheVariants.{UnknownOpcode, BadRegister, NonzeroField, TruncatedWide, Atomic, Call, LegacyLoad}
+use Rattle.encoding.specs.declared.slot_fault.SlotFault.TheVariants.{UnknownOpcode}
 
 pub length-slots : (i : Insn) → length (slots i) ≡ slots_of i
-length-slots (Alu64Imm op dst imm) = refl
-length-slots (Alu64Reg op dst src) = refl
-length-slots (Alu32Imm op dst imm) = refl
-length-slots (Alu32Reg op dst src) = refl
 length-slots (Divide width signedness dst (Imm imm)) = refl
-length-slots (Divide width signedness dst (Reg src)) = refl
 length-slots (Remainder width signedness dst (Imm imm)) = refl
-length-slots (Remainder width signedness dst (Reg src)) = refl
-length-slots (Negate width dst) = refl
-length-slots (MoveSigned extension dst src) = refl
-length-slots (SwapBytes kind bits dst) = refl
-length-slots (LoadWide dst value) = refl
-length-slots (Load size dst src offset) = refl
-length-slots (LoadSigned size dst src offset) = refl
-length-slots (StoreReg size dst src offset) = refl
-length-slots (StoreImm size dst offset imm) = refl
-length-slots (Jump offset) = refl
-length-slots (JumpLong offset) = refl
-length-slots (Jump64IfImm cond dst offset imm) = refl
-length-slots (Jump64IfReg cond dst src offset) = refl
-length-slots (Jump32IfImm cond dst offset imm) = refl
-length-slots (Jump32IfReg cond dst src offset) = refl
-length-slots Exit = refl
+length-slots i = refl
 
 pub spelling-append : (a b : List Insn) → spelling (a ++ b) ≡ spelling a ++ spelling b
 spelling-append a b = ap (flat_map slot_bytes) (flat_map-append slots a b) ∙ flat_map-append slot_bytes (flat_map slots a) (flat_map slots b)
@@ -92,12 +72,7 @@ pub first_fault : (bytes rest behind : List ℕ) (before : List Insn) (here : Sl
     → bytes ≡ spelling before ++ rest → slot_bytes here ≡ take 8 rest → behind ≡ drop 8 rest → IsSlotFault here behind f → FirstInsnFault bytes (slot_fault_at f at)
 first_fault bytes rest behind before here at f whole fit sizes at_slot so_far spelled later faulty =
     let cut : bytes ≡ spelling before ++ (slot_bytes here ++ behind) = so_far ∙ ap (λ (l : List ℕ). spelling before ++ l) (sym (take-append-drop 8 rest) ∙ ap (λ (l : List ℕ). l ++ drop 8 rest) (sym spelled) ∙ ap (λ (l : List ℕ). slot_bytes here ++ l) (sym later)) in
-    by_fault f (record { before = before; here = here; rest = behind; fit = fit; sizes = sizes; at_slot = at_slot; spelled = cut; faulty = faulty }) where
-      by_fault : (f : SlotFault) → FaultAt bytes at f → FirstInsnFault bytes (slot_fault_at f at)
+    by_fault f (record { before = before; here = here; rest = behind; name = f; fit = fit; sizes = sizes; spelled = cut; faulty = faulty; at_slot = ap (slot_fault_at f) at_slot }) where
+      by_fault : (f : SlotFault) → FaultAt bytes (slot_fault_at f at) → FirstInsnFault bytes (slot_fault_at f at)
       by_fault UnknownOpcode h = (whole, h)
-      by_fault BadRegister h = (whole, h)
-      by_fault NonzeroField h = (whole, h)
-      by_fault TruncatedWide h = (whole, h)
-      by_fault Atomic h = (whole, h)
-      by_fault Call h = (whole, h)
-      by_fault LegacyLoad h = (whole, h)
+      by_fault f h = (whole, h)
