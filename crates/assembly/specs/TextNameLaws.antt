@@ -1,7 +1,6 @@
 -- Laws of the names of instructions: each says all of an instruction but its operands.
-use Rattle.std.proofs.Common.{◌≡◌, All, arith, rules, suc, ℕ, Bool, true, false, not, cond, List, [], ◌∷◌, map, ℤ, pos, negsuc, Option, Some, refl, sym, ap, ap₂, ◌∙◌, subst, FitsSigned, w16, w32}
-use Rattle.std.proofs.lemmas.Bool.{and_parts, not-true}
-use Rattle.std.specs.List.{list_all, find, AllByRecursion}
+use Rattle.std.proofs.Common.{◌≡◌, All, arith, rules, suc, ℕ, Bool, true, false, cond, List, [], ◌∷◌, map, ℤ, pos, negsuc, Option, Some, refl, sym, ap, ap₂, ◌∙◌, subst, FitsSigned, w16, w32}
+use Rattle.std.specs.List.{find, AllByRecursion}
 use Rattle.std.specs.Str.{bytes_eq}
 use Rattle.insn.specs.declared.register.RegNo.{RegNo}
 use Rattle.insn.specs.declared.register.RegNo.TheVariants.{R0}
@@ -22,37 +21,42 @@ use Rattle.insn.specs.declared.instruction.Operand.TheVariants.{Reg, Imm}
 use Rattle.insn.specs.declared.instruction.Insn.{Insn}
 use Rattle.insn.specs.declared.instruction.Insn.TheVariants.{Alu64Imm, Alu64Reg, Alu32Imm, Alu32Reg, Divide, Remainder, Negate, MoveSigned, SwapBytes, LoadWide, Load, LoadSigned, StoreReg, StoreImm, Jump, JumpLong, Jump64IfImm, Jump64IfReg, Jump32IfImm, Jump32IfReg, Exit}
 use Rattle.insn.specs.Instruction.{slots_of, Fits}
-use Rattle.assembly.specs.Text.{Word, Operand, Register, Number, Target, mnemonic_of, mnemonic_name, name_of, operands_of, is_empty}
-use Rattle.assembly.specs.TextWordLaws.{is_target, is_plain, IsShortNumber, IsShortOperand, short_of_16, short_of_32, PlainWord}
+use Rattle.assembly.specs.Text.{Word, Operand, Register, Number, Target, mnemonic_of, mnemonic_name, name_of, operands_of}
+use Rattle.assembly.specs.TextWordLaws.{is_target, IsShortNumber, IsShortOperand, short_of_16, short_of_32, PlainWord}
 
 -- ---- each name is the name of one mnemonic
 
 abbrev named : Word → Option Mnemonic
 named word = find (λ m. bytes_eq (mnemonic_name m) word) MNEMONICS
 
-found : (m : Mnemonic) → named (mnemonic_name m) ≡ Some m
-found (mnemonic.Alu W32 alu.Add) = refl
-found (mnemonic.Divide W32 Unsigned) = refl
-found (mnemonic.Remainder W32 Unsigned) = refl
-found (mnemonic.JumpIf W32 Eq) = refl
-found (mnemonic.Alu W64 alu.Add) = refl
-found (mnemonic.Divide W64 Unsigned) = refl
-found (mnemonic.Remainder W64 Unsigned) = refl
-found (mnemonic.JumpIf W64 Eq) = refl
-found (mnemonic.Negate W32) = refl
-found (mnemonic.MoveSigned From8To64) = refl
-found (mnemonic.SwapBytes ToLittle B16) = refl
-found (mnemonic.SwapBytes ToBig B16) = refl
-found (mnemonic.SwapBytes Swap B16) = refl
-found (mnemonic.Load One) = refl
-found (mnemonic.LoadSigned signed.One) = refl
-found (mnemonic.StoreReg One) = refl
-found (mnemonic.StoreImm One) = refl
-found m = refl
+-- its word names it alone, and is plain
+record IsNamed (m : Mnemonic) : Type 0 where
+  found : named (mnemonic_name m) ≡ Some m
+  plain : PlainWord (mnemonic_name m)
+
+is_named : (m : Mnemonic) → IsNamed m
+is_named (mnemonic.Alu W32 alu.Add) = record { found = refl; plain = record { bytes = refl; some = refl } }
+is_named (mnemonic.Divide W32 Unsigned) = record { found = refl; plain = record { bytes = refl; some = refl } }
+is_named (mnemonic.Remainder W32 Unsigned) = record { found = refl; plain = record { bytes = refl; some = refl } }
+is_named (mnemonic.JumpIf W32 Eq) = record { found = refl; plain = record { bytes = refl; some = refl } }
+is_named (mnemonic.Alu W64 alu.Add) = record { found = refl; plain = record { bytes = refl; some = refl } }
+is_named (mnemonic.Divide W64 Unsigned) = record { found = refl; plain = record { bytes = refl; some = refl } }
+is_named (mnemonic.Remainder W64 Unsigned) = record { found = refl; plain = record { bytes = refl; some = refl } }
+is_named (mnemonic.JumpIf W64 Eq) = record { found = refl; plain = record { bytes = refl; some = refl } }
+is_named (mnemonic.Negate W32) = record { found = refl; plain = record { bytes = refl; some = refl } }
+is_named (mnemonic.MoveSigned From8To64) = record { found = refl; plain = record { bytes = refl; some = refl } }
+is_named (mnemonic.SwapBytes ToLittle B16) = record { found = refl; plain = record { bytes = refl; some = refl } }
+is_named (mnemonic.SwapBytes ToBig B16) = record { found = refl; plain = record { bytes = refl; some = refl } }
+is_named (mnemonic.SwapBytes Swap B16) = record { found = refl; plain = record { bytes = refl; some = refl } }
+is_named (mnemonic.Load One) = record { found = refl; plain = record { bytes = refl; some = refl } }
+is_named (mnemonic.LoadSigned signed.One) = record { found = refl; plain = record { bytes = refl; some = refl } }
+is_named (mnemonic.StoreReg One) = record { found = refl; plain = record { bytes = refl; some = refl } }
+is_named (mnemonic.StoreImm One) = record { found = refl; plain = record { bytes = refl; some = refl } }
+is_named m = record { found = refl; plain = record { bytes = refl; some = refl } }
 
 -- no name is that of two
 pub mnemonic_name-injective : (m n : Mnemonic) → mnemonic_name m ≡ mnemonic_name n → m ≡ n
-mnemonic_name-injective m n e = let both : Some m ≡ Some n = sym (found m) ∙ ap named e ∙ found n in cc
+mnemonic_name-injective m n e = let both : Some m ≡ Some n = sym (is_named m).found ∙ ap named e ∙ (is_named n).found in cc
 
 -- what holds of each entry of the table holds of each mnemonic
 of_found : (P : Mnemonic → Type 0) (word : Word) (ms : List Mnemonic) (m : Mnemonic) → find (λ n. bytes_eq (mnemonic_name n) word) ms ≡ Some m → All P ms → P m
@@ -63,30 +67,15 @@ of_found P word (n ∷ ms) m e h = step (bytes_eq (mnemonic_name n) word) e (λ 
   step false e rest here = rest e
 
 pub each_mnemonic : (P : Mnemonic → Type 0) → All P MNEMONICS → (m : Mnemonic) → P m
-each_mnemonic P all m = of_found P (mnemonic_name m) MNEMONICS m (found m) all
-
-find_all : {X : Type 0} (test good : X → Bool) (xs : List X) (x : X) → find test xs ≡ Some x → list_all good xs ≡ true → good x ≡ true
-find_all test good [] x e h = cc
-find_all test good (y ∷ ys) x e h =
-    let parts = and_parts (good y) (list_all good ys) h in
-    step (test y) e (λ more. find_all test good ys x more parts.1) parts.0 where
-      step : (b : Bool) → cond b (Some y) (find test ys) ≡ Some x → (find test ys ≡ Some x → good x ≡ true) → good y ≡ true → good x ≡ true
-      step true e rest here = let same : y ≡ x = cc in ap good (sym same) ∙ here
-      step false e rest here = rest e
+each_mnemonic P all m = of_found P (mnemonic_name m) MNEMONICS m (is_named m).found all
 
 -- instructions of one name have one mnemonic
 pub same_mnemonic : (i j : Insn) → name_of i ≡ name_of j → mnemonic_of i ≡ mnemonic_of j
 same_mnemonic i j e = mnemonic_name-injective (mnemonic_of i) (mnemonic_of j) e
 
-plain_mnemonic : (m : Mnemonic) → PlainWord (mnemonic_name m)
-plain_mnemonic m = record {
-  bytes = find_all (λ n. bytes_eq (mnemonic_name n) (mnemonic_name m)) (λ n. list_all is_plain (mnemonic_name n)) MNEMONICS m (found m) refl;
-  some = not-true (is_empty (mnemonic_name m)) (find_all (λ n. bytes_eq (mnemonic_name n) (mnemonic_name m)) (λ n. not (is_empty (mnemonic_name n))) MNEMONICS m (found m) refl);
-}
-
 -- names are plain
 pub plain_name : (i : Insn) → PlainWord (name_of i)
-plain_name i = plain_mnemonic (mnemonic_of i)
+plain_name i = (is_named (mnemonic_of i)).plain
 
 -- the numbers of an instruction are short
 pub short_operands : (i : Insn) → Fits i → AllByRecursion IsShortOperand (operands_of i)
