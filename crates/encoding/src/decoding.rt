@@ -109,7 +109,7 @@ fn one_slot(slot: Slot) -> Result<Insn, SlotFault>
 }
 
 /// The instruction of one slot, by the low half of its opcode.
-#[tactic(auto, using(crate::proofs::Rows::by_class), unfolding(crate::specs::Opcodes::fields_of))]
+#[tactic(auto, using(crate::proofs::Spellings::by_class), unfolding(crate::specs::Opcodes::fields_of))]
 fn by_low_half(slot: Slot) -> Result<Insn, SlotFault>
     requires alone { (slot.opcode ≢ LOAD_WIDE) × (slot.opcode ≢ JUMP) × (slot.opcode ≢ JUMP_LONG) × (slot.opcode ≢ EXIT) }
     requires read { refused_as slot.opcode ≡ SlotFault.UnknownOpcode }
@@ -257,12 +257,11 @@ fn divide_imm(width: Width, slot: Slot) -> Result<Insn, SlotFault>
     let dst = register(slot.dst)?;
     only_if(slot.src == 0)?;
     let signedness = signedness(slot.offset)?;
-    let operand = Operand::Imm(slot.imm);
     Ok(Insn::Divide {
         width,
         signedness,
         dst,
-        operand,
+        operand: Operand::Imm(slot.imm),
     })
 }
 
@@ -291,12 +290,11 @@ fn remainder_imm(width: Width, slot: Slot) -> Result<Insn, SlotFault>
     let dst = register(slot.dst)?;
     only_if(slot.src == 0)?;
     let signedness = signedness(slot.offset)?;
-    let operand = Operand::Imm(slot.imm);
     Ok(Insn::Remainder {
         width,
         signedness,
         dst,
-        operand,
+        operand: Operand::Imm(slot.imm),
     })
 }
 
@@ -351,12 +349,11 @@ fn load(size: Size, slot: Slot) -> Result<Insn, SlotFault>
     let dst = register(slot.dst)?;
     let src = register(slot.src)?;
     only_if(slot.imm == 0)?;
-    let offset = slot.offset;
     Ok(Insn::Load {
         size,
         dst,
         src,
-        offset,
+        offset: slot.offset,
     })
 }
 
@@ -368,12 +365,11 @@ fn load_signed(size: SignedSize, slot: Slot) -> Result<Insn, SlotFault>
     let dst = register(slot.dst)?;
     let src = register(slot.src)?;
     only_if(slot.imm == 0)?;
-    let offset = slot.offset;
     Ok(Insn::LoadSigned {
         size,
         dst,
         src,
-        offset,
+        offset: slot.offset,
     })
 }
 
@@ -385,12 +381,11 @@ fn store_reg(size: Size, slot: Slot) -> Result<Insn, SlotFault>
     let dst = register(slot.dst)?;
     let src = register(slot.src)?;
     only_if(slot.imm == 0)?;
-    let offset = slot.offset;
     Ok(Insn::StoreReg {
         size,
         dst,
         src,
-        offset,
+        offset: slot.offset,
     })
 }
 

@@ -1,5 +1,5 @@
 use Rattle.std.proofs.Common.{rules}
-use Rattle.encoding.proofs.Rows.{one_in_front, fault_in_front}
+use Rattle.encoding.proofs.Spellings.{one_in_front, fault_in_front}
 use Rattle.encoding.proofs.decoding.insn_of.Goals as goal
 
 pub returns-in_default-clause-found : goal.returns-in_default-clause-found
