@@ -98,11 +98,6 @@ no_negative ds which z l e = let b = behind_minus ds z l e in not_behind (b.0) b
         (λ h. let k : decimal_value ds ≡ suc n = ap decimal_value e ∙ value_decimal (suc n) (omega arith) in omega arith)
         which
 
--- a number that begins with no minus is a natural one
-pub plain_number : (c : ℕ) (ds : Word) → c ≢ 45 → (z : ℤ) → IsSmall z → c ∷ ds ≡ signed_decimal z → (n : ℕ) × (n < 2 ^ 63) × (c ∷ ds ≡ decimal n)
-plain_number c ds first (pos n) l e = (n, l, e)
-plain_number c ds first (negsuc n) l e = absurd (first cc)
-
 pub not_plain : (ds : Word) (m : ℕ) → m < 2 ^ 64 → 2 ^ 63 ≤ m → ds ≡ decimal m → (n : ℕ) → n < 2 ^ 63 → ds ≡ decimal n → ⊥
 not_plain ds m l big e n h k = let same : m ≡ n = decimal_injective m n l (omega arith) (sym e ∙ k) in omega arith
 

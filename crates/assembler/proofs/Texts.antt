@@ -71,10 +71,6 @@ names_append (Blank ∷ a) b = names_append a b
 names_append (Label name ∷ a) b = ap (λ (x : List Word). name ∷ x) (names_append a b)
 names_append (Statement words ∷ a) b = names_append a b
 
-any_front : (q : Word) (a b : List Word) → list_any (bytes_eq q) a ≡ true → list_any (bytes_eq q) (a ++ b) ≡ true
-any_front q [] b h = absurd cc
-any_front q (x ∷ a) b h = ⊎_elim (λ e. or_left (bytes_eq q x) _ e) (λ e. or_right (bytes_eq q x) _ (any_front q a b e)) (or_cases (bytes_eq q x) (list_any (bytes_eq q) a) h)
-
 any_middle : (x name : Word) (a b : List Word) → bytes_eq x name ≡ true → list_any (bytes_eq x) (a ++ name ∷ b) ≡ true
 any_middle x name [] b h = or_left (bytes_eq x name) _ h
 any_middle x name (y ∷ a) b h = or_right (bytes_eq x y) _ (any_middle x name a b h)
