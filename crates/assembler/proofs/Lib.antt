@@ -2,7 +2,6 @@ pub mod Jumps
 pub mod Lines
 pub mod SheetReading
 pub mod Numbers
-pub mod Reading
 pub mod Refuted
 pub mod Resolving
 pub mod Statements

@@ -1,12 +1,12 @@
 -- Numbers and their digits.
-use Rattle.std.proofs.Common.{◌≡◌, ◌≢◌, ◌⊎◌, ⊎_elim, FitsSigned, w16, w32, w64, neg_ℤ, ◌-ℤ◌, Result, Ok, Err, subst, ℕ, suc, Option, Some, None, IfNone, IfSome, zero, ◌+◌, ◌-◌, ◌*◌, ◌<◌, ◌≤◌, ◌^◌, true, false, nat_le, ℤ, pos, negsuc, List, [], ◌∷◌, length, get_or, drop, codes, refl, sym, ap, ◌∙◌, arith, rules}
+use Rattle.std.proofs.Common.{◌≡◌, ◌≢◌, ◌⊎◌, inl, ⊎_elim, FitsSigned, w16, w32, w64, neg_ℤ, ◌-ℤ◌, Result, Ok, Err, subst, ℕ, suc, Option, Some, None, IfNone, IfSome, zero, ◌+◌, ◌-◌, ◌*◌, ◌<◌, ◌≤◌, ◌^◌, true, false, nat_le, ℤ, pos, negsuc, List, [], ◌∷◌, length, get_or, drop, codes, refl, sym, ap, ◌∙◌, arith, rules}
 use Rattle.std.proofs.Math.Seq.{drop-cons}
 use Rattle.std.specs.Str.{bytes_eq}
 use Rattle.std.specs.Fmt.{decimal, signed_decimal}
 use Rattle.std.specs.List.{list_all}
 use Rattle.std.proofs.lemmas.Bool.Decides.{nat_tests}
 use Rattle.std.proofs.lemmas.Str.Parse.{IsNumeralModel, numerals_by_fold}
-use Rattle.std.proofs.lemmas.Fmt.{decimal-digits_value, digits_value-decimal, digits_decimal, decimal_nonempty, first_decimal, decimal_digit, decimal_injective, signed_decimal_injective}
+use Rattle.std.proofs.lemmas.Fmt.{decimal-digits_value, digits_value-decimal, digits_decimal, decimal_nonempty, first_decimal, decimal_digit, decimal_injective}
 use Rattle.std.proofs.lemmas.Bool.{or_cases, and_parts, both_ways, leb-true, cases_lt}
 use Rattle.std.proofs.lemmas.Int.{ints, to_z-of_z}
 use Rattle.std.proofs.lemmas.Slice.Eq.{bytes_eq-Decides}
@@ -14,9 +14,9 @@ use Rattle.std.specs.Result.{OkIff, result_ok}
 use mir.Syntax.{Width}
 use mir.Val.{to_z, of_z}
 use Rattle.assembly.specs.Text.{Word, is_digit, is_positive, is_natural, distance_word, register_word}
+use Rattle.assembly.specs.TextWordLaws.{IsShortNumber, decimal-ne, other_first, reg_number_small, signed_decimal-injective}
 use Rattle.insn.specs.Instruction.{reg_number}
 use Rattle.insn.specs.declared.register.RegNo.{RegNo}
-use Rattle.insn.specs.declared.register.RegNo.TheVariants.{R0, R1, R2, R3, R4, R5, R6, R7, R8, R9, R10}
 use Rattle.assembler.specs.Operands.{IsSmall, number_from, decimal_value}
 
 -- more digits make no number smaller
@@ -73,9 +73,7 @@ minus_word ds h n e l = let k : decimal (decimal_value ds) ≡ ds = positive_wor
 
 -- a digit stands first
 pub plain_first : (n c : ℕ) (ds : Word) → n < 2 ^ 64 → c ∷ ds ≡ decimal n → c < 48 → ⊥
-plain_first n c ds l e h =
-    let digits : list_all is_digit (decimal n) ≡ true = digits_decimal own n l in
-    let k : list_all is_digit (c ∷ ds) ≡ true = ap (λ (w : Word). list_all is_digit w) e ∙ digits in grind (arith, nat_tests, and_parts)
+plain_first n c ds l e h = decimal-ne c n ds (inl h) l (sym e)
 
 -- what stands behind a minus
 pub behind_minus : (ds : Word) (z : ℤ) → IsSmall z → 45 ∷ ds ≡ signed_decimal z → (n : ℕ) × (z ≡ negsuc n) × (ds ≡ decimal (suc n)) × (n + 1 < 2 ^ 63)
@@ -100,19 +98,15 @@ no_negative ds which z l e = let b = behind_minus ds z l e in not_behind (b.0) b
         (λ h. let k : decimal_value ds ≡ suc n = ap decimal_value e ∙ value_decimal (suc n) (omega arith) in omega arith)
         which
 
--- a number that begins with no minus is a natural one
-pub plain_number : (c : ℕ) (ds : Word) → c ≢ 45 → (z : ℤ) → IsSmall z → c ∷ ds ≡ signed_decimal z → (n : ℕ) × (n < 2 ^ 63) × (c ∷ ds ≡ decimal n)
-plain_number c ds first (pos n) l e = (n, l, e)
-plain_number c ds first (negsuc n) l e = absurd (first cc)
-
 pub not_plain : (ds : Word) (m : ℕ) → m < 2 ^ 64 → 2 ^ 63 ≤ m → ds ≡ decimal m → (n : ℕ) → n < 2 ^ 63 → ds ≡ decimal n → ⊥
 not_plain ds m l big e n h k = let same : m ≡ n = decimal_injective m n l (omega arith) (sym e ∙ k) in omega arith
 
+pub small_short : (z : ℤ) → IsSmall z → IsShortNumber z
+small_short (pos n) h = omega arith
+small_short (negsuc n) h = omega arith
+
 pub small_injective : (y z : ℤ) → IsSmall y → IsSmall z → signed_decimal y ≡ signed_decimal z → y ≡ z
-small_injective (pos m) (pos n) l h e = signed_decimal_injective (pos m) (pos n) l h e
-small_injective (pos m) (negsuc n) l h e = signed_decimal_injective (pos m) (negsuc n) l (omega arith) e
-small_injective (negsuc m) (pos n) l h e = signed_decimal_injective (negsuc m) (pos n) (omega arith) h e
-small_injective (negsuc m) (negsuc n) l h e = signed_decimal_injective (negsuc m) (negsuc n) (omega arith) (omega arith) e
+small_injective y z l h e = signed_decimal-injective y z (small_short y l) (small_short z h) e
 
 -- such a number is what it was after it went through 64 bits
 pub through_64 : (z : ℤ) → IsSmall z → to_z w64 (of_z w64 z) ≡ z
@@ -151,15 +145,10 @@ pub below : (n : ℕ) → FitsSigned w64 (pos n) → n < 2 ^ 63
 below n h = omega (arith, ints)
 
 -- the number of a word is the only one
-pub other_32 : {E : Type 0} (r : Result ℤ E) (word : Word) (x y : ℤ) → x ≡ y → word ≡ signed_decimal y → IsSmall y → OkIff r (FitsSigned w32 x) x → result_ok r ≡ None → (z : ℤ) → FitsSigned w32 z → word ≢ signed_decimal z
-other_32 r word x y xy e s h n z f k =
-    let same : y ≡ z = small_injective y z s (small_from_32 z f) (sym e ∙ k) in
-    not_converted r w32 x h n (subst (λ (t : ℤ). FitsSigned w32 t) (sym (xy ∙ same)) f)
-
-pub other_16 : {E : Type 0} (r : Result ℤ E) (word : Word) (x y : ℤ) → x ≡ y → word ≡ signed_decimal y → IsSmall y → OkIff r (FitsSigned w16 x) x → result_ok r ≡ None → (z : ℤ) → FitsSigned w16 z → word ≢ signed_decimal z
-other_16 r word x y xy e s h n z f k =
-    let same : y ≡ z = small_injective y z s (small_from_16 z f) (sym e ∙ k) in
-    not_converted r w16 x h n (subst (λ (t : ℤ). FitsSigned w16 t) (sym (xy ∙ same)) f)
+pub other : {E : Type 0} (w : Width) → ((z : ℤ) → FitsSigned w z → IsSmall z) → (r : Result ℤ E) (word : Word) (x y : ℤ) → x ≡ y → word ≡ signed_decimal y → IsSmall y → OkIff r (FitsSigned w x) x → result_ok r ≡ None → (z : ℤ) → FitsSigned w z → word ≢ signed_decimal z
+other w small r word x y xy e s h n z f k =
+    let same : y ≡ z = small_injective y z s (small z f) (sym e ∙ k) in
+    not_converted r w x h n (subst (λ (t : ℤ). FitsSigned w t) (sym (xy ∙ same)) f)
 
 -- what holds where there is nothing
 pub none_given : {A P : Type 0} (r : Option A) → (r ≡ None → P) → IfNone r P
@@ -175,37 +164,21 @@ nothing_signed word e (negsuc n) s h = no_length 45 (decimal (suc n)) (ap length
 
 -- ---- distances and registers
 
-not_plus : (v w : Word) → 43 ∷ v ≡ 45 ∷ w → ⊥
-not_plus v w e = let j : get_or (43 ∷ v) 0 0 ≡ get_or (45 ∷ w) 0 0 = ap (λ (x : Word). get_or x 0 0) e in omega arith
-
 pub plus_other : {E : Type 0} (r : Result ℤ E) (word digits : Word) (n : ℕ) → word ≡ 43 ∷ digits → n < 2 ^ 64 → digits ≡ decimal n → OkIff r (FitsSigned w32 (pos n)) (pos n) → result_ok r ≡ None → (z : ℤ) → FitsSigned w32 z → word ≢ distance_word z
 plus_other r word digits n w l e h none (pos m) f k =
     let tail : digits ≡ decimal m = ap (λ (x : Word). drop 1 x) (sym w ∙ k) in
     let small : m < 2 ^ 64 = omega (arith, ints) in
     let same : n ≡ m = decimal_injective n m l small (sym e ∙ tail) in
     not_converted r w32 (pos n) h none (subst (λ (x : ℕ). FitsSigned w32 (pos x)) (sym same) f)
-plus_other r word digits n w l e h none (negsuc m) f k = absurd (not_plus digits (decimal (suc m)) (sym w ∙ k))
+plus_other r word digits n w l e h none (negsuc m) f k = absurd (other_first 43 45 digits (decimal (suc m)) (inl (omega arith)) (sym w ∙ k))
 
 pub minus_distance : (word digits : Word) (z : ℤ) → word ≡ 45 ∷ digits → IsSmall z → word ≡ signed_decimal z → word ≡ distance_word z
 minus_distance word digits (pos n) w s h = absurd (plain_first n 45 digits (omega arith) (sym w ∙ h) (omega arith))
 minus_distance word digits (negsuc n) w s h = h
 
-reg_small : (r : RegNo) → reg_number r ≤ 10
-reg_small R0 = omega arith
-reg_small R1 = omega arith
-reg_small R2 = omega arith
-reg_small R3 = omega arith
-reg_small R4 = omega arith
-reg_small R5 = omega arith
-reg_small R6 = omega arith
-reg_small R7 = omega arith
-reg_small R8 = omega arith
-reg_small R9 = omega arith
-reg_small R10 = omega arith
-
 pub no_register : (word digits : Word) (n : ℕ) → word ≡ 114 ∷ digits → n < 2 ^ 64 → digits ≡ decimal n → 10 < n → (r : RegNo) → word ≢ register_word r
 no_register word digits n w l e far r k =
-    let small : reg_number r ≤ 10 = reg_small r in
+    let small : reg_number r ≤ 10 = reg_number_small r in
     let tail : digits ≡ decimal (reg_number r) = ap (λ (x : Word). drop 1 x) (sym w ∙ k) in
     let same : n ≡ reg_number r = decimal_injective n (reg_number r) l (omega arith) (sym e ∙ tail) in omega arith
 

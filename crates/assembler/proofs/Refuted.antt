@@ -1,23 +1,19 @@
 -- A text with a fault says no program.
-use Rattle.std.proofs.Common.{◌≡◌, ⊎_elim, ℕ, suc, ◌+◌, ◌<◌, ◌≤◌, ◌^◌, true, nat_le, ℤ, pos, negsuc, List, [], ◌∷◌, ◌++◌, codes, refl, sym, ap, ◌∙◌, subst, arith, ◌||◌, FitsSigned, w16, w32}
-use Rattle.std.specs.Str.{bytes_eq}
+use Rattle.std.proofs.Common.{◌≡◌, ⊎_elim, ℕ, suc, ◌+◌, ◌≤◌, true, ℤ, pos, negsuc, List, [], ◌∷◌, ◌++◌, refl, sym, ap, ◌∙◌, subst, arith, ◌||◌}
 use Rattle.std.specs.Fmt.{decimal, signed_decimal}
-use Rattle.std.specs.List.{list_all}
-use Rattle.std.proofs.lemmas.Int.{ints}
-use Rattle.std.proofs.lemmas.Bool.{or_left, or_right, or_cases, and_parts, leb-true, ne_eqb}
-use Rattle.std.proofs.lemmas.Slice.Eq.{bytes_eq-Decides}
+use Rattle.std.specs.List.{AllByRecursion}
+use Rattle.std.proofs.lemmas.Bool.{false≢true, or_left, or_right, ne_eqb}
 use Rattle.std.proofs.lemmas.List.Sums.{sum_by-append, sum_by-cons}
 use Rattle.insn.specs.declared.instruction.Insn.{Insn}
 use Rattle.insn.specs.Instruction.{slots_of}
 use Rattle.insn.specs.Program.{slot_count, SLOT_LIMIT}
-use Rattle.assembly.specs.Text.{Word, is_digit, is_positive, is_natural, is_number_word, is_distance, is_name, Operand, Register, Number, Target, operands_of, distance_word, Line, Blank, Label, Statement, lines_in, SaysOperand, SaysOperands, SaysInsn, labels_in, names_in, AllDiffer, Text}
-use Rattle.assembly.specs.Text.{mnemonic_of}
+use Rattle.assembly.specs.Text.{Word, is_natural, is_number_word, is_distance, is_name, Operand, Register, Number, Target, operands_of, distance_word, Line, Blank, Label, Statement, lines_in, SaysOperand, SaysOperands, SaysInsn, labels_in, names_in, AllDiffer, Text}
 use Rattle.assembler.specs.declared.fault.AsmFault.{AsmFault}
 use Rattle.assembler.specs.declared.fault.AsmFault.TheVariants.{UnknownWord, BadOperand, OutOfRange, UnknownLabel, DoubleLabel, TooLong, Memory, NoInstruction}
 use Rattle.assembler.specs.Faults.{Anywhere, OneOf, SaysFitting, Drafts, FirstWrong, FirstLost, FirstTextFault, HasName, HasFormOf, HaveForms, HasForm, HasUnknownWord, HasBadOperand, IsOutOfRange, IsDoubleLabel, IsTooLong, LacksLabel}
 use Rattle.assembler.proofs.Numbers.{decimal_natural, decimal_positive}
-use Rattle.assembler.proofs.Reading.{Field, AReg, ASource, AnImm, AnOffset, AWide, ANear, AFar, FitsIn, FitIn, fields_of, fit_fields}
-use Rattle.assembly.specs.TextNameLaws.{same_slots}
+use Rattle.assembly.specs.TextNameLaws.{same_slots, short_operands}
+use Rattle.assembly.specs.TextWordLaws.{IsShortNumber, IsShortOperand}
 use Rattle.assembler.proofs.Texts.{labels_named, says_drafts, split_drafts, names_append, not_differ}
 
 -- ---- slots by names
@@ -29,86 +25,46 @@ said_slots L M (w ∷ ws) i j h k = same_slots i j (sym h.0 ∙ k.0)
 pub drafts_slots : (L M : Word → ℤ → Type 0) (lines : List Line) (p q : List Insn) → Drafts L lines p → Drafts M lines q → slot_count p ≡ slot_count q
 drafts_slots L M [] [] [] h k = refl
 drafts_slots L M [] [] (j ∷ q) h k = absurd k
-drafts_slots L M [] (i ∷ p) q h k = absurd h
 drafts_slots L M (Blank ∷ lines) p q h k = drafts_slots L M lines p q h k
 drafts_slots L M (Label name ∷ lines) p q h k = drafts_slots L M lines p q h k
-drafts_slots L M (Statement words ∷ lines) [] q h k = absurd h
-drafts_slots L M (Statement words ∷ lines) (i ∷ p) [] h k = absurd k
 drafts_slots L M (Statement words ∷ lines) (i ∷ p) (j ∷ q) h k =
     let one = said_slots L M words i j h.0.0 k.0.0 in let rest = drafts_slots L M lines p q h.1 k.1 in omega (arith, sum_by-cons slots_of i p, sum_by-cons slots_of j q)
+drafts_slots L M (Statement words ∷ lines) (i ∷ p) [] h k = absurd k
+drafts_slots L M lines p q h k = absurd h
 
 -- ---- what is said has its form
 
-zero_first : (c : ℕ) (cs : Word) → c ∷ cs ≡ codes "0" → 48 ≤ c
-zero_first c cs e = let k : c ≡ 48 = cc in omega arith
-
-positive_first : (c : ℕ) (cs : Word) → is_positive (c ∷ cs) ≡ true → 48 ≤ c
-positive_first c cs e = let k = leb-true 49 c (and_parts (nat_le 49 c) (list_all is_digit (c ∷ cs)) e).0 in omega arith
-
-natural_first : (c : ℕ) (cs : Word) → is_natural (c ∷ cs) ≡ true → 48 ≤ c
-natural_first c cs h = ⊎_elim
-    (λ (e : is_positive (c ∷ cs) ≡ true). positive_first c cs e)
-    (λ (e : bytes_eq (c ∷ cs) (codes "0") ≡ true). zero_first c cs ((bytes_eq-Decides (c ∷ cs) (codes "0")).0 e))
-    (or_cases (is_positive (c ∷ cs)) (bytes_eq (c ∷ cs) (codes "0")) h)
-
 natural_number : (w : Word) → is_natural w ≡ true → is_number_word w ≡ true
 natural_number [] h = absurd cc
-natural_number (c ∷ cs) h = let l = natural_first c cs h in rw (ne_eqb c 45 (λ e. omega arith)) h
+natural_number (c ∷ cs) h = rw (ne_eqb c 45 (λ e. false≢true (subst (λ (x : ℕ). is_natural (x ∷ cs) ≡ true) e h))) h
 
-abbrev IsBounded : ℤ → Type 0
-IsBounded (pos n) = n < 2 ^ 64
-IsBounded (negsuc n) = n + 1 < 2 ^ 64
-
-bounded_32 : (z : ℤ) → FitsSigned w32 z → IsBounded z
-bounded_32 (pos n) h = omega (arith, ints)
-bounded_32 (negsuc n) h = omega (arith, ints)
-
-bounded_16 : (z : ℤ) → FitsSigned w16 z → IsBounded z
-bounded_16 (pos n) h = omega (arith, ints)
-bounded_16 (negsuc n) h = omega (arith, ints)
-
-number_form : (z : ℤ) → IsBounded z → is_number_word (signed_decimal z) ≡ true
+number_form : (z : ℤ) → IsShortNumber z → is_number_word (signed_decimal z) ≡ true
 number_form (pos n) l = natural_number (decimal n) (decimal_natural n l)
 number_form (negsuc n) l = decimal_positive (suc n) (omega arith) (omega arith)
 
-distance_form : (d : ℤ) → IsBounded d → is_distance (distance_word d) ≡ true
+distance_form : (d : ℤ) → IsShortNumber d → is_distance (distance_word d) ≡ true
 distance_form (pos n) l = decimal_natural n l
 distance_form (negsuc n) l = decimal_positive (suc n) (omega arith) (omega arith)
 
-target_form : (d : ℤ) (w : Word) → IsBounded d → SaysOperand Anywhere (Target d) w → (is_distance w || is_name w) ≡ true
+target_form : (d : ℤ) (w : Word) → IsShortNumber d → SaysOperand Anywhere (Target d) w → (is_distance w || is_name w) ≡ true
 target_form d w l h = ⊎_elim
     (λ e. or_left (is_distance w) (is_name w) (ap is_distance e ∙ distance_form d l))
     (λ k. or_right (is_distance w) (is_name w) k.0)
     h
 
-operand_form : (f : Field) (o : Operand) (w : Word) → FitsIn f o → SaysOperand Anywhere o w → HasForm o w
-operand_form f (Register r) w h s = (r, s)
-operand_form AReg (Number z) w h s = absurd h
-operand_form ASource (Number z) w h s = ap is_number_word s ∙ number_form z (bounded_32 z h)
-operand_form AnImm (Number z) w h s = ap is_number_word s ∙ number_form z (bounded_32 z h)
-operand_form AnOffset (Number z) w h s = ap is_number_word s ∙ number_form z (bounded_16 z h)
-operand_form AWide (Number z) w h s = ap is_number_word (s ∙ ap signed_decimal h.1) ∙ number_form (pos h.0) h.2
-operand_form ANear (Number z) w h s = absurd h
-operand_form AFar (Number z) w h s = absurd h
-operand_form AReg (Target d) w h s = absurd h
-operand_form ASource (Target d) w h s = absurd h
-operand_form AnImm (Target d) w h s = absurd h
-operand_form AnOffset (Target d) w h s = absurd h
-operand_form AWide (Target d) w h s = absurd h
-operand_form ANear (Target d) w h s = target_form d w (bounded_16 d h) s
-operand_form AFar (Target d) w h s = target_form d w (bounded_32 d h) s
+operand_form : (o : Operand) (w : Word) → IsShortOperand o → SaysOperand Anywhere o w → HasForm o w
+operand_form (Register r) w h s = (r, s)
+operand_form (Number z) w h s = ap is_number_word s ∙ number_form z h
+operand_form (Target d) w h s = target_form d w h s
 
-operands_form : (fs : List Field) (os : List Operand) (ws : List Word) → FitIn fs os → SaysOperands Anywhere os ws → HaveForms os ws
-operands_form [] [] [] f h = tt
-operands_form [] [] (w ∷ ws) f h = absurd h
-operands_form [] (o ∷ os) ws f h = absurd f
-operands_form (f ∷ fs) [] ws k h = absurd k
-operands_form (f ∷ fs) (o ∷ os) [] k h = absurd h
-operands_form (f ∷ fs) (o ∷ os) (w ∷ ws) k h = (operand_form f o w k.0 h.0, operands_form fs os ws k.1 h.1)
+operands_form : (os : List Operand) (ws : List Word) → AllByRecursion IsShortOperand os → SaysOperands Anywhere os ws → HaveForms os ws
+operands_form [] [] k h = tt
+operands_form (o ∷ os) (w ∷ ws) k h = (operand_form o w k.0 h.0, operands_form os ws k.1 h.1)
+operands_form os ws k h = absurd h
 
 said_form : (i : Insn) (ws : List Word) → SaysFitting Anywhere i ws → HasFormOf i ws
 said_form i [] h = h.0
-said_form i (w ∷ ws) h = (h.0.0, operands_form (fields_of (mnemonic_of i)) (operands_of i) ws (fit_fields i h.1) h.0.1)
+said_form i (w ∷ ws) h = (h.0.0, operands_form (operands_of i) ws (short_operands i h.1) h.0.1)
 
 said_name : (i : Insn) (ws : List Word) → SaysFitting Anywhere i ws → HasName i ws
 said_name i [] h = h.0
@@ -120,36 +76,31 @@ abbrev Refutes : (List Line → List Insn → Line → Type 0) → Type 0
 Refutes IsWrong = (before after : List Line) (here : Line) (first front back : List Insn) → IsWrong before first here → slot_count first ≡ slot_count front → slot_count (front ++ back) ≤ SLOT_LIMIT → AllDiffer (names_in (before ++ here ∷ after)) → Drafts Anywhere (here ∷ after) back → ⊥
 
 no_unknown_word : Refutes HasUnknownWord
-no_unknown_word before after Blank first front back w s l d h = w
-no_unknown_word before after (Label name) first front back w s l d h = w
-no_unknown_word before after (Statement words) first front [] w s l d h = h
 no_unknown_word before after (Statement words) first front (i ∷ back) w s l d h = w i (said_name i words h.0)
+no_unknown_word before after (Statement words) first front [] w s l d h = h
+no_unknown_word before after here first front back w s l d h = w
 
 no_bad_operand : Refutes HasBadOperand
-no_bad_operand before after Blank first front back w s l d h = w
-no_bad_operand before after (Label name) first front back w s l d h = w
-no_bad_operand before after (Statement words) first front [] w s l d h = h
 no_bad_operand before after (Statement words) first front (i ∷ back) w s l d h = w.1 i (said_form i words h.0)
+no_bad_operand before after (Statement words) first front [] w s l d h = h
+no_bad_operand before after here first front back w s l d h = w
 
 no_out_of_range : Refutes IsOutOfRange
-no_out_of_range before after Blank first front back w s l d h = w
-no_out_of_range before after (Label name) first front back w s l d h = w
-no_out_of_range before after (Statement words) first front [] w s l d h = h
 no_out_of_range before after (Statement words) first front (i ∷ back) w s l d h = w.1 i h.0
+no_out_of_range before after (Statement words) first front [] w s l d h = h
+no_out_of_range before after here first front back w s l d h = w
 
 no_double_label : Refutes IsDoubleLabel
-no_double_label before after Blank first front back w s l d h = w
 no_double_label before after (Label name) first front back w s l d h =
     not_differ name (names_in before) (names_in after) w (subst AllDiffer (names_append before (Label name ∷ after)) d)
-no_double_label before after (Statement words) first front back w s l d h = w
+no_double_label before after here first front back w s l d h = w
 
 no_too_long : Refutes IsTooLong
-no_too_long before after Blank first front back w s l d h = w
-no_too_long before after (Label name) first front back w s l d h = w
-no_too_long before after (Statement words) first front [] w s l d h = h
 no_too_long before after (Statement words) first front (i ∷ back) w s l d h =
     let one = said_slots Anywhere Anywhere words w.0 i w.1.0 h.0.0 in
     let all = sum_by-append slots_of front (i ∷ back) in omega (arith, sum_by-cons slots_of i back)
+no_too_long before after (Statement words) first front [] w s l d h = h
+no_too_long before after here first front back w s l d h = w
 
 all_said : (text : List ℕ) (p : List Insn) → Text text p → Drafts Anywhere (lines_in text) p
 all_said text p t = says_drafts (labels_in 0 (lines_in text) p) Anywhere (λ b w d k. tt) 0 (lines_in text) p t.fit t.said
@@ -163,10 +114,9 @@ no_first_wrong IsWrong refutes text n p f t =
     refutes f.before f.after f.here f.program k.front k.back f.wrong (drafts_slots Anywhere Anywhere f.before f.program k.front f.right.drafted k.first) limit differ k.second
 
 not_lost : (names : List Word) (here : Line) (after : List Line) (back : List Insn) → LacksLabel names here → Drafts (OneOf names) (here ∷ after) back → ⊥
-not_lost names Blank after back w h = w
-not_lost names (Label name) after back w h = w
-not_lost names (Statement words) after [] w h = h
 not_lost names (Statement words) after (i ∷ back) w h = w i h.0
+not_lost names (Statement words) after [] w h = h
+not_lost names here after back w h = w
 
 no_first_lost : (text : List ℕ) (n : ℕ) (p : List Insn) → FirstLost (lines_in text) n → Text text p → ⊥
 no_first_lost text n p f t =

@@ -11,34 +11,24 @@ use Rattle.insn.specs.declared.instruction.Insn.{Insn}
 use Rattle.insn.specs.Instruction.{slots_of, Fits}
 use Rattle.insn.specs.SlotLaws.{slots_of_bounds}
 use Rattle.insn.specs.Program.{slot_count, IsProgram}
-use Rattle.assembly.specs.Text.{Word, operands_of, Line, Blank, Label, Statement, SaysInsn, SaysOperands, labels_in, slot_of, LeadsTo, Says, names_in, lines_in, Text}
+use Rattle.assembly.specs.Text.{Word, mnemonic_name, mnemonic_of, operands_of, Line, Blank, Label, Statement, SaysInsn, SaysOperands, labels_in, slot_of, LeadsTo, Says, names_in, lines_in, Text}
 use Rattle.assembly.specs.declared.mnemonic.Mnemonic.{Mnemonic}
 use Rattle.assembler.specs.declared.draft.Jump.{Jump}
-use Rattle.assembler.specs.declared.draft.Jump.TheVariants.{Always, Long, If64Imm, If64Reg, If32Imm, If32Reg}
 use Rattle.assembler.specs.declared.draft.Draft.{Draft}
 use Rattle.assembler.specs.declared.draft.Draft.TheVariants.{Whole, ToLabel}
 use Rattle.assembler.specs.declared.sheet.Place.{Place}
-use Rattle.assembly.specs.Text.{mnemonic_of, mnemonic_name}
 use Rattle.assembler.specs.Faults.{Anywhere, OneOf, SaysFitting, AreRight, FirstLost, FirstTextFault}
 use Rattle.assembler.specs.Drafts.{draft_slots, jump_over, Nowhere, At, IsDraft, SaysDraft}
 use Rattle.assembler.specs.Sheets.{AreFrom, with_zero, zeroed, IsSheet}
 use Rattle.assembler.specs.SheetsParts.{resolution, resolution_of, FirstLostPlace, Unresolved}
 use Rattle.assembler.specs.declared.fault.AsmFault.{AsmFault}
-use Rattle.assembler.specs.declared.fault.AsmFault.TheVariants.{UnknownWord, BadOperand, OutOfRange, UnknownLabel, DoubleLabel, TooLong, Memory, NoInstruction}
+use Rattle.assembler.specs.declared.fault.AsmFault.TheVariants.{UnknownLabel, Memory}
 use Rattle.assembler.proofs.Refuted.{only_memory}
 use Rattle.assembler.proofs.Statements.{of_mnemonic}
 use Rattle.assembler.proofs.Texts.{operands_more, says_drafts, labels_named}
-use Rattle.assembler.proofs.SheetReading.{are_drafts, zero_slots, name_labelled, some_none}
+use Rattle.assembler.proofs.SheetReading.{are_drafts, jump_slots, zero_slots, name_labelled, some_none}
 
 -- ---- one place
-
-jump_slots : (jump : Jump) (d : ℤ) → slots_of (jump_over jump d) ≡ 1
-jump_slots Always d = refl
-jump_slots Long d = refl
-jump_slots (If64Imm cond dst imm) d = refl
-jump_slots (If64Reg cond dst src) d = refl
-jump_slots (If32Imm cond dst imm) d = refl
-jump_slots (If32Reg cond dst src) d = refl
 
 some_same : {A : Type 0} {x y : A} → Some x ≡ Some y → x ≡ y
 some_same e = cc
@@ -221,12 +211,7 @@ lost_place find ps i d known p l e h none = record {
 pub unresolved_fault : (text : List ℕ) (lines : List Line) (ps : List Place) (find : Word → Option ℕ) (f : AsmFault) → lines ≡ lines_in text → IsSheet lines ps find → Unresolved find ps f → FirstTextFault text f
 unresolved_fault text lines ps find (UnknownLabel line) e h u = subst (λ (ls : List Line). FirstLost ls line) e (lost_label lines ps find line h u)
 unresolved_fault text lines ps find Memory e h u = tt
-unresolved_fault text lines ps find (UnknownWord line) e h u = absurd u
-unresolved_fault text lines ps find (BadOperand line) e h u = absurd u
-unresolved_fault text lines ps find (OutOfRange line) e h u = absurd u
-unresolved_fault text lines ps find (DoubleLabel line) e h u = absurd u
-unresolved_fault text lines ps find (TooLong line) e h u = absurd u
-unresolved_fault text lines ps find NoInstruction e h u = absurd u
+unresolved_fault text lines ps find f e h u = absurd u
 
 pub only_err : {P : Type 0} (r : Result P AsmFault) (text : List ℕ) → IfErr r (FirstTextFault text) → IfErr r (λ fault. (program : List Insn) → Text text program → fault ≡ Memory)
 only_err (Ok x) text h = h

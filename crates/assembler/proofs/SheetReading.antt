@@ -12,8 +12,11 @@ use Rattle.std.proofs.lemmas.Int.{ints}
 use Rattle.insn.specs.declared.instruction.Insn.{Insn}
 use Rattle.insn.specs.Instruction.{slots_of, Fits}
 use Rattle.insn.specs.Program.{slot_count, SLOT_LIMIT}
-use Rattle.assembly.specs.Text.{Word, operands_of, Line, Blank, Label, Statement, SaysOperands, labels_in, slot_of, names_in, AllDiffer, line_of, words_in}
-use Rattle.assembler.specs.declared.draft.Jump.TheVariants.{Always, Long, If64Imm, If64Reg, If32Imm, If32Reg}
+use Rattle.assembly.specs.Text.{Word, mnemonic_name, mnemonic_of, operands_of, Line, Blank, Label, Statement, SaysOperands, labels_in, slot_of, names_in, AllDiffer, line_of, words_in}
+use Rattle.assembler.specs.declared.draft.Jump.{Jump}
+use Rattle.assembler.specs.declared.draft.Jump.TheVariants.{If}
+use Rattle.insn.specs.declared.operation.Width.TheVariants.{W32, W64}
+use Rattle.insn.specs.declared.instruction.Operand.TheVariants.{Imm}
 use Rattle.assembler.specs.declared.draft.Draft.{Draft}
 use Rattle.assembler.specs.declared.draft.Draft.TheVariants.{Whole, ToLabel}
 use Rattle.assembler.specs.declared.draft.WordFault.{WordFault}
@@ -21,7 +24,6 @@ use Rattle.assembler.specs.declared.draft.WordFault.TheVariants.{UnknownWord, Ba
 use Rattle.assembler.specs.declared.slot_number.SlotNumber.{SlotNumber}
 use Rattle.assembler.specs.declared.sheet.Place.{Place}
 use Rattle.assembly.specs.declared.mnemonic.Mnemonic.{Mnemonic}
-use Rattle.assembly.specs.Text.{mnemonic_of, mnemonic_name}
 use Rattle.assembler.specs.Faults.{Anywhere, SaysFitting, Drafts, AreRight, FirstWrong, FaultIn, HasUnknownWord, HasBadOperand, IsOutOfRange, IsDoubleLabel, IsTooLong}
 use Rattle.assembler.specs.Drafts.{draft_slots, jump_over, Nowhere, At, IsDraft, SaysDraft, StatementDraft}
 use Rattle.assembler.specs.Sheets.{lines_of, AreFrom, with_zero, zeroed, AreRead, find_in}
@@ -53,45 +55,42 @@ zeroed_parts m ops (ToLabel jump name) h = let j = h.0 (pos 0) zero_fits in zero
 pub zeroed_said : (words : List Word) (d : Draft) → IsDraft words d → SaysFitting Anywhere (with_zero d) words
 zeroed_said words d h = subst (λ (ws : List Word). SaysFitting Anywhere (with_zero d) ws) (sym h.parts) (zeroed_parts h.mnemonic h.operands d h.said)
 
+pub jump_slots : (jump : Jump) (d : ℤ) → slots_of (jump_over jump d) ≡ 1
+jump_slots (If W64 cond dst (Imm imm)) d = refl
+jump_slots (If W32 cond dst (Imm imm)) d = refl
+jump_slots jump d = refl
+
 pub zero_slots : (d : Draft) → slots_of (with_zero d) ≡ draft_slots d
 zero_slots (Whole i) = refl
-zero_slots (ToLabel Always name) = refl
-zero_slots (ToLabel Long name) = refl
-zero_slots (ToLabel (If64Imm cond dst imm) name) = refl
-zero_slots (ToLabel (If64Reg cond dst src) name) = refl
-zero_slots (ToLabel (If32Imm cond dst imm) name) = refl
-zero_slots (ToLabel (If32Reg cond dst src) name) = refl
+zero_slots (ToLabel jump name) = jump_slots jump (pos 0)
 
 pub are_drafts : (n s : ℕ) (lines : List Line) (ps : List Place) → AreFrom n s lines ps → Drafts Anywhere lines (zeroed ps)
 are_drafts n s [] [] h = tt
-are_drafts n s [] (p ∷ ps) h = h
 are_drafts n s (Blank ∷ lines) ps h = are_drafts (n + 1) s lines ps h
 are_drafts n s (Label name ∷ lines) ps h = are_drafts (n + 1) s lines ps h
-are_drafts n s (Statement words ∷ lines) [] h = h
 are_drafts n s (Statement words ∷ lines) (p ∷ ps) h = (zeroed_said words p.draft h.0, are_drafts (n + 1) p.behind.number lines ps h.3)
+are_drafts n s lines ps h = h
 
 -- ---- one more line
 
 are_append : (n s m t : ℕ) (a : List Line) (ps : List Place) (b : List Line) (qs : List Place) → m ≡ n + length a → t ≡ s + slot_count (zeroed ps) → AreFrom n s a ps → AreFrom m t b qs → AreFrom n s (a ++ b) (ps ++ qs)
 are_append n s m t [] [] b qs e f h k =
     let en : m ≡ n = omega arith in let es : t ≡ s = omega arith in subst (λ (x : ℕ). AreFrom x s b qs) en (subst (λ (x : ℕ). AreFrom m x b qs) es k)
-are_append n s m t [] (p ∷ ps) b qs e f h k = absurd h
 are_append n s m t (Blank ∷ a) ps b qs e f h k = are_append (n + 1) s m t a ps b qs (omega arith) f h k
 are_append n s m t (Label name ∷ a) ps b qs e f h k = are_append (n + 1) s m t a ps b qs (omega arith) f h k
-are_append n s m t (Statement words ∷ a) [] b qs e f h k = absurd h
 are_append n s m t (Statement words ∷ a) (p ∷ ps) b qs e f h k =
     let c = sum_by-cons slots_of (with_zero p.draft) (zeroed ps) in
     let z = zero_slots p.draft in
     let w = h.2 in
     (h.0, h.1, h.2, are_append (n + 1) p.behind.number m t a ps b qs (omega arith) (omega arith) h.3 k)
+are_append n s m t a ps b qs e f h k = absurd h
 
 labels_append : (L : Word → ℤ → Type 0) (s t : ℕ) (a : List Line) (p : List Insn) (b : List Line) (q : List Insn) → Drafts L a p → t ≡ s + slot_count p → labels_in s (a ++ b) (p ++ q) ≡ labels_in s a p ++ labels_in t b q
 labels_append L s t [] [] b q h e = let k : t ≡ s = omega arith in ap (λ (x : ℕ). labels_in x b q) (sym k)
-labels_append L s t [] (i ∷ p) b q h e = absurd h
 labels_append L s t (Blank ∷ a) p b q h e = labels_append L s t a p b q h e
 labels_append L s t (Label name ∷ a) p b q h e = ap (λ (x : List (Word × ℕ)). (name, s) ∷ x) (labels_append L s t a p b q h e)
-labels_append L s t (Statement words ∷ a) [] b q h e = absurd h
 labels_append L s t (Statement words ∷ a) (i ∷ p) b q h e = let c = sum_by-cons slots_of i p in labels_append L (s + slots_of i) t a p b q h.1 (omega arith)
+labels_append L s t a p b q h e = absurd h
 
 zeroed_push : (ps : List Place) (p : Place) → zeroed (ps ++ p ∷ []) ≡ zeroed ps ++ with_zero p.draft ∷ []
 zeroed_push [] p = refl
@@ -129,9 +128,6 @@ slot_push_new (l ∷ labels) name s q e t = ⊎_elim
     (cases_Bool (bytes_eq l.0 q))
 
 -- ---- the steps
-
-pub look_start : (find : Word → Option ℕ) → ((q : Word) → find q ≡ None) → AreRead [] [] find 0
-look_start find none = record { stand = tt; behind = refl; labels = none; differ = tt }
 
 pub look_blank : (lines : List Line) (ps : List Place) (find : Word → Option ℕ) (s : ℕ) → AreRead lines ps find s → AreRead (lines ++ Blank ∷ []) ps find s
 look_blank lines ps find s h = record {

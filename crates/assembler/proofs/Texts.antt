@@ -1,5 +1,5 @@
 -- What lines say, and that a fault of theirs leaves nothing to say.
-use Rattle.std.proofs.Common.{◌≡◌, ◌⊎◌, ⊎_elim, inl, inr, ℕ, ◌+◌, true, false, ℤ, List, [], ◌∷◌, ◌++◌, Some, None, refl, sym, ap}
+use Rattle.std.proofs.Common.{◌≡◌, ◌⊎◌, ⊎_elim, inl, inr, ℕ, ◌+◌, true, false, ℤ, List, [], ◌∷◌, ◌++◌, Some, refl, sym, ap}
 use Rattle.std.specs.Str.{bytes_eq}
 use Rattle.std.specs.List.{list_any, AllByRecursion}
 use Rattle.std.proofs.lemmas.Bool.{both_ways, or_left, or_right, or_cases, cases_Bool}
@@ -17,19 +17,15 @@ operand_more L M more (Number n) w h = h
 operand_more L M more (Target d) w h = ⊎_elim (λ k. inl k) (λ k. inr (k.0, more w d k.1)) h
 
 pub operands_more : (L M : Word → ℤ → Type 0) → ((w : Word) (d : ℤ) → L w d → M w d) → (os : List Operand) (ws : List Word) → SaysOperands L os ws → SaysOperands M os ws
-operands_more L M more [] [] h = h
-operands_more L M more [] (w ∷ ws) h = h
-operands_more L M more (o ∷ os) [] h = h
 operands_more L M more (o ∷ os) (w ∷ ws) h = (operand_more L M more o w h.0, operands_more L M more os ws h.1)
+operands_more L M more [] [] h = h
+operands_more L M more os ws h = h
 
 pub insn_more : (L M : Word → ℤ → Type 0) → ((w : Word) (d : ℤ) → L w d → M w d) → (i : Insn) (ws : List Word) → SaysInsn L i ws → SaysInsn M i ws
 insn_more L M more i [] h = h
 insn_more L M more i (w ∷ ws) h = (h.0, operands_more L M more (operands_of i) ws h.1)
 
 -- ---- labels
-
-pub label_known : (labels : List (Word × ℕ)) (names : List Word) (q : Word) (n : ℕ) → ((x : Word) → slot_of labels x ≡ None ⊎ (list_any (bytes_eq x) names ≡ true)) → slot_of labels q ≡ Some n → list_any (bytes_eq q) names ≡ true
-label_known labels names q n all h = ⊎_elim (λ e. absurd cc) (λ e. e) (all q)
 
 pub bytes_eq_sym : (x y : Word) → bytes_eq x y ≡ true → bytes_eq y x ≡ true
 bytes_eq_sym x y h = (bytes_eq-Decides y x).1 (sym ((bytes_eq-Decides x y).0 h))
@@ -48,12 +44,11 @@ labels_named s (Statement words ∷ lines) (i ∷ p) q n h = labels_named (s + s
 
 pub says_drafts : (labels : List (Word × ℕ)) (L : Word → ℤ → Type 0) → ((b : ℕ) (w : Word) (d : ℤ) → LeadsTo labels b w d → L w d) → (s : ℕ) (lines : List Line) (p : List Insn) → AllByRecursion Fits p → Says labels s lines p → Drafts L lines p
 says_drafts labels L more s [] [] f h = h
-says_drafts labels L more s [] (i ∷ p) f h = h
 says_drafts labels L more s (Blank ∷ lines) p f h = says_drafts labels L more s lines p f h
 says_drafts labels L more s (Label name ∷ lines) p f h = says_drafts labels L more s lines p f h
-says_drafts labels L more s (Statement words ∷ lines) [] f h = h
 says_drafts labels L more s (Statement words ∷ lines) (i ∷ p) f h =
     ((insn_more (LeadsTo labels (s + slots_of i)) L (more (s + slots_of i)) i words h.0, f.0), says_drafts labels L more (s + slots_of i) lines p f.1 h.1)
+says_drafts labels L more s lines p f h = h
 
 -- the instructions behind some lines
 pub record Split (L : Word → ℤ → Type 0) (before rest : List Line) (p : List Insn) : Type 0 where
@@ -75,10 +70,6 @@ names_append [] b = refl
 names_append (Blank ∷ a) b = names_append a b
 names_append (Label name ∷ a) b = ap (λ (x : List Word). name ∷ x) (names_append a b)
 names_append (Statement words ∷ a) b = names_append a b
-
-any_front : (q : Word) (a b : List Word) → list_any (bytes_eq q) a ≡ true → list_any (bytes_eq q) (a ++ b) ≡ true
-any_front q [] b h = absurd cc
-any_front q (x ∷ a) b h = ⊎_elim (λ e. or_left (bytes_eq q x) _ e) (λ e. or_right (bytes_eq q x) _ (any_front q a b e)) (or_cases (bytes_eq q x) (list_any (bytes_eq q) a) h)
 
 any_middle : (x name : Word) (a b : List Word) → bytes_eq x name ≡ true → list_any (bytes_eq x) (a ++ name ∷ b) ≡ true
 any_middle x name [] b h = or_left (bytes_eq x name) _ h

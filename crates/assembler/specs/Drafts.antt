@@ -6,25 +6,26 @@ use Rattle.std.specs.Int.{w16}
 use Rattle.insn.specs.declared.instruction.Insn.{Insn}
 use Rattle.insn.specs.declared.instruction.Insn.TheVariants as insn
 use Rattle.insn.specs.Instruction.{slots_of, Fits}
-use Rattle.assembly.specs.Text.{Word, operands_of, SaysOperands, Statement}
+use Rattle.assembly.specs.Text.{Word, mnemonic_name, mnemonic_of, operands_of, SaysOperands, Statement}
 use Rattle.assembly.specs.declared.mnemonic.Mnemonic.{Mnemonic}
 use Rattle.assembler.specs.declared.draft.Jump.{Jump}
-use Rattle.assembler.specs.declared.draft.Jump.TheVariants.{Always, Long, If64Imm, If64Reg, If32Imm, If32Reg}
+use Rattle.assembler.specs.declared.draft.Jump.TheVariants.{Always, Long, If}
+use Rattle.insn.specs.declared.operation.Width.TheVariants.{W32, W64}
+use Rattle.insn.specs.declared.instruction.Operand.TheVariants.{Reg, Imm}
 use Rattle.assembler.specs.declared.draft.Draft.{Draft}
 use Rattle.assembler.specs.declared.draft.Draft.TheVariants.{Whole, ToLabel}
 use Rattle.assembler.specs.declared.draft.WordFault.{WordFault}
 use Rattle.assembler.specs.declared.draft.WordFault.TheVariants.{UnknownWord, BadOperand, OutOfRange}
-use Rattle.assembly.specs.Text.{mnemonic_of, mnemonic_name}
 use Rattle.assembler.specs.Faults.{OneOf, HasUnknownWord, HasBadOperand, IsOutOfRange}
 
 -- a jump over so many slots
 abbrev pub jump_over : Jump → ℤ → Insn
 jump_over Always d = insn.Jump d
 jump_over Long d = insn.JumpLong d
-jump_over (If64Imm cond dst imm) d = insn.Jump64IfImm cond dst d imm
-jump_over (If64Reg cond dst src) d = insn.Jump64IfReg cond dst src d
-jump_over (If32Imm cond dst imm) d = insn.Jump32IfImm cond dst d imm
-jump_over (If32Reg cond dst src) d = insn.Jump32IfReg cond dst src d
+jump_over (If W64 cond dst (Imm imm)) d = insn.Jump64IfImm cond dst d imm
+jump_over (If W64 cond dst (Reg src)) d = insn.Jump64IfReg cond dst src d
+jump_over (If W32 cond dst (Imm imm)) d = insn.Jump32IfImm cond dst d imm
+jump_over (If W32 cond dst (Reg src)) d = insn.Jump32IfReg cond dst src d
 
 abbrev pub draft_slots : Draft → ℕ
 draft_slots (Whole i) = slots_of i

@@ -3,29 +3,17 @@ use Rattle.std.specs.Prelude.{◌≡◌, ◌≢◌, true, ℤ, List, Option, Som
 use Rattle.std.specs.Int.{w16, w32}
 use Rattle.std.specs.Fmt.{signed_decimal}
 use Rattle.insn.specs.declared.register.RegNo.{RegNo}
-use Rattle.insn.specs.declared.operation.Width.{Width}
-use Rattle.insn.specs.declared.operation.Width.TheVariants.{W32, W64}
-use Rattle.insn.specs.declared.operation.Cond.{Cond}
 use Rattle.insn.specs.declared.instruction.Insn.{Insn}
 use Rattle.insn.specs.declared.instruction.Operand.{Operand as Source}
 use Rattle.insn.specs.declared.instruction.Operand.TheVariants.{Reg, Imm}
 use Rattle.insn.specs.Instruction.{Fits}
-use Rattle.assembly.specs.Text.{Word, Target, register_word, distance_word, is_name, operands_of, SaysOperand, SaysOperands}
+use Rattle.assembly.specs.Text.{Word, Target, register_word, distance_word, is_name, mnemonic_of, operands_of, SaysOperand, SaysOperands}
 use Rattle.assembly.specs.declared.mnemonic.Mnemonic.{Mnemonic}
 use Rattle.assembler.specs.declared.draft.Jump.{Jump}
-use Rattle.assembler.specs.declared.draft.Jump.TheVariants.{If64Imm, If64Reg, If32Imm, If32Reg}
 use Rattle.assembler.specs.declared.draft.Draft.{Draft}
 use Rattle.assembler.specs.declared.draft.Draft.TheVariants.{Whole, ToLabel}
-use Rattle.assembly.specs.Text.{mnemonic_of}
 use Rattle.assembler.specs.Faults.{Anywhere}
 use Rattle.assembler.specs.Drafts.{jump_over, SaysDraft}
-
--- a jump where a condition holds of a register and a second operand
-abbrev pub condition_of : Width → Cond → RegNo → Source → Jump
-condition_of W64 cond dst (Imm imm) = If64Imm cond dst imm
-condition_of W64 cond dst (Reg src) = If64Reg cond dst src
-condition_of W32 cond dst (Imm imm) = If32Imm cond dst imm
-condition_of W32 cond dst (Reg src) = If32Reg cond dst src
 
 abbrev pub DraftOf : Mnemonic → List Word → Option Draft → Type 0
 DraftOf m words None = (i : Insn) → mnemonic_of i ≡ m → Fits i → SaysOperands Anywhere (operands_of i) words → ⊥

@@ -20,9 +20,8 @@ HasForm (Target d) word = (is_distance word || is_name word) ≡ true
 
 abbrev pub HaveForms : List Operand → List Word → Type 0
 HaveForms [] [] = ⊤
-HaveForms [] (word ∷ words) = ⊥
-HaveForms (operand ∷ operands) [] = ⊥
 HaveForms (operand ∷ operands) (word ∷ words) = HasForm operand word × HaveForms operands words
+HaveForms operands words = ⊥
 
 -- the first word is an instruction's name
 abbrev pub HasName : Insn → List Word → Type 0
@@ -51,11 +50,10 @@ SaysFitting Leads i words = SaysInsn Leads i words × Fits i
 -- lines say such instructions
 abbrev pub Drafts : (Word → ℤ → Type 0) → List Line → List Insn → Type 0
 Drafts Leads [] [] = ⊤
-Drafts Leads [] (i ∷ program) = ⊥
 Drafts Leads (Blank ∷ lines) program = Drafts Leads lines program
 Drafts Leads (Label name ∷ lines) program = Drafts Leads lines program
-Drafts Leads (Statement words ∷ lines) [] = ⊥
 Drafts Leads (Statement words ∷ lines) (i ∷ program) = SaysFitting Leads i words × Drafts Leads lines program
+Drafts Leads lines program = ⊥
 
 -- lines of which each is right: they say instructions of at most 4,096 slots, wherever labels lie, and no label stands twice
 pub record AreRight (lines : List Line) (program : List Insn) : Type 0 where
@@ -65,38 +63,32 @@ pub record AreRight (lines : List Line) (program : List Insn) : Type 0 where
 
 -- ---- what is wrong with a line, behind others that say some instructions
 
+-- the words of an instruction's line are such
+abbrev pub HasWords : (List Word → Type 0) → Line → Type 0
+HasWords AreSuch (Statement words) = AreSuch words
+HasWords AreSuch line = ⊥
+
 abbrev pub HasUnknownWord : List Line → List Insn → Line → Type 0
-HasUnknownWord before program Blank = ⊥
-HasUnknownWord before program (Label name) = ⊥
-HasUnknownWord before program (Statement words) = (i : Insn) → HasName i words → ⊥
+HasUnknownWord before program here = HasWords (λ words. (i : Insn) → HasName i words → ⊥) here
 
 abbrev pub HasBadOperand : List Line → List Insn → Line → Type 0
-HasBadOperand before program Blank = ⊥
-HasBadOperand before program (Label name) = ⊥
-HasBadOperand before program (Statement words) = ((i : Insn) × HasName i words) × ((i : Insn) → HasFormOf i words → ⊥)
+HasBadOperand before program here = HasWords (λ words. ((i : Insn) × HasName i words) × ((i : Insn) → HasFormOf i words → ⊥)) here
 
 -- the form of the line is right, and no instruction that it says fits
 abbrev pub IsOutOfRange : List Line → List Insn → Line → Type 0
-IsOutOfRange before program Blank = ⊥
-IsOutOfRange before program (Label name) = ⊥
-IsOutOfRange before program (Statement words) = ((i : Insn) × HasFormOf i words) × ((i : Insn) → SaysFitting Anywhere i words → ⊥)
+IsOutOfRange before program here = HasWords (λ words. ((i : Insn) × HasFormOf i words) × ((i : Insn) → SaysFitting Anywhere i words → ⊥)) here
 
 abbrev pub IsDoubleLabel : List Line → List Insn → Line → Type 0
-IsDoubleLabel before program Blank = ⊥
 IsDoubleLabel before program (Label name) = list_any (bytes_eq name) (names_in before) ≡ true
-IsDoubleLabel before program (Statement words) = ⊥
+IsDoubleLabel before program here = ⊥
 
 -- its instruction passes the last slot
 abbrev pub IsTooLong : List Line → List Insn → Line → Type 0
-IsTooLong before program Blank = ⊥
-IsTooLong before program (Label name) = ⊥
-IsTooLong before program (Statement words) = (i : Insn) × SaysFitting Anywhere i words × (SLOT_LIMIT < slot_count program + slots_of i)
+IsTooLong before program here = HasWords (λ words. (i : Insn) × SaysFitting Anywhere i words × (SLOT_LIMIT < slot_count program + slots_of i)) here
 
 -- it says no instruction with these labels alone
 abbrev pub LacksLabel : List Word → Line → Type 0
-LacksLabel names Blank = ⊥
-LacksLabel names (Label name) = ⊥
-LacksLabel names (Statement words) = (i : Insn) → SaysFitting (OneOf names) i words → ⊥
+LacksLabel names here = HasWords (λ words. (i : Insn) → SaysFitting (OneOf names) i words → ⊥) here
 
 -- ---- the first fault
 

@@ -34,6 +34,5 @@ IsOfKind Target word = (is_distance word || is_name word) ≡ true
 
 abbrev pub HaveKinds : List OperandKind → List Word → Type 0
 HaveKinds [] [] = ⊤
-HaveKinds [] (word ∷ words) = ⊥
-HaveKinds (kind ∷ kinds) [] = ⊥
 HaveKinds (kind ∷ kinds) (word ∷ words) = IsOfKind kind word × HaveKinds kinds words
+HaveKinds kinds words = ⊥

@@ -21,12 +21,11 @@ lines_of parts = map (λ bytes. line_of (words_in bytes)) parts
 -- the places of lines, behind so many others and from a slot on
 abbrev pub AreFrom : ℕ → ℕ → List Line → List Place → Type 0
 AreFrom number slot [] [] = ⊤
-AreFrom number slot [] (p ∷ places) = ⊥
 AreFrom number slot (Blank ∷ lines) places = AreFrom (number + 1) slot lines places
 AreFrom number slot (Label name ∷ lines) places = AreFrom (number + 1) slot lines places
-AreFrom number slot (Statement words ∷ lines) [] = ⊥
 AreFrom number slot (Statement words ∷ lines) (p ∷ places) =
     IsDraft words p.draft × (p.line ≡ number + 1) × (p.behind.number ≡ slot + draft_slots p.draft) × AreFrom (number + 1) p.behind.number lines places
+AreFrom number slot lines places = ⊥
 
 -- an instruction of a draft, with 0 for a distance that is open
 abbrev pub with_zero : Draft → Insn

@@ -41,9 +41,4 @@ pub record FirstLostPlace (find : Word → Option ℕ) (places : List Place) (li
 abbrev pub Unresolved : (Word → Option ℕ) → List Place → AsmFault → Type 0
 Unresolved find places (faults.UnknownLabel line) = FirstLostPlace find places line
 Unresolved find places faults.Memory = ⊤
-Unresolved find places (faults.UnknownWord line) = ⊥
-Unresolved find places (faults.BadOperand line) = ⊥
-Unresolved find places (faults.OutOfRange line) = ⊥
-Unresolved find places (faults.DoubleLabel line) = ⊥
-Unresolved find places (faults.TooLong line) = ⊥
-Unresolved find places faults.NoInstruction = ⊥
+Unresolved find places fault = ⊥

@@ -3,7 +3,7 @@
 ghost use Rattle.std.specs.Prelude.{◌≡◌, [], ◌∷◌, length, map};
 ghost use Rattle.assembler.specs.Forms.{kinds_of};
 ghost use Rattle.assembler.specs.Drafts.{draft_slots, jump_over, StatementDraft};
-ghost use Rattle.assembler.specs.DraftsParts.{condition_of, DraftOf, HasTarget, IsSource};
+ghost use Rattle.assembler.specs.DraftsParts.{DraftOf, HasTarget, IsSource};
 ghost use Rattle.assembly.specs.declared.mnemonic.Mnemonic.TheVariants as mnemonic;
 
 use crate::form::{have_form, kinds};
@@ -20,10 +20,7 @@ use insn::register::RegNo;
 pub enum Jump {
     Always,
     Long,
-    If64Imm { cond: Cond, dst: RegNo, imm: i32 },
-    If64Reg { cond: Cond, dst: RegNo, src: RegNo },
-    If32Imm { cond: Cond, dst: RegNo, imm: i32 },
-    If32Reg { cond: Cond, dst: RegNo, src: RegNo },
+    If(Width, Cond, RegNo, Operand),
 }
 
 impl Jump {
@@ -36,25 +33,25 @@ impl Jump {
             Jump::Long => Insn::JumpLong {
                 offset: i32::from(offset),
             },
-            Jump::If64Imm { cond, dst, imm } => Insn::Jump64IfImm {
+            Jump::If(Width::W64, cond, dst, Operand::Imm(imm)) => Insn::Jump64IfImm {
                 cond,
                 dst,
                 offset,
                 imm,
             },
-            Jump::If64Reg { cond, dst, src } => Insn::Jump64IfReg {
+            Jump::If(Width::W64, cond, dst, Operand::Reg(src)) => Insn::Jump64IfReg {
                 cond,
                 dst,
                 src,
                 offset,
             },
-            Jump::If32Imm { cond, dst, imm } => Insn::Jump32IfImm {
+            Jump::If(Width::W32, cond, dst, Operand::Imm(imm)) => Insn::Jump32IfImm {
                 cond,
                 dst,
                 offset,
                 imm,
             },
-            Jump::If32Reg { cond, dst, src } => Insn::Jump32IfReg {
+            Jump::If(Width::W32, cond, dst, Operand::Reg(src)) => Insn::Jump32IfReg {
                 cond,
                 dst,
                 src,
@@ -279,18 +276,6 @@ fn jump_long<'a>(target: &'a [u8]) -> Option<Draft<'a>>
     Some(Draft::Whole(Insn::JumpLong { offset }))
 }
 
-/// The condition of a jump.
-fn condition(width: Width, cond: Cond, dst: RegNo, source: Operand) -> Jump
-    ensures { result ≡ condition_of width cond dst source }
-{
-    match (width, source) {
-        (Width::W64, Operand::Imm(imm)) => Jump::If64Imm { cond, dst, imm },
-        (Width::W64, Operand::Reg(src)) => Jump::If64Reg { cond, dst, src },
-        (Width::W32, Operand::Imm(imm)) => Jump::If32Imm { cond, dst, imm },
-        (Width::W32, Operand::Reg(src)) => Jump::If32Reg { cond, dst, src },
-    }
-}
-
 /// A jump where a condition holds.
 fn jump_if<'a>(
     width: Width,
@@ -303,7 +288,7 @@ fn jump_if<'a>(
 {
     let dst = register(dst)?;
     let source = self::source(source)?;
-    jump_to(condition(width, cond, dst, source), target)
+    jump_to(Jump::If(width, cond, dst, source), target)
 }
 
 /// What words behind a mnemonic say, where each number fits its field.

@@ -127,30 +127,6 @@ size_name Two = codes "h"
 size_name Four = codes "w"
 size_name Eight = codes "dw"
 
--- what the first word of an instruction says of it
-abbrev pub mnemonic_of : Insn → Mnemonic
-mnemonic_of (Alu64Imm op dst imm) = mnemonic.Alu W64 op
-mnemonic_of (Alu64Reg op dst src) = mnemonic.Alu W64 op
-mnemonic_of (Alu32Imm op dst imm) = mnemonic.Alu W32 op
-mnemonic_of (Alu32Reg op dst src) = mnemonic.Alu W32 op
-mnemonic_of (Divide width signedness dst operand) = mnemonic.Divide width signedness
-mnemonic_of (Remainder width signedness dst operand) = mnemonic.Remainder width signedness
-mnemonic_of (Negate width dst) = mnemonic.Negate width
-mnemonic_of (MoveSigned extension dst src) = mnemonic.MoveSigned extension
-mnemonic_of (SwapBytes kind bits dst) = mnemonic.SwapBytes kind bits
-mnemonic_of (LoadWide dst value) = mnemonic.LoadWide
-mnemonic_of (Load size dst src offset) = mnemonic.Load size
-mnemonic_of (LoadSigned size dst src offset) = mnemonic.LoadSigned size
-mnemonic_of (StoreReg size dst src offset) = mnemonic.StoreReg size
-mnemonic_of (StoreImm size dst offset imm) = mnemonic.StoreImm size
-mnemonic_of (Jump offset) = mnemonic.Jump
-mnemonic_of (JumpLong offset) = mnemonic.JumpLong
-mnemonic_of (Jump64IfImm cond dst offset imm) = mnemonic.JumpIf W64 cond
-mnemonic_of (Jump64IfReg cond dst src offset) = mnemonic.JumpIf W64 cond
-mnemonic_of (Jump32IfImm cond dst offset imm) = mnemonic.JumpIf W32 cond
-mnemonic_of (Jump32IfReg cond dst src offset) = mnemonic.JumpIf W32 cond
-mnemonic_of Exit = mnemonic.Exit
-
 abbrev pub mnemonic_name : Mnemonic → Word
 mnemonic_name (mnemonic.Alu width op) = operation_name (operation_of op) ++ width_name width
 mnemonic_name (mnemonic.Divide width signedness) = operation_name (division_of signedness) ++ width_name width
@@ -168,10 +144,6 @@ mnemonic_name mnemonic.JumpLong = codes "jal"
 mnemonic_name (mnemonic.JumpIf width cond) = condition_name cond ++ width_name width
 mnemonic_name mnemonic.Exit = codes "exit"
 
--- the first word of an instruction's line
-abbrev pub name_of : Insn → Word
-name_of i = mnemonic_name (mnemonic_of i)
-
 -- what stands behind the first word: registers, numbers, and how far a jump leads
 pub data Operand : Type 0 where
   Register : RegNo → Operand
@@ -182,28 +154,39 @@ abbrev pub source_operand : Source → Operand
 source_operand (Reg src) = Register src
 source_operand (Imm imm) = Number imm
 
+-- what an instruction's line says: what its first word says of it, and its operands
+abbrev pub words_of : Insn → Mnemonic × List Operand
+words_of (Alu64Imm op dst imm) = (mnemonic.Alu W64 op, Register dst ∷ Number imm ∷ [])
+words_of (Alu64Reg op dst src) = (mnemonic.Alu W64 op, Register dst ∷ Register src ∷ [])
+words_of (Alu32Imm op dst imm) = (mnemonic.Alu W32 op, Register dst ∷ Number imm ∷ [])
+words_of (Alu32Reg op dst src) = (mnemonic.Alu W32 op, Register dst ∷ Register src ∷ [])
+words_of (Divide width signedness dst operand) = (mnemonic.Divide width signedness, Register dst ∷ source_operand operand ∷ [])
+words_of (Remainder width signedness dst operand) = (mnemonic.Remainder width signedness, Register dst ∷ source_operand operand ∷ [])
+words_of (Negate width dst) = (mnemonic.Negate width, Register dst ∷ [])
+words_of (MoveSigned extension dst src) = (mnemonic.MoveSigned extension, Register dst ∷ Register src ∷ [])
+words_of (SwapBytes kind bits dst) = (mnemonic.SwapBytes kind bits, Register dst ∷ [])
+words_of (LoadWide dst value) = (mnemonic.LoadWide, Register dst ∷ Number (pos value) ∷ [])
+words_of (Load size dst src offset) = (mnemonic.Load size, Register dst ∷ Register src ∷ Number offset ∷ [])
+words_of (LoadSigned size dst src offset) = (mnemonic.LoadSigned size, Register dst ∷ Register src ∷ Number offset ∷ [])
+words_of (StoreReg size dst src offset) = (mnemonic.StoreReg size, Register dst ∷ Number offset ∷ Register src ∷ [])
+words_of (StoreImm size dst offset imm) = (mnemonic.StoreImm size, Register dst ∷ Number offset ∷ Number imm ∷ [])
+words_of (Jump offset) = (mnemonic.Jump, Target offset ∷ [])
+words_of (JumpLong offset) = (mnemonic.JumpLong, Target offset ∷ [])
+words_of (Jump64IfImm cond dst offset imm) = (mnemonic.JumpIf W64 cond, Register dst ∷ Number imm ∷ Target offset ∷ [])
+words_of (Jump64IfReg cond dst src offset) = (mnemonic.JumpIf W64 cond, Register dst ∷ Register src ∷ Target offset ∷ [])
+words_of (Jump32IfImm cond dst offset imm) = (mnemonic.JumpIf W32 cond, Register dst ∷ Number imm ∷ Target offset ∷ [])
+words_of (Jump32IfReg cond dst src offset) = (mnemonic.JumpIf W32 cond, Register dst ∷ Register src ∷ Target offset ∷ [])
+words_of Exit = (mnemonic.Exit, [])
+
+abbrev pub mnemonic_of : Insn → Mnemonic
+mnemonic_of i = (words_of i).0
+
 abbrev pub operands_of : Insn → List Operand
-operands_of (Alu64Imm op dst imm) = Register dst ∷ Number imm ∷ []
-operands_of (Alu64Reg op dst src) = Register dst ∷ Register src ∷ []
-operands_of (Alu32Imm op dst imm) = Register dst ∷ Number imm ∷ []
-operands_of (Alu32Reg op dst src) = Register dst ∷ Register src ∷ []
-operands_of (Divide width signedness dst operand) = Register dst ∷ source_operand operand ∷ []
-operands_of (Remainder width signedness dst operand) = Register dst ∷ source_operand operand ∷ []
-operands_of (Negate width dst) = Register dst ∷ []
-operands_of (MoveSigned extension dst src) = Register dst ∷ Register src ∷ []
-operands_of (SwapBytes kind bits dst) = Register dst ∷ []
-operands_of (LoadWide dst value) = Register dst ∷ Number (pos value) ∷ []
-operands_of (Load size dst src offset) = Register dst ∷ Register src ∷ Number offset ∷ []
-operands_of (LoadSigned size dst src offset) = Register dst ∷ Register src ∷ Number offset ∷ []
-operands_of (StoreReg size dst src offset) = Register dst ∷ Number offset ∷ Register src ∷ []
-operands_of (StoreImm size dst offset imm) = Register dst ∷ Number offset ∷ Number imm ∷ []
-operands_of (Jump offset) = Target offset ∷ []
-operands_of (JumpLong offset) = Target offset ∷ []
-operands_of (Jump64IfImm cond dst offset imm) = Register dst ∷ Number imm ∷ Target offset ∷ []
-operands_of (Jump64IfReg cond dst src offset) = Register dst ∷ Register src ∷ Target offset ∷ []
-operands_of (Jump32IfImm cond dst offset imm) = Register dst ∷ Number imm ∷ Target offset ∷ []
-operands_of (Jump32IfReg cond dst src offset) = Register dst ∷ Register src ∷ Target offset ∷ []
-operands_of Exit = []
+operands_of i = (words_of i).1
+
+-- the first word of an instruction's line
+abbrev pub name_of : Insn → Word
+name_of i = mnemonic_name (mnemonic_of i)
 
 abbrev pub register_word : RegNo → Word
 register_word r = codes "r" ++ decimal (reg_number r)
@@ -264,9 +247,8 @@ SaysOperand Leads (Target d) word = (word ≡ distance_word d) ⊎ ((is_name wor
 
 abbrev pub SaysOperands : (Word → ℤ → Type 0) → List Operand → List Word → Type 0
 SaysOperands Leads [] [] = ⊤
-SaysOperands Leads [] (word ∷ words) = ⊥
-SaysOperands Leads (operand ∷ operands) [] = ⊥
 SaysOperands Leads (operand ∷ operands) (word ∷ words) = SaysOperand Leads operand word × SaysOperands Leads operands words
+SaysOperands Leads operands words = ⊥
 
 -- words say an instruction: its name, then its operands
 abbrev pub SaysInsn : (Word → ℤ → Type 0) → Insn → List Word → Type 0
@@ -275,11 +257,10 @@ SaysInsn Leads i (word ∷ words) = (word ≡ name_of i) × SaysOperands Leads (
 
 -- the slot of each label, in order of the lines: that of the instruction behind it
 abbrev pub labels_in : ℕ → List Line → List Insn → List (Word × ℕ)
-labels_in slot [] program = []
 labels_in slot (Blank ∷ lines) program = labels_in slot lines program
 labels_in slot (Label name ∷ lines) program = (name, slot) ∷ labels_in slot lines program
-labels_in slot (Statement words ∷ lines) [] = []
 labels_in slot (Statement words ∷ lines) (i ∷ program) = labels_in (slot + slots_of i) lines program
+labels_in slot lines program = []
 
 -- the slot of a name
 abbrev pub slot_of : List (Word × ℕ) → Word → Option ℕ
@@ -293,19 +274,17 @@ LeadsTo labels behind name distance = (to : ℕ) × (slot_of labels name ≡ Som
 -- lines say a program from a slot on, where labels stand at these slots
 abbrev pub Says : List (Word × ℕ) → ℕ → List Line → List Insn → Type 0
 Says labels slot [] [] = ⊤
-Says labels slot [] (i ∷ program) = ⊥
 Says labels slot (Blank ∷ lines) program = Says labels slot lines program
 Says labels slot (Label name ∷ lines) program = Says labels slot lines program
-Says labels slot (Statement words ∷ lines) [] = ⊥
 Says labels slot (Statement words ∷ lines) (i ∷ program) =
     SaysInsn (LeadsTo labels (slot + slots_of i)) i words × Says labels (slot + slots_of i) lines program
+Says labels slot lines program = ⊥
 
 -- the names that label lines give
 abbrev pub names_in : List Line → List Word
 names_in [] = []
-names_in (Blank ∷ lines) = names_in lines
 names_in (Label name ∷ lines) = name ∷ names_in lines
-names_in (Statement words ∷ lines) = names_in lines
+names_in (line ∷ lines) = names_in lines
 
 -- no word stands twice
 abbrev pub AllDiffer : List Word → Type 0

@@ -1,18 +1,17 @@
 -- Laws of the names of instructions: each says all of an instruction but its operands.
-use Rattle.std.proofs.Common.{◌≡◌, All, arith, suc, ℕ, Bool, true, false, not, cond, List, [], ◌∷◌, map, ℤ, pos, negsuc, Option, Some, refl, sym, ap, ap₂, ◌∙◌, subst}
-use Rattle.std.proofs.lemmas.Bool.{and_parts, not-true}
-use Rattle.std.specs.List.{list_all, find, AllByRecursion}
+use Rattle.std.proofs.Common.{◌≡◌, All, arith, rules, suc, ℕ, Bool, true, false, cond, List, [], ◌∷◌, map, ℤ, pos, negsuc, Option, Some, refl, sym, ap, ap₂, ◌∙◌, subst, FitsSigned, w16, w32}
+use Rattle.std.specs.List.{find, AllByRecursion}
 use Rattle.std.specs.Str.{bytes_eq}
 use Rattle.insn.specs.declared.register.RegNo.{RegNo}
 use Rattle.insn.specs.declared.register.RegNo.TheVariants.{R0}
 use Rattle.insn.specs.declared.operation.Width.TheVariants.{W32, W64}
-use Rattle.insn.specs.declared.operation.Signedness.TheVariants.{Unsigned, Signed}
+use Rattle.insn.specs.declared.operation.Signedness.TheVariants.{Unsigned}
 use Rattle.insn.specs.declared.operation.AluOp.TheVariants as alu
-use Rattle.insn.specs.declared.operation.Cond.TheVariants.{Eq, Gt, Ge, Set, Ne, Sgt, Sge, Lt, Le, Slt, Sle}
-use Rattle.insn.specs.declared.operation.Extension.TheVariants.{From8To64, From16To64, From32To64, From8To32, From16To32}
+use Rattle.insn.specs.declared.operation.Cond.TheVariants.{Eq}
+use Rattle.insn.specs.declared.operation.Extension.TheVariants.{From8To64}
 use Rattle.insn.specs.declared.operation.SwapKind.TheVariants.{ToLittle, ToBig, Swap}
-use Rattle.insn.specs.declared.operation.SwapBits.TheVariants.{B16, B32, B64}
-use Rattle.insn.specs.declared.operation.Size.TheVariants.{One, Two, Four, Eight}
+use Rattle.insn.specs.declared.operation.SwapBits.TheVariants.{B16}
+use Rattle.insn.specs.declared.operation.Size.TheVariants.{One}
 use Rattle.insn.specs.declared.operation.SignedSize.TheVariants as signed
 use Rattle.assembly.specs.declared.mnemonic.Mnemonic.{Mnemonic}
 use Rattle.assembly.specs.declared.mnemonic.Mnemonic.TheVariants as mnemonic
@@ -22,104 +21,42 @@ use Rattle.insn.specs.declared.instruction.Operand.TheVariants.{Reg, Imm}
 use Rattle.insn.specs.declared.instruction.Insn.{Insn}
 use Rattle.insn.specs.declared.instruction.Insn.TheVariants.{Alu64Imm, Alu64Reg, Alu32Imm, Alu32Reg, Divide, Remainder, Negate, MoveSigned, SwapBytes, LoadWide, Load, LoadSigned, StoreReg, StoreImm, Jump, JumpLong, Jump64IfImm, Jump64IfReg, Jump32IfImm, Jump32IfReg, Exit}
 use Rattle.insn.specs.Instruction.{slots_of, Fits}
-use Rattle.assembly.specs.Text.{Word, Operand, Register, Number, Target, mnemonic_of, mnemonic_name, name_of, operands_of, is_empty}
-use Rattle.assembly.specs.TextWordLaws.{is_target, is_plain, IsShortOperand, short_of_16, short_of_32, PlainWord}
+use Rattle.assembly.specs.Text.{Word, Operand, Register, Number, Target, mnemonic_of, mnemonic_name, name_of, operands_of}
+use Rattle.assembly.specs.TextWordLaws.{is_target, IsShortNumber, IsShortOperand, short_of_16, short_of_32, PlainWord}
 
 -- ---- each name is the name of one mnemonic
 
 abbrev named : Word → Option Mnemonic
 named word = find (λ m. bytes_eq (mnemonic_name m) word) MNEMONICS
 
-found : (m : Mnemonic) → named (mnemonic_name m) ≡ Some m
-found (mnemonic.Alu W32 alu.Add) = refl
-found (mnemonic.Alu W32 alu.Sub) = refl
-found (mnemonic.Alu W32 alu.Mul) = refl
-found (mnemonic.Alu W32 alu.Or) = refl
-found (mnemonic.Alu W32 alu.And) = refl
-found (mnemonic.Alu W32 alu.Lsh) = refl
-found (mnemonic.Alu W32 alu.Rsh) = refl
-found (mnemonic.Alu W32 alu.Xor) = refl
-found (mnemonic.Alu W32 alu.Mov) = refl
-found (mnemonic.Alu W32 alu.Arsh) = refl
-found (mnemonic.Alu W64 alu.Add) = refl
-found (mnemonic.Alu W64 alu.Sub) = refl
-found (mnemonic.Alu W64 alu.Mul) = refl
-found (mnemonic.Alu W64 alu.Or) = refl
-found (mnemonic.Alu W64 alu.And) = refl
-found (mnemonic.Alu W64 alu.Lsh) = refl
-found (mnemonic.Alu W64 alu.Rsh) = refl
-found (mnemonic.Alu W64 alu.Xor) = refl
-found (mnemonic.Alu W64 alu.Mov) = refl
-found (mnemonic.Alu W64 alu.Arsh) = refl
-found (mnemonic.Divide W32 Unsigned) = refl
-found (mnemonic.Divide W32 Signed) = refl
-found (mnemonic.Divide W64 Unsigned) = refl
-found (mnemonic.Divide W64 Signed) = refl
-found (mnemonic.Remainder W32 Unsigned) = refl
-found (mnemonic.Remainder W32 Signed) = refl
-found (mnemonic.Remainder W64 Unsigned) = refl
-found (mnemonic.Remainder W64 Signed) = refl
-found (mnemonic.Negate W32) = refl
-found (mnemonic.Negate W64) = refl
-found (mnemonic.MoveSigned From8To64) = refl
-found (mnemonic.MoveSigned From16To64) = refl
-found (mnemonic.MoveSigned From32To64) = refl
-found (mnemonic.MoveSigned From8To32) = refl
-found (mnemonic.MoveSigned From16To32) = refl
-found (mnemonic.SwapBytes ToLittle B16) = refl
-found (mnemonic.SwapBytes ToLittle B32) = refl
-found (mnemonic.SwapBytes ToLittle B64) = refl
-found (mnemonic.SwapBytes ToBig B16) = refl
-found (mnemonic.SwapBytes ToBig B32) = refl
-found (mnemonic.SwapBytes ToBig B64) = refl
-found (mnemonic.SwapBytes Swap B16) = refl
-found (mnemonic.SwapBytes Swap B32) = refl
-found (mnemonic.SwapBytes Swap B64) = refl
-found mnemonic.LoadWide = refl
-found (mnemonic.Load One) = refl
-found (mnemonic.Load Two) = refl
-found (mnemonic.Load Four) = refl
-found (mnemonic.Load Eight) = refl
-found (mnemonic.LoadSigned signed.One) = refl
-found (mnemonic.LoadSigned signed.Two) = refl
-found (mnemonic.LoadSigned signed.Four) = refl
-found (mnemonic.StoreReg One) = refl
-found (mnemonic.StoreReg Two) = refl
-found (mnemonic.StoreReg Four) = refl
-found (mnemonic.StoreReg Eight) = refl
-found (mnemonic.StoreImm One) = refl
-found (mnemonic.StoreImm Two) = refl
-found (mnemonic.StoreImm Four) = refl
-found (mnemonic.StoreImm Eight) = refl
-found mnemonic.Jump = refl
-found mnemonic.JumpLong = refl
-found (mnemonic.JumpIf W32 Eq) = refl
-found (mnemonic.JumpIf W32 Gt) = refl
-found (mnemonic.JumpIf W32 Ge) = refl
-found (mnemonic.JumpIf W32 Set) = refl
-found (mnemonic.JumpIf W32 Ne) = refl
-found (mnemonic.JumpIf W32 Sgt) = refl
-found (mnemonic.JumpIf W32 Sge) = refl
-found (mnemonic.JumpIf W32 Lt) = refl
-found (mnemonic.JumpIf W32 Le) = refl
-found (mnemonic.JumpIf W32 Slt) = refl
-found (mnemonic.JumpIf W32 Sle) = refl
-found (mnemonic.JumpIf W64 Eq) = refl
-found (mnemonic.JumpIf W64 Gt) = refl
-found (mnemonic.JumpIf W64 Ge) = refl
-found (mnemonic.JumpIf W64 Set) = refl
-found (mnemonic.JumpIf W64 Ne) = refl
-found (mnemonic.JumpIf W64 Sgt) = refl
-found (mnemonic.JumpIf W64 Sge) = refl
-found (mnemonic.JumpIf W64 Lt) = refl
-found (mnemonic.JumpIf W64 Le) = refl
-found (mnemonic.JumpIf W64 Slt) = refl
-found (mnemonic.JumpIf W64 Sle) = refl
-found mnemonic.Exit = refl
+-- its word names it alone, and is plain
+record IsNamed (m : Mnemonic) : Type 0 where
+  found : named (mnemonic_name m) ≡ Some m
+  plain : PlainWord (mnemonic_name m)
+
+is_named : (m : Mnemonic) → IsNamed m
+is_named (mnemonic.Alu W32 alu.Add) = record { found = refl; plain = record { bytes = refl; some = refl } }
+is_named (mnemonic.Divide W32 Unsigned) = record { found = refl; plain = record { bytes = refl; some = refl } }
+is_named (mnemonic.Remainder W32 Unsigned) = record { found = refl; plain = record { bytes = refl; some = refl } }
+is_named (mnemonic.JumpIf W32 Eq) = record { found = refl; plain = record { bytes = refl; some = refl } }
+is_named (mnemonic.Alu W64 alu.Add) = record { found = refl; plain = record { bytes = refl; some = refl } }
+is_named (mnemonic.Divide W64 Unsigned) = record { found = refl; plain = record { bytes = refl; some = refl } }
+is_named (mnemonic.Remainder W64 Unsigned) = record { found = refl; plain = record { bytes = refl; some = refl } }
+is_named (mnemonic.JumpIf W64 Eq) = record { found = refl; plain = record { bytes = refl; some = refl } }
+is_named (mnemonic.Negate W32) = record { found = refl; plain = record { bytes = refl; some = refl } }
+is_named (mnemonic.MoveSigned From8To64) = record { found = refl; plain = record { bytes = refl; some = refl } }
+is_named (mnemonic.SwapBytes ToLittle B16) = record { found = refl; plain = record { bytes = refl; some = refl } }
+is_named (mnemonic.SwapBytes ToBig B16) = record { found = refl; plain = record { bytes = refl; some = refl } }
+is_named (mnemonic.SwapBytes Swap B16) = record { found = refl; plain = record { bytes = refl; some = refl } }
+is_named (mnemonic.Load One) = record { found = refl; plain = record { bytes = refl; some = refl } }
+is_named (mnemonic.LoadSigned signed.One) = record { found = refl; plain = record { bytes = refl; some = refl } }
+is_named (mnemonic.StoreReg One) = record { found = refl; plain = record { bytes = refl; some = refl } }
+is_named (mnemonic.StoreImm One) = record { found = refl; plain = record { bytes = refl; some = refl } }
+is_named m = record { found = refl; plain = record { bytes = refl; some = refl } }
 
 -- no name is that of two
 pub mnemonic_name-injective : (m n : Mnemonic) → mnemonic_name m ≡ mnemonic_name n → m ≡ n
-mnemonic_name-injective m n e = let both : Some m ≡ Some n = sym (found m) ∙ ap named e ∙ found n in cc
+mnemonic_name-injective m n e = let both : Some m ≡ Some n = sym (is_named m).found ∙ ap named e ∙ (is_named n).found in cc
 
 -- what holds of each entry of the table holds of each mnemonic
 of_found : (P : Mnemonic → Type 0) (word : Word) (ms : List Mnemonic) (m : Mnemonic) → find (λ n. bytes_eq (mnemonic_name n) word) ms ≡ Some m → All P ms → P m
@@ -130,56 +67,23 @@ of_found P word (n ∷ ms) m e h = step (bytes_eq (mnemonic_name n) word) e (λ 
   step false e rest here = rest e
 
 pub each_mnemonic : (P : Mnemonic → Type 0) → All P MNEMONICS → (m : Mnemonic) → P m
-each_mnemonic P all m = of_found P (mnemonic_name m) MNEMONICS m (found m) all
-
-find_all : {X : Type 0} (test good : X → Bool) (xs : List X) (x : X) → find test xs ≡ Some x → list_all good xs ≡ true → good x ≡ true
-find_all test good [] x e h = cc
-find_all test good (y ∷ ys) x e h =
-    let parts = and_parts (good y) (list_all good ys) h in
-    step (test y) e (λ more. find_all test good ys x more parts.1) parts.0 where
-      step : (b : Bool) → cond b (Some y) (find test ys) ≡ Some x → (find test ys ≡ Some x → good x ≡ true) → good y ≡ true → good x ≡ true
-      step true e rest here = let same : y ≡ x = cc in ap good (sym same) ∙ here
-      step false e rest here = rest e
+each_mnemonic P all m = of_found P (mnemonic_name m) MNEMONICS m (is_named m).found all
 
 -- instructions of one name have one mnemonic
 pub same_mnemonic : (i j : Insn) → name_of i ≡ name_of j → mnemonic_of i ≡ mnemonic_of j
 same_mnemonic i j e = mnemonic_name-injective (mnemonic_of i) (mnemonic_of j) e
 
-plain_mnemonic : (m : Mnemonic) → PlainWord (mnemonic_name m)
-plain_mnemonic m = record {
-  bytes = find_all (λ n. bytes_eq (mnemonic_name n) (mnemonic_name m)) (λ n. list_all is_plain (mnemonic_name n)) MNEMONICS m (found m) refl;
-  some = not-true (is_empty (mnemonic_name m)) (find_all (λ n. bytes_eq (mnemonic_name n) (mnemonic_name m)) (λ n. not (is_empty (mnemonic_name n))) MNEMONICS m (found m) refl);
-}
-
 -- names are plain
 pub plain_name : (i : Insn) → PlainWord (name_of i)
-plain_name i = plain_mnemonic (mnemonic_of i)
+plain_name i = (is_named (mnemonic_of i)).plain
 
 -- the numbers of an instruction are short
 pub short_operands : (i : Insn) → Fits i → AllByRecursion IsShortOperand (operands_of i)
-short_operands (Alu64Imm op dst imm) fits = (tt, (short_of_32 imm fits, tt))
-short_operands (Alu64Reg op dst src) fits = (tt, (tt, tt))
-short_operands (Alu32Imm op dst imm) fits = (tt, (short_of_32 imm fits, tt))
-short_operands (Alu32Reg op dst src) fits = (tt, (tt, tt))
 short_operands (Divide width signedness dst (Reg src)) fits = (tt, (tt, tt))
-short_operands (Divide width signedness dst (Imm imm)) fits = (tt, (short_of_32 imm fits, tt))
 short_operands (Remainder width signedness dst (Reg src)) fits = (tt, (tt, tt))
-short_operands (Remainder width signedness dst (Imm imm)) fits = (tt, (short_of_32 imm fits, tt))
-short_operands (Negate width dst) fits = (tt, tt)
-short_operands (MoveSigned extension dst src) fits = (tt, (tt, tt))
-short_operands (SwapBytes kind bits dst) fits = (tt, tt)
-short_operands (LoadWide dst value) fits = (tt, (fits, tt))
-short_operands (Load size dst src offset) fits = (tt, (tt, (short_of_16 offset fits, tt)))
-short_operands (LoadSigned size dst src offset) fits = (tt, (tt, (short_of_16 offset fits, tt)))
-short_operands (StoreReg size dst src offset) fits = (tt, (short_of_16 offset fits, (tt, tt)))
-short_operands (StoreImm size dst offset imm) fits = (tt, (short_of_16 offset fits.0, (short_of_32 imm fits.1, tt)))
-short_operands (Jump offset) fits = (short_of_16 offset fits, tt)
-short_operands (JumpLong offset) fits = (short_of_32 offset fits, tt)
-short_operands (Jump64IfImm cond dst offset imm) fits = (tt, (short_of_32 imm fits.1, (short_of_16 offset fits.0, tt)))
-short_operands (Jump64IfReg cond dst src offset) fits = (tt, (tt, (short_of_16 offset fits, tt)))
-short_operands (Jump32IfImm cond dst offset imm) fits = (tt, (short_of_32 imm fits.1, (short_of_16 offset fits.0, tt)))
-short_operands (Jump32IfReg cond dst src offset) fits = (tt, (tt, (short_of_16 offset fits, tt)))
-short_operands Exit fits = tt
+short_operands i fits =
+    let near : (z : ℤ) → FitsSigned w16 z → IsShortNumber z = short_of_16 in
+    let far : (z : ℤ) → FitsSigned w32 z → IsShortNumber z = short_of_32 in search rules
 
 -- ---- a mnemonic and operands make an instruction
 
@@ -197,8 +101,7 @@ third (o ∷ operands) = second operands
 
 abbrev the_register : Operand → RegNo
 the_register (Register r) = r
-the_register (Number n) = R0
-the_register (Target d) = R0
+the_register o = R0
 
 abbrev the_number : Operand → ℤ
 the_number (Register r) = pos 0
@@ -220,7 +123,7 @@ by_source (Register r) of_register of_number = of_register r
 by_source (Number n) of_register of_number = of_number n
 by_source (Target d) of_register of_number = of_number d
 
-abbrev insn_of : Mnemonic → List Operand → Insn
+abbrev pub insn_of : Mnemonic → List Operand → Insn
 insn_of (mnemonic.Alu W64 op) os = by_source (second os) (λ src. Alu64Reg op (the_register (first os)) src) (λ imm. Alu64Imm op (the_register (first os)) imm)
 insn_of (mnemonic.Alu W32 op) os = by_source (second os) (λ src. Alu32Reg op (the_register (first os)) src) (λ imm. Alu32Imm op (the_register (first os)) imm)
 insn_of (mnemonic.Divide width signedness) os = Divide width signedness (the_register (first os)) (the_source (second os))
@@ -239,80 +142,24 @@ insn_of (mnemonic.JumpIf W64 cond) os = by_source (second os) (λ src. Jump64IfR
 insn_of (mnemonic.JumpIf W32 cond) os = by_source (second os) (λ src. Jump32IfReg cond (the_register (first os)) src (the_number (third os))) (λ imm. Jump32IfImm cond (the_register (first os)) (the_number (third os)) imm)
 insn_of mnemonic.Exit os = Exit
 
--- which operands behind a mnemonic are targets
-abbrev targets_of : Mnemonic → List Bool
-targets_of (mnemonic.Alu width op) = false ∷ false ∷ []
-targets_of (mnemonic.Divide width signedness) = false ∷ false ∷ []
-targets_of (mnemonic.Remainder width signedness) = false ∷ false ∷ []
-targets_of (mnemonic.Negate width) = false ∷ []
-targets_of (mnemonic.MoveSigned extension) = false ∷ false ∷ []
-targets_of (mnemonic.SwapBytes kind bits) = false ∷ []
-targets_of mnemonic.LoadWide = false ∷ false ∷ []
-targets_of (mnemonic.Load size) = false ∷ false ∷ false ∷ []
-targets_of (mnemonic.LoadSigned size) = false ∷ false ∷ false ∷ []
-targets_of (mnemonic.StoreReg size) = false ∷ false ∷ false ∷ []
-targets_of (mnemonic.StoreImm size) = false ∷ false ∷ false ∷ []
-targets_of mnemonic.Jump = true ∷ []
-targets_of mnemonic.JumpLong = true ∷ []
-targets_of (mnemonic.JumpIf width cond) = false ∷ false ∷ true ∷ []
-targets_of mnemonic.Exit = []
-
--- how many slots it takes
-abbrev slots_by : Mnemonic → ℕ
-slots_by (mnemonic.Alu width op) = 1
-slots_by (mnemonic.Divide width signedness) = 1
-slots_by (mnemonic.Remainder width signedness) = 1
-slots_by (mnemonic.Negate width) = 1
-slots_by (mnemonic.MoveSigned extension) = 1
-slots_by (mnemonic.SwapBytes kind bits) = 1
-slots_by mnemonic.LoadWide = 2
-slots_by (mnemonic.Load size) = 1
-slots_by (mnemonic.LoadSigned size) = 1
-slots_by (mnemonic.StoreReg size) = 1
-slots_by (mnemonic.StoreImm size) = 1
-slots_by mnemonic.Jump = 1
-slots_by mnemonic.JumpLong = 1
-slots_by (mnemonic.JumpIf width cond) = 1
-slots_by mnemonic.Exit = 1
-
 -- what an instruction's mnemonic says of it
 record OfMnemonic (i : Insn) : Type 0 where
   made : insn_of (mnemonic_of i) (operands_of i) ≡ i
-  targets : map is_target (operands_of i) ≡ targets_of (mnemonic_of i)
-  slots : slots_of i ≡ slots_by (mnemonic_of i)
+  targets : map is_target (operands_of i) ≡ map is_target (operands_of (insn_of (mnemonic_of i) []))
+  slots : slots_of i ≡ slots_of (insn_of (mnemonic_of i) [])
 
 of_mnemonic : (i : Insn) → OfMnemonic i
-of_mnemonic (Alu64Imm op dst imm) = record { made = refl; targets = refl; slots = refl }
-of_mnemonic (Alu64Reg op dst src) = record { made = refl; targets = refl; slots = refl }
-of_mnemonic (Alu32Imm op dst imm) = record { made = refl; targets = refl; slots = refl }
-of_mnemonic (Alu32Reg op dst src) = record { made = refl; targets = refl; slots = refl }
 of_mnemonic (Divide width signedness dst (Reg src)) = record { made = refl; targets = refl; slots = refl }
-of_mnemonic (Divide width signedness dst (Imm imm)) = record { made = refl; targets = refl; slots = refl }
 of_mnemonic (Remainder width signedness dst (Reg src)) = record { made = refl; targets = refl; slots = refl }
-of_mnemonic (Remainder width signedness dst (Imm imm)) = record { made = refl; targets = refl; slots = refl }
-of_mnemonic (Negate width dst) = record { made = refl; targets = refl; slots = refl }
-of_mnemonic (MoveSigned extension dst src) = record { made = refl; targets = refl; slots = refl }
-of_mnemonic (SwapBytes kind bits dst) = record { made = refl; targets = refl; slots = refl }
-of_mnemonic (LoadWide dst value) = record { made = refl; targets = refl; slots = refl }
-of_mnemonic (Load size dst src offset) = record { made = refl; targets = refl; slots = refl }
-of_mnemonic (LoadSigned size dst src offset) = record { made = refl; targets = refl; slots = refl }
-of_mnemonic (StoreReg size dst src offset) = record { made = refl; targets = refl; slots = refl }
-of_mnemonic (StoreImm size dst offset imm) = record { made = refl; targets = refl; slots = refl }
-of_mnemonic (Jump offset) = record { made = refl; targets = refl; slots = refl }
-of_mnemonic (JumpLong offset) = record { made = refl; targets = refl; slots = refl }
-of_mnemonic (Jump64IfImm cond dst offset imm) = record { made = refl; targets = refl; slots = refl }
-of_mnemonic (Jump64IfReg cond dst src offset) = record { made = refl; targets = refl; slots = refl }
-of_mnemonic (Jump32IfImm cond dst offset imm) = record { made = refl; targets = refl; slots = refl }
-of_mnemonic (Jump32IfReg cond dst src offset) = record { made = refl; targets = refl; slots = refl }
-of_mnemonic Exit = record { made = refl; targets = refl; slots = refl }
+of_mnemonic i = record { made = refl; targets = refl; slots = refl }
 
 -- instructions of one name take as many slots
 pub same_slots : (i j : Insn) → name_of i ≡ name_of j → slots_of i ≡ slots_of j
-same_slots i j e = (of_mnemonic i).slots ∙ ap slots_by (same_mnemonic i j e) ∙ sym (of_mnemonic j).slots
+same_slots i j e = (of_mnemonic i).slots ∙ ap (λ (m : Mnemonic). slots_of (insn_of m [])) (same_mnemonic i j e) ∙ sym (of_mnemonic j).slots
 
 -- instructions of one name have targets at the same places
 pub same_targets : (i j : Insn) → name_of i ≡ name_of j → map is_target (operands_of i) ≡ map is_target (operands_of j)
-same_targets i j e = (of_mnemonic i).targets ∙ ap targets_of (same_mnemonic i j e) ∙ sym (of_mnemonic j).targets
+same_targets i j e = (of_mnemonic i).targets ∙ ap (λ (m : Mnemonic). map is_target (operands_of (insn_of m []))) (same_mnemonic i j e) ∙ sym (of_mnemonic j).targets
 
 -- a name and operands make one instruction
 pub same_insn : (i j : Insn) → name_of i ≡ name_of j → operands_of i ≡ operands_of j → i ≡ j

@@ -1,6 +1,6 @@
 -- Laws of the words of operands: which bytes they have, and that each says one operand.
 use Rattle.std.proofs.Common.{◌≡◌, ℕ, suc, ◌+◌, ◌%◌, ◌^◌, ◌<◌, ◌≤◌, Bool, true, false, not, ◌&&◌, ◌||◌, ◌==◌, List, [], ◌∷◌, length, drop, ℤ, pos, negsuc, Option, Some, map, ◌⊎◌, inl, inr, refl, sym, ap, ap₂, ◌∙◌, arith, FitsSigned}
-use Rattle.std.proofs.lemmas.Bool.{and_parts, and_from, not-true, not_from_false, true≢false, false≢true, ne_eqb, le-leb, leb-true, or_from}
+use Rattle.std.proofs.lemmas.Bool.{and_parts, and_from, not-true, not_from_false, false≢true, ne_eqb, le-leb, leb-true, or_from}
 use Rattle.std.proofs.lemmas.List.Folds.{list_all-append}
 use Rattle.std.proofs.lemmas.Fmt.{decimal_by_steps, decimal_nonempty, decimal_injective}
 use Rattle.std.specs.Fmt.{decimal, signed_decimal}
@@ -107,18 +107,12 @@ plain_decimal n short = plain_digits (decimal n) (decimal_nonempty n short) (dec
 plain_after : (c : ℕ) (word : Word) → is_plain c ≡ true → PlainWord word → PlainWord (c ∷ word)
 plain_after c word here h = record { bytes = and_from _ _ here h.bytes; some = refl }
 
+pub reg_number_small : (r : RegNo) → reg_number r ≤ 10
+reg_number_small R0 = omega arith
+reg_number_small r = omega arith
+
 reg_number_short : (r : RegNo) → reg_number r < 2 ^ 64
-reg_number_short R0 = omega arith
-reg_number_short R1 = omega arith
-reg_number_short R2 = omega arith
-reg_number_short R3 = omega arith
-reg_number_short R4 = omega arith
-reg_number_short R5 = omega arith
-reg_number_short R6 = omega arith
-reg_number_short R7 = omega arith
-reg_number_short R8 = omega arith
-reg_number_short R9 = omega arith
-reg_number_short R10 = omega arith
+reg_number_short r = omega (arith, reg_number_small r)
 
 pub plain_register : (r : RegNo) → PlainWord (register_word r)
 plain_register r = plain_after 114 (decimal (reg_number r)) refl (plain_decimal (reg_number r) (reg_number_short r))
@@ -145,16 +139,7 @@ register_at n = find (λ r. reg_number r == n) (R0 ∷ R1 ∷ R2 ∷ R3 ∷ R4 �
 
 register_found : (r : RegNo) → register_at (reg_number r) ≡ Some r
 register_found R0 = refl
-register_found R1 = refl
-register_found R2 = refl
-register_found R3 = refl
-register_found R4 = refl
-register_found R5 = refl
-register_found R6 = refl
-register_found R7 = refl
-register_found R8 = refl
-register_found R9 = refl
-register_found R10 = refl
+register_found r = refl
 
 pub reg_number-injective : (r s : RegNo) → reg_number r ≡ reg_number s → r ≡ s
 reg_number-injective r s e = let both : Some r ≡ Some s = sym (register_found r) ∙ ap register_at e ∙ register_found s in cc
@@ -163,7 +148,7 @@ pub register_word-injective : (r s : RegNo) → register_word r ≡ register_wor
 register_word-injective r s e = reg_number-injective r s (decimal_injective (reg_number r) (reg_number s) (reg_number_short r) (reg_number_short s) (ap (drop 1) e))
 
 -- decimal digits begin with no other byte
-decimal-ne : (c n : ℕ) (word : Word) → (c < 48) ⊎ (57 < c) → n < 2 ^ 64 → decimal n ≡ c ∷ word → ⊥
+pub decimal-ne : (c n : ℕ) (word : Word) → (c < 48) ⊎ (57 < c) → n < 2 ^ 64 → decimal n ≡ c ∷ word → ⊥
 decimal-ne c n word out short e =
     let b = decimal_begins n short in
     let same : b.0.first ∷ b.0.more ≡ c ∷ word = sym b.0.is ∙ e in
@@ -179,7 +164,7 @@ signed_decimal-injective (negsuc m) (pos n) p q e = absurd (decimal-ne 45 n (dec
 signed_decimal-injective (negsuc m) (negsuc n) p q e = ap negsuc (omega (arith, decimal_injective (suc m) (suc n) p q (ap (drop 1) e)))
 
 -- words that begin with unlike bytes differ
-other_first : (c d : ℕ) (word other : Word) → (c < d) ⊎ (d < c) → c ∷ word ≡ d ∷ other → ⊥
+pub other_first : (c d : ℕ) (word other : Word) → (c < d) ⊎ (d < c) → c ∷ word ≡ d ∷ other → ⊥
 other_first c d word other (inl below) e = let same : c ≡ d = cc in omega arith
 other_first c d word other (inr above) e = let same : c ≡ d = cc in omega arith
 
@@ -225,21 +210,17 @@ one_target Leads one word d e p q (inr s) (inr t) = one word d e s.1 t.1
 pub one_operand : (Leads : Word → ℤ → Type 0) → LeadsToOne Leads → (word : Word) (o u : Operand) → IsShortOperand o → IsShortOperand u → is_target o ≡ is_target u → SaysOperand Leads o word → SaysOperand Leads u word → o ≡ u
 one_operand Leads one word (Register r) (Register s) p q k a b = ap Register (register_word-injective r s (sym a ∙ b))
 one_operand Leads one word (Register r) (Number z) p q k a b = absurd (register_is_no_number r z q (sym a ∙ b))
-one_operand Leads one word (Register r) (Target d) p q k a b = absurd (false≢true k)
 one_operand Leads one word (Number y) (Register s) p q k a b = absurd (register_is_no_number s y p (sym b ∙ a))
 one_operand Leads one word (Number y) (Number z) p q k a b = ap Number (signed_decimal-injective y z p q (sym a ∙ b))
-one_operand Leads one word (Number y) (Target d) p q k a b = absurd (false≢true k)
-one_operand Leads one word (Target d) (Register s) p q k a b = absurd (true≢false k)
-one_operand Leads one word (Target d) (Number z) p q k a b = absurd (true≢false k)
 one_operand Leads one word (Target d) (Target e) p q k a b = ap Target (one_target Leads one word d e p q a b)
+one_operand Leads one word o u p q k a b = absurd cc
 
 -- words say one list of operands, where it is known which are targets
 pub one_operands : (Leads : Word → ℤ → Type 0) → LeadsToOne Leads → (words : List Word) (os us : List Operand) → AllByRecursion IsShortOperand os → AllByRecursion IsShortOperand us → map is_target os ≡ map is_target us → SaysOperands Leads os words → SaysOperands Leads us words → os ≡ us
 one_operands Leads one words [] [] p q k a b = refl
-one_operands Leads one words [] (u ∷ us) p q k a b = absurd (cc)
-one_operands Leads one words (o ∷ os) [] p q k a b = absurd (cc)
-one_operands Leads one [] (o ∷ os) (u ∷ us) p q k a b = absurd a
 one_operands Leads one (word ∷ words) (o ∷ os) (u ∷ us) p q k a b =
     let here : is_target o ≡ is_target u = cc in
     let behind : map is_target os ≡ map is_target us = cc in
     ap₂ (λ (x : Operand) (xs : List Operand). x ∷ xs) (one_operand Leads one word o u p.0 q.0 here a.0 b.0) (one_operands Leads one words os us p.1 q.1 behind a.1 b.1)
+one_operands Leads one [] (o ∷ os) (u ∷ us) p q k a b = absurd a
+one_operands Leads one words os us p q k a b = absurd cc

@@ -1,7 +1,4 @@
-pub mod Bytes
 pub mod Spellings
-pub mod Rows
 pub mod Rereading
-pub mod Faultless
 pub mod Naming
 pub mod Reading

@@ -5,21 +5,9 @@ use Rattle.std.specs.List.{flat_map, range_with_len}
 use Rattle.std.specs.Option.{option_or}
 use Rattle.std.proofs.lemmas.Bool.{eq-eqb, eqb-true, lt-ltb, ltb-false, ltb-true}
 use Rattle.std.proofs.lemmas.List.FromFn.{get_or-map-range_with_len}
-use Rattle.insn.specs.declared.register.RegNo.TheVariants.{R0, R1}
-use Rattle.insn.specs.declared.operation.Width.TheVariants.{W32, W64}
-use Rattle.insn.specs.declared.operation.Signedness.TheVariants.{Unsigned}
-use Rattle.insn.specs.declared.operation.Size.{Size}
-use Rattle.insn.specs.declared.operation.Size.TheVariants.{One, Two, Four, Eight}
-use Rattle.insn.specs.declared.operation.SignedSize.TheVariants as signed
-use Rattle.insn.specs.declared.operation.AluOp.{AluOp}
-use Rattle.insn.specs.declared.operation.AluOp.TheVariants.{Add, Sub, Mul, Or, And, Lsh, Rsh, Xor, Mov, Arsh}
-use Rattle.insn.specs.declared.operation.Cond.{Cond}
-use Rattle.insn.specs.declared.operation.Cond.TheVariants.{Eq, Gt, Ge, Set, Ne, Sgt, Sge, Lt, Le, Slt, Sle}
-use Rattle.insn.specs.declared.operation.SwapKind.TheVariants.{ToLittle, ToBig, Swap}
-use Rattle.insn.specs.declared.operation.SwapBits.TheVariants.{B16}
-use Rattle.insn.specs.declared.instruction.Operand.TheVariants.{Reg, Imm}
+use Rattle.insn.specs.declared.register.RegNo.TheVariants.{R0}
 use Rattle.insn.specs.declared.instruction.Insn.{Insn}
-use Rattle.insn.specs.declared.instruction.Insn.TheVariants.{Alu64Imm, Alu64Reg, Alu32Imm, Alu32Reg, Divide, Remainder, Negate, SwapBytes, LoadWide, Load, LoadSigned, StoreReg, StoreImm, Jump, JumpLong, Jump64IfImm, Jump64IfReg, Jump32IfImm, Jump32IfReg, Exit}
+use Rattle.insn.specs.declared.instruction.Insn.TheVariants.{LoadWide}
 use Rattle.insn.specs.Instruction.{slots_of}
 use Rattle.insn.specs.SlotLaws.{slots_of_bounds}
 use Rattle.insn.specs.PointerLaws.{both_hold}
@@ -27,41 +15,11 @@ use Rattle.encoding.specs.declared.slot.Slot.{Slot}
 use Rattle.encoding.specs.declared.slot_fault.SlotFault.{SlotFault}
 use Rattle.encoding.specs.declared.slot_fault.SlotFault.TheVariants.{UnknownOpcode, BadRegister, NonzeroField, TruncatedWide, Atomic, Call, LegacyLoad}
 use Rattle.encoding.specs.Spelling.{BeginsNone, HasBadRegister, IsCutOff, IsOpcode, IsSlot, IsSlotFault, LOAD_WIDE, first_slot, is_one_of, refused_as, slot, slot_bytes, slots}
-use Rattle.encoding.specs.Opcodes.{FieldUse, Fields, OneOf, Unused, Used, allows, fault_with, field_fault, fields_of, is_above, is_bad_field, is_bad_register, is_bad_second, slot_fault, wide_fault}
-use Rattle.encoding.proofs.Faultless.{first_good}
+use Rattle.encoding.specs.Opcodes.{FieldUse, Fields, Unused, allows, fault_with, field_fault, fields_of, is_above, is_bad_field, is_bad_register, is_bad_second, slot_fault, wide_fault}
+use Rattle.encoding.proofs.Rereading.{example, reread}
 use Rattle.encoding.proofs.Spellings.{length-slots}
 
 -- ---- an instruction of each opcode
-
-abbrev ops : List AluOp
-ops = Add ∷ Sub ∷ Mul ∷ Or ∷ And ∷ Lsh ∷ Rsh ∷ Xor ∷ Mov ∷ Arsh ∷ []
-
-abbrev conds : List Cond
-conds = Eq ∷ Gt ∷ Ge ∷ Set ∷ Ne ∷ Sgt ∷ Sge ∷ Lt ∷ Le ∷ Slt ∷ Sle ∷ []
-
-abbrev sizes : List Size
-sizes = One ∷ Two ∷ Four ∷ Eight ∷ []
-
--- instructions of all opcodes but the exit's, with R1 wherever a register stands
-abbrev examples : List Insn
-examples =
-    map (λ op. Alu64Imm op R1 (pos 0)) ops ++ (map (λ op. Alu64Reg op R1 R1) ops
-    ++ (map (λ op. Alu32Imm op R1 (pos 0)) ops ++ (map (λ op. Alu32Reg op R1 R1) ops
-    ++ (map (λ cond. Jump64IfImm cond R1 (pos 0) (pos 0)) conds ++ (map (λ cond. Jump64IfReg cond R1 R1 (pos 0)) conds
-    ++ (map (λ cond. Jump32IfImm cond R1 (pos 0) (pos 0)) conds ++ (map (λ cond. Jump32IfReg cond R1 R1 (pos 0)) conds
-    ++ (map (λ size. Load size R1 R1 (pos 0)) sizes ++ (map (λ size. StoreReg size R1 R1 (pos 0)) sizes ++ (map (λ size. StoreImm size R1 (pos 0) (pos 0)) sizes
-    ++ (map (λ size. LoadSigned size R1 R1 (pos 0)) (signed.One ∷ signed.Two ∷ signed.Four ∷ [])
-    ++ (Divide W32 Unsigned R1 (Imm (pos 0)) ∷ Divide W64 Unsigned R1 (Imm (pos 0)) ∷ Divide W32 Unsigned R1 (Reg R1) ∷ Divide W64 Unsigned R1 (Reg R1)
-    ∷ Remainder W32 Unsigned R1 (Imm (pos 0)) ∷ Remainder W64 Unsigned R1 (Imm (pos 0)) ∷ Remainder W32 Unsigned R1 (Reg R1) ∷ Remainder W64 Unsigned R1 (Reg R1)
-    ∷ Negate W32 R1 ∷ Negate W64 R1 ∷ SwapBytes ToLittle B16 R1 ∷ SwapBytes ToBig B16 R1 ∷ SwapBytes Swap B16 R1
-    ∷ LoadWide R1 0 ∷ Jump (pos 0) ∷ JumpLong (pos 0) ∷ []))))))))))))
-
-abbrev first_with : ℕ → List Insn → Insn
-first_with opcode [] = Exit
-first_with opcode (i ∷ rest) = if (first_slot i).opcode == opcode then i else first_with opcode rest
-
-unfoldable example : ℕ → Insn
-example opcode = first_with opcode examples
 
 -- where the table uses a field a register stands
 abbrev shows_field : FieldUse → ℕ → Bool
@@ -105,8 +63,7 @@ has_example opcode f small e =
 
 above : (field : FieldUse) (n m : ℕ) → is_above field n ≡ true → shows_field field m ≡ true → (10 < n) × (1 ≤ m)
 above Unused n m h k = absurd cc
-above Used n m h k = (ltb-true 10 n h, ltb-true 0 m k)
-above (OneOf values) n m h k = (ltb-true 10 n h, ltb-true 0 m k)
+above field n m h k = (ltb-true 10 n h, ltb-true 0 m k)
 
 bad_register : (f : Fields) (s : Slot) → s.opcode < 256 → fields_of s.opcode ≡ Some f → is_bad_register f s ≡ true → HasBadRegister s
 bad_register f s small e bad = by (has_example s.opcode f small e) (is_above f.dst s.dst) refl bad where
@@ -130,7 +87,7 @@ behind_first i = drop 8 (flat_map slot_bytes (slots i) ++ [])
 
 good_first : (i : Insn) → slot_fault (first_slot i) (behind_first i) ≡ None
 good_first i =
-    ap (λ (s : Slot). slot_fault s (behind_first i)) (sym (first_is i [] (slot 0 0 0 (pos 0) (pos 0)))) ∙ first_good i [] [] (slot 0 0 0 (pos 0) (pos 0))
+    ap (λ (s : Slot). slot_fault s (behind_first i)) (sym (first_is i [] (slot 0 0 0 (pos 0) (pos 0)))) ∙ (reread i [] [] (slot 0 0 0 (pos 0) (pos 0))).good
 
 no_first : (o q : Option SlotFault) → option_or o q ≡ None → o ≡ None
 no_first None q h = refl
@@ -174,8 +131,7 @@ registers_allowed i opcode f same e =
 
 used_above : (field : FieldUse) (n m : ℕ) → allows field (pos n) ≡ true → 1 ≤ n → 10 < m → is_above field m ≡ true
 used_above Unused n m h some more = let e = eqb-true n 0 h in absurd (omega arith)
-used_above Used n m h some more = lt-ltb 10 m more
-used_above (OneOf values) n m h some more = lt-ltb 10 m more
+used_above field n m h some more = lt-ltb 10 m more
 
 or_true : (a b : Bool) → b ≡ true → (a || b) ≡ true
 or_true true b h = refl
@@ -219,10 +175,7 @@ refused : (s : Slot) (behind : List ℕ) (f : SlotFault) → (IsOpcode s.opcode 
 refused s behind TruncatedWide missing e h = absurd h
 refused s behind BadRegister missing e h = absurd h
 refused s behind NonzeroField missing e h = absurd h
-refused s behind UnknownOpcode missing e h = (missing, e)
-refused s behind Atomic missing e h = (missing, e)
-refused s behind Call missing e h = (missing, e)
-refused s behind LegacyLoad missing e h = (missing, e)
+refused s behind f missing e h = (missing, e)
 
 with_none : (o : Option SlotFault) → option_or o None ≡ o
 with_none None = refl
@@ -283,14 +236,15 @@ opcode_of : (s : Slot) → HasBadRegister s → IsOpcode s.opcode
 opcode_of s (inl x) = (x.0.0, x.0.1)
 opcode_of s (inr x) = (x.0.0, x.0.1)
 
-kind_of : (s : Slot) (behind : List ℕ) (f : SlotFault) → IsSlotFault s behind f → ((IsOpcode s.opcode → ⊥) × (refused_as s.opcode ≡ f)) ⊎ (IsOpcode s.opcode × IsOfFields s behind f)
+-- a fault is of the opcode alone, or of the fields behind it
+abbrev IsOfKind : Slot → List ℕ → SlotFault → Type 0
+IsOfKind s behind f = ((IsOpcode s.opcode → ⊥) × (refused_as s.opcode ≡ f)) ⊎ (IsOpcode s.opcode × IsOfFields s behind f)
+
+kind_of : (s : Slot) (behind : List ℕ) (f : SlotFault) → IsSlotFault s behind f → IsOfKind s behind f
 kind_of s behind TruncatedWide h = inr ((h.0, h.1), inl (refl, h))
 kind_of s behind BadRegister h = inr (opcode_of s h.1, inr (inl (refl, h.0, h.1)))
 kind_of s behind NonzeroField h = inr (h.0, inr (inr (refl, h.1, h.2, h.3)))
-kind_of s behind UnknownOpcode h = inl h
-kind_of s behind Atomic h = inl h
-kind_of s behind Call h = inl h
-kind_of s behind LegacyLoad h = inl h
+kind_of s behind f h = inl h
 
 same_field_fault : (s : Slot) (behind : List ℕ) (f g : SlotFault) → IsOfFields s behind f → IsOfFields s behind g → f ≡ g
 same_field_fault s behind f g (inl a) (inl b) = a.0 ∙ sym b.0
@@ -306,7 +260,7 @@ same_field_fault s behind f g (inr (inr a)) (inr (inr b)) = a.0 ∙ sym b.0
 -- a slot has one fault
 pub one_fault : (s : Slot) (behind : List ℕ) (f g : SlotFault) → IsSlotFault s behind f → IsSlotFault s behind g → f ≡ g
 one_fault s behind f g x y = by (kind_of s behind f x) (kind_of s behind g y) where
-  by : ((IsOpcode s.opcode → ⊥) × (refused_as s.opcode ≡ f)) ⊎ (IsOpcode s.opcode × IsOfFields s behind f) → ((IsOpcode s.opcode → ⊥) × (refused_as s.opcode ≡ g)) ⊎ (IsOpcode s.opcode × IsOfFields s behind g) → f ≡ g
+  by : IsOfKind s behind f → IsOfKind s behind g → f ≡ g
   by (inl a) (inl b) = sym a.1 ∙ b.1
   by (inl a) (inr b) = absurd (a.0 b.0)
   by (inr a) (inl b) = absurd (b.0 a.0)
@@ -332,6 +286,6 @@ no_slot_fault s behind f known good begins h = by (kind_of s behind f h) where
   of_fields (inr (inl x)) = bad (fields_of s.opcode) refl good x.2
   of_fields (inr (inr x)) = begins x.3
 
-  by : ((IsOpcode s.opcode → ⊥) × (refused_as s.opcode ≡ f)) ⊎ (IsOpcode s.opcode × IsOfFields s behind f) → ⊥
+  by : IsOfKind s behind f → ⊥
   by (inl x) = x.0 known
   by (inr x) = of_fields x.1

@@ -5,43 +5,32 @@ use Rattle.std.proofs.lemmas.Bool.{le-ltb, lt-ltb, ne_eqb}
 use Rattle.std.specs.Int.{cast_signed, cast_unsigned}
 use Rattle.std.specs.List.{flat_map, AllByRecursion}
 use Rattle.std.proofs.lemmas.Int.{ints, to_z-of_z}
-use Rattle.std.proofs.lemmas.List.{append_cancel_left}
+use Rattle.std.proofs.lemmas.List.{append_cancel_left, append-nil}
 use Rattle.std.proofs.lemmas.List.Concat.{flat_map-append}
 use Rattle.std.proofs.Math.Facts.{sfits_to_z}
 use Rattle.insn.specs.declared.register.RegNo.{RegNo}
-use Rattle.insn.specs.declared.register.RegNo.TheVariants.{R0, R1, R2, R3, R4, R5, R6, R7, R8, R9, R10}
-use Rattle.insn.specs.declared.instruction.Operand.TheVariants.{Reg, Imm}
+use Rattle.insn.specs.declared.register.RegNo.TheVariants.{R0}
+use Rattle.insn.specs.declared.instruction.Operand.TheVariants.{Imm}
 use Rattle.insn.specs.declared.instruction.Insn.{Insn}
-use Rattle.insn.specs.declared.instruction.Insn.TheVariants.{Alu64Imm, Alu64Reg, Alu32Imm, Alu32Reg, Divide, Remainder, Negate, MoveSigned, SwapBytes, LoadWide, Load, LoadSigned, StoreReg, StoreImm, Jump, JumpLong, Jump64IfImm, Jump64IfReg, Jump32IfImm, Jump32IfReg, Exit}
+use Rattle.insn.specs.declared.instruction.Insn.TheVariants.{Divide, Remainder, MoveSigned, SwapBytes, LoadWide}
 use Rattle.insn.specs.declared.operation.Signedness.TheVariants.{Unsigned, Signed}
-use Rattle.insn.specs.declared.operation.Extension.TheVariants.{From8To64, From16To64, From32To64, From8To32, From16To32}
-use Rattle.insn.specs.declared.operation.SwapBits.TheVariants.{B16, B32, B64}
+use Rattle.insn.specs.declared.operation.Extension.TheVariants.{From8To64}
+use Rattle.insn.specs.declared.operation.SwapBits.TheVariants.{B16}
 use Rattle.encoding.specs.declared.slot.Slot.{Slot}
 use Rattle.encoding.specs.declared.slot_fault.SlotFault.{SlotFault}
-use Rattle.encoding.specs.declared.slot_fault.SlotFault.TheVariants.{UnknownOpcode, BadRegister, NonzeroField, TruncatedWide, Atomic, Call, LegacyLoad}
 use Rattle.insn.specs.declared.fault.InsnFault.{InsnFault}
 use Rattle.insn.specs.declared.fault.InsnFault.TheVariants as faults
 use Rattle.insn.specs.Instruction.{reg_number, Fits}
 use Rattle.insn.specs.Program.{slot_count, SLOT_LIMIT}
-use Rattle.encoding.specs.Spelling.{BeginsNone, IsSlotFault, first_slot, slot, slots, slot_bytes, slot_fault_at, spelling, FaultAt, FirstInsnFault, IsSlot, IsWhole, Spells}
+use Rattle.encoding.specs.Spelling.{BeginsNone, IsSlotFault, first_slot, slot, slots, slot_bytes, spelling, FaultAt, FirstInsnFault, IsSlot, IsWhole, Spells}
 use Rattle.encoding.specs.Opcodes.{slot_fault}
 use Rattle.encoding.proofs.Spellings.{length-spelling, spelling-append}
-use Rattle.encoding.proofs.Rereading.{read, read-slots}
-use Rattle.encoding.proofs.Faultless.{first_good}
+use Rattle.encoding.proofs.Rereading.{read, reread}
 use Rattle.encoding.proofs.Naming.{first_is, no_slot_fault, one_fault, table_fault}
 
 reg_fits : (r : RegNo) → reg_number r < 16
 reg_fits R0 = omega arith
-reg_fits R1 = omega arith
-reg_fits R2 = omega arith
-reg_fits R3 = omega arith
-reg_fits R4 = omega arith
-reg_fits R5 = omega arith
-reg_fits R6 = omega arith
-reg_fits R7 = omega arith
-reg_fits R8 = omega arith
-reg_fits R9 = omega arith
-reg_fits R10 = omega arith
+reg_fits r = omega arith
 
 -- ---- slots from bytes
 
@@ -84,42 +73,17 @@ half_fits : (n : ℕ) → n < 2 ^ 32 → FitsSigned w32 (cast_signed w32 n)
 half_fits n lt = sfits_to_z (record { fits = lt })
 
 sized : (i : Insn) → Fits i → AllByRecursion Sized (slots i)
-sized (Alu64Imm op dst imm) fits = (record { dst = reg_fits dst; src = omega arith; offset = no_offset; imm = fits }, tt)
-sized (Alu64Reg op dst src) fits = (record { dst = reg_fits dst; src = reg_fits src; offset = no_offset; imm = no_imm }, tt)
-sized (Alu32Imm op dst imm) fits = (record { dst = reg_fits dst; src = omega arith; offset = no_offset; imm = fits }, tt)
-sized (Alu32Reg op dst src) fits = (record { dst = reg_fits dst; src = reg_fits src; offset = no_offset; imm = no_imm }, tt)
 sized (Divide width Unsigned dst (Imm imm)) fits = (record { dst = reg_fits dst; src = omega arith; offset = no_offset; imm = fits }, tt)
-sized (Divide width Unsigned dst (Reg src)) fits = (record { dst = reg_fits dst; src = reg_fits src; offset = no_offset; imm = no_imm }, tt)
 sized (Divide width Signed dst (Imm imm)) fits = (record { dst = reg_fits dst; src = omega arith; offset = search rules; imm = fits }, tt)
-sized (Divide width Signed dst (Reg src)) fits = (record { dst = reg_fits dst; src = reg_fits src; offset = search rules; imm = no_imm }, tt)
 sized (Remainder width Unsigned dst (Imm imm)) fits = (record { dst = reg_fits dst; src = omega arith; offset = no_offset; imm = fits }, tt)
-sized (Remainder width Unsigned dst (Reg src)) fits = (record { dst = reg_fits dst; src = reg_fits src; offset = no_offset; imm = no_imm }, tt)
 sized (Remainder width Signed dst (Imm imm)) fits = (record { dst = reg_fits dst; src = omega arith; offset = search rules; imm = fits }, tt)
-sized (Remainder width Signed dst (Reg src)) fits = (record { dst = reg_fits dst; src = reg_fits src; offset = search rules; imm = no_imm }, tt)
-sized (Negate width dst) fits = (record { dst = reg_fits dst; src = omega arith; offset = no_offset; imm = no_imm }, tt)
 sized (MoveSigned From8To64 dst src) fits = (record { dst = reg_fits dst; src = reg_fits src; offset = search rules; imm = no_imm }, tt)
-sized (MoveSigned From16To64 dst src) fits = (record { dst = reg_fits dst; src = reg_fits src; offset = search rules; imm = no_imm }, tt)
-sized (MoveSigned From32To64 dst src) fits = (record { dst = reg_fits dst; src = reg_fits src; offset = search rules; imm = no_imm }, tt)
-sized (MoveSigned From8To32 dst src) fits = (record { dst = reg_fits dst; src = reg_fits src; offset = search rules; imm = no_imm }, tt)
-sized (MoveSigned From16To32 dst src) fits = (record { dst = reg_fits dst; src = reg_fits src; offset = search rules; imm = no_imm }, tt)
 sized (SwapBytes kind B16 dst) fits = (record { dst = reg_fits dst; src = omega arith; offset = no_offset; imm = search rules }, tt)
-sized (SwapBytes kind B32 dst) fits = (record { dst = reg_fits dst; src = omega arith; offset = no_offset; imm = search rules }, tt)
-sized (SwapBytes kind B64 dst) fits = (record { dst = reg_fits dst; src = omega arith; offset = no_offset; imm = search rules }, tt)
 sized (LoadWide dst value) fits = (
   record { dst = reg_fits dst; src = omega arith; offset = no_offset; imm = half_fits (value % 2 ^ 32) (omega arith) },
   (record { dst = omega arith; src = omega arith; offset = no_offset; imm = half_fits (value / 2 ^ 32) (omega arith) }, tt),
 )
-sized (Load size dst src offset) fits = (record { dst = reg_fits dst; src = reg_fits src; offset = fits; imm = no_imm }, tt)
-sized (LoadSigned size dst src offset) fits = (record { dst = reg_fits dst; src = reg_fits src; offset = fits; imm = no_imm }, tt)
-sized (StoreReg size dst src offset) fits = (record { dst = reg_fits dst; src = reg_fits src; offset = fits; imm = no_imm }, tt)
-sized (StoreImm size dst offset imm) fits = (record { dst = reg_fits dst; src = omega arith; offset = fits.0; imm = fits.1 }, tt)
-sized (Jump offset) fits = (record { dst = omega arith; src = omega arith; offset = fits; imm = no_imm }, tt)
-sized (JumpLong offset) fits = (record { dst = omega arith; src = omega arith; offset = no_offset; imm = fits }, tt)
-sized (Jump64IfImm c dst offset imm) fits = (record { dst = reg_fits dst; src = omega arith; offset = fits.0; imm = fits.1 }, tt)
-sized (Jump64IfReg c dst src offset) fits = (record { dst = reg_fits dst; src = reg_fits src; offset = fits; imm = no_imm }, tt)
-sized (Jump32IfImm c dst offset imm) fits = (record { dst = reg_fits dst; src = omega arith; offset = fits.0; imm = fits.1 }, tt)
-sized (Jump32IfReg c dst src offset) fits = (record { dst = reg_fits dst; src = reg_fits src; offset = fits; imm = no_imm }, tt)
-sized Exit fits = (record { dst = omega arith; src = omega arith; offset = no_offset; imm = no_imm }, tt)
+sized i fits = (record { dst = omega (arith, reg_fits); src = omega (arith, reg_fits); offset = search rules; imm = search rules }, tt)
 
 sized-append : (xs ys : List Slot) → AllByRecursion Sized xs → AllByRecursion Sized ys → AllByRecursion Sized (xs ++ ys)
 sized-append [] ys a b = b
@@ -140,34 +104,40 @@ slots_in p r fits = unspell-all (flat_map slots p) r (sized_all p fits)
 
 -- ---- one program
 
-same_slots : (p q : List Insn) → AllByRecursion Fits p → AllByRecursion Fits q → flat_map slots p ≡ flat_map slots q → p ≡ q
-same_slots [] [] fp fq e = refl
-same_slots [] (j ∷ q) fp fq e = let h = ap read e ∙ read-slots j (flat_map slots q) fq.0 in absurd cc
-same_slots (i ∷ p) [] fp fq e = let h = sym (ap read e) ∙ read-slots i (flat_map slots p) fp.0 in absurd cc
-same_slots (i ∷ p) (j ∷ q) fp fq e =
-    let h : Some i ≡ Some j = sym (read-slots i (flat_map slots p) fp.0) ∙ ap read e ∙ read-slots j (flat_map slots q) fq.0 in
-    let same : i ≡ j = cc in
-    let tails : slots i ++ flat_map slots p ≡ slots i ++ flat_map slots q = e ∙ ap (λ (k : Insn). slots k ++ flat_map slots q) (sym same) in
-    let rest = same_slots p q fp.1 fq.1 (append_cancel_left (slots i) (flat_map slots p) (flat_map slots q) tails) in cc
-
-append_none : {A : Type 0} (xs : List A) → xs ++ [] ≡ xs
-append_none [] = refl
-append_none (x ∷ xs) = ap (λ (l : List _). x ∷ l) (append_none xs)
-
--- the slots of a program's bytes are its instructions'
-slots_of_spelling : (p : List Insn) → AllByRecursion Fits p → unspell (spelling p) ≡ flat_map slots p
-slots_of_spelling p fits = ap unspell (sym (append_none (spelling p))) ∙ slots_in p [] fits ∙ append_none (flat_map slots p)
-
--- no bytes spell two programs
-pub one_program : (bytes : List ℕ) (p q : List Insn) → Spells bytes p → Spells bytes q → p ≡ q
-one_program bytes p q sp sq =
-    same_slots p q sp.fit sq.fit (sym (slots_of_spelling p sp.fit) ∙ ap unspell (sym sp.spelled ∙ sq.spelled) ∙ slots_of_spelling q sq.fit)
-
--- ---- what is spelled has no fault
+read-slots : (i : Insn) (x : List Slot) → Fits i → read (slots i ++ x) ≡ Some i
+read-slots i x fits = (reread i x [] (first_slot i)).read fits
 
 -- the bytes of an instruction, and those of the ones behind it
 one_more : (i : Insn) (p : List Insn) → spelling (i ∷ p) ≡ flat_map slot_bytes (slots i) ++ spelling p
 one_more i p = flat_map-append slot_bytes (slots i) (flat_map slots p)
+
+-- what stands behind one instruction that two spellings begin with
+same_first : (i j : Insn) (p q : List Insn) (x y : List ℕ) → AllByRecursion Fits (i ∷ p) → AllByRecursion Fits (j ∷ q) → spelling (i ∷ p) ++ x ≡ spelling (j ∷ q) ++ y → (i ≡ j) × (spelling p ++ x ≡ spelling q ++ y)
+same_first i j p q x y fp fq e =
+    let whole : slots i ++ (flat_map slots p ++ unspell x) ≡ slots j ++ (flat_map slots q ++ unspell y) =
+    sym (append_assoc (slots i) (flat_map slots p) (unspell x)) ∙ sym (slots_in (i ∷ p) x fp) ∙ ap unspell e ∙ slots_in (j ∷ q) y fq ∙ append_assoc (slots j) (flat_map slots q) (unspell y) in
+    let h : Some i ≡ Some j = sym (read-slots i (flat_map slots p ++ unspell x) fp.0) ∙ ap read whole ∙ read-slots j (flat_map slots q ++ unspell y) fq.0 in
+    let same : i ≡ j = cc in
+    let tails : flat_map slot_bytes (slots i) ++ (spelling p ++ x) ≡ flat_map slot_bytes (slots i) ++ (spelling q ++ y) =
+    sym (append_assoc (flat_map slot_bytes (slots i)) (spelling p) x) ∙ ap (λ (l : List ℕ). l ++ x) (sym (one_more i p)) ∙ e ∙ ap (λ (l : List ℕ). l ++ y) (one_more j q)
+    ∙ append_assoc (flat_map slot_bytes (slots j)) (spelling q) y ∙ ap (λ (k : Insn). flat_map slot_bytes (slots k) ++ (spelling q ++ y)) (sym same) in
+    (same, append_cancel_left (flat_map slot_bytes (slots i)) (spelling p ++ x) (spelling q ++ y) tails)
+
+some_bytes : (i : Insn) (p : List Insn) (x : List ℕ) → AllByRecursion Fits (i ∷ p) → spelling (i ∷ p) ++ x ≡ [] → ⊥
+some_bytes i p x fits e =
+    let h : Some i ≡ None = sym (read-slots i (flat_map slots p ++ unspell x) fits.0) ∙ ap read (sym (append_assoc (slots i) (flat_map slots p) (unspell x)) ∙ sym (slots_in (i ∷ p) x fits) ∙ ap unspell e) in absurd cc
+
+one_spelled : (p q : List Insn) → AllByRecursion Fits p → AllByRecursion Fits q → spelling p ++ [] ≡ spelling q ++ [] → p ≡ q
+one_spelled [] [] fp fq e = refl
+one_spelled [] (j ∷ q) fp fq e = absurd (some_bytes j q [] fq (sym e))
+one_spelled (i ∷ p) [] fp fq e = absurd (some_bytes i p [] fp e)
+one_spelled (i ∷ p) (j ∷ q) fp fq e = let first = same_first i j p q [] [] fp fq e in let rest = one_spelled p q fp.1 fq.1 first.1 in rw (first.0, rest) refl
+
+-- no bytes spell two programs
+pub one_program : (bytes : List ℕ) (p q : List Insn) → Spells bytes p → Spells bytes q → p ≡ q
+one_program bytes p q sp sq = one_spelled p q sp.fit sq.fit (ap (λ (l : List ℕ). l ++ []) (sym sp.spelled ∙ sq.spelled))
+
+-- ---- what is spelled has no fault
 
 -- in a slot with which an instruction begins the table finds no fault, and its opcode is the instruction's
 record IsGood (here : Slot) (rest : List ℕ) (j : Insn) : Type 0 where
@@ -183,7 +153,7 @@ begins_good here rest tail j p z fp e =
     let rest_is : rest ≡ drop 8 (flat_map slot_bytes (slots j) ++ (spelling p ++ tail)) = ap (drop 8) bytes in
     record {
       opcode = ap (λ (s : Slot). s.opcode) (sym (first_is j (flat_map slots p ++ unspell tail) here) ∙ sym here_is);
-      good = ap (λ (s : Slot). slot_fault s rest) here_is ∙ ap (slot_fault (get_or (slots j ++ (flat_map slots p ++ unspell tail)) 0 here)) rest_is ∙ first_good j (flat_map slots p ++ unspell tail) (spelling p ++ tail) here;
+      good = ap (λ (s : Slot). slot_fault s rest) here_is ∙ ap (slot_fault (get_or (slots j ++ (flat_map slots p ++ unspell tail)) 0 here)) rest_is ∙ (reread j (flat_map slots p ++ unspell tail) (spelling p ++ tail) here).good;
     }
 
 -- it has no fault
@@ -202,35 +172,12 @@ named_fault s behind f is h = table_fault s behind f is (begins_none s behind f 
 
 -- no program has a faulty slot behind some instructions
 no_faulty_slot : (before p : List Insn) (here : Slot) (rest : List ℕ) (f : SlotFault) → AllByRecursion Fits before → AllByRecursion Fits p → Sized here
-    → spelling before ++ (slot_bytes here ++ rest) ≡ spelling p → IsSlotFault here rest f → ⊥
+    → spelling before ++ (slot_bytes here ++ rest) ≡ spelling p ++ [] → IsSlotFault here rest f → ⊥
 no_faulty_slot [] [] here rest f fb fp z e faulty = absurd cc
-no_faulty_slot [] (j ∷ p) here rest f fb fp z e faulty = begins_faultless here rest [] j p f z fp (e ∙ sym (append_none (spelling (j ∷ p)))) faulty
-no_faulty_slot (i ∷ before) [] here rest f fb fp z e faulty =
-    let more = slots_in (i ∷ before) (slot_bytes here ++ rest) fb in
-    let h : Some i ≡ None = sym (read-slots i (flat_map slots before ++ unspell (slot_bytes here ++ rest)) fb.0)
-    ∙ ap read (sym (append_assoc (slots i) (flat_map slots before) (unspell (slot_bytes here ++ rest))) ∙ sym more ∙ ap unspell e) in absurd cc
+no_faulty_slot [] (j ∷ p) here rest f fb fp z e faulty = begins_faultless here rest [] j p f z fp e faulty
+no_faulty_slot (i ∷ before) [] here rest f fb fp z e faulty = some_bytes i before (slot_bytes here ++ rest) fb e
 no_faulty_slot (i ∷ before) (j ∷ p) here rest f fb fp z e faulty =
-    let later = slot_bytes here ++ rest in
-    let whole : slots i ++ (flat_map slots before ++ unspell later) ≡ slots j ++ flat_map slots p =
-    sym (append_assoc (slots i) (flat_map slots before) (unspell later)) ∙ sym (slots_in (i ∷ before) later fb) ∙ ap unspell e ∙ slots_of_spelling (j ∷ p) fp in
-    let h : Some i ≡ Some j = sym (read-slots i (flat_map slots before ++ unspell later) fb.0) ∙ ap read whole ∙ read-slots j (flat_map slots p) fp.0 in
-    let same : i ≡ j = cc in
-    let tails : flat_map slot_bytes (slots i) ++ (spelling before ++ later) ≡ flat_map slot_bytes (slots i) ++ spelling p =
-    sym (append_assoc (flat_map slot_bytes (slots i)) (spelling before) later) ∙ ap (λ (l : List ℕ). l ++ later) (sym (one_more i before)) ∙ e ∙ one_more j p
-    ∙ ap (λ (k : Insn). flat_map slot_bytes (slots k) ++ spelling p) (sym same) in
-    no_faulty_slot before p here rest f fb.1 fp.1 z (append_cancel_left (flat_map slot_bytes (slots i)) (spelling before ++ later) (spelling p) tails) faulty
-
--- what stands behind one instruction that two spellings begin with
-same_first : (i j : Insn) (p q : List Insn) (x y : List ℕ) → AllByRecursion Fits (i ∷ p) → AllByRecursion Fits (j ∷ q) → spelling (i ∷ p) ++ x ≡ spelling (j ∷ q) ++ y → (i ≡ j) × (spelling p ++ x ≡ spelling q ++ y)
-same_first i j p q x y fp fq e =
-    let whole : slots i ++ (flat_map slots p ++ unspell x) ≡ slots j ++ (flat_map slots q ++ unspell y) =
-    sym (append_assoc (slots i) (flat_map slots p) (unspell x)) ∙ sym (slots_in (i ∷ p) x fp) ∙ ap unspell e ∙ slots_in (j ∷ q) y fq ∙ append_assoc (slots j) (flat_map slots q) (unspell y) in
-    let h : Some i ≡ Some j = sym (read-slots i (flat_map slots p ++ unspell x) fp.0) ∙ ap read whole ∙ read-slots j (flat_map slots q ++ unspell y) fq.0 in
-    let same : i ≡ j = cc in
-    let tails : flat_map slot_bytes (slots i) ++ (spelling p ++ x) ≡ flat_map slot_bytes (slots i) ++ (spelling q ++ y) =
-    sym (append_assoc (flat_map slot_bytes (slots i)) (spelling p) x) ∙ ap (λ (l : List ℕ). l ++ x) (sym (one_more i p)) ∙ e ∙ ap (λ (l : List ℕ). l ++ y) (one_more j q)
-    ∙ append_assoc (flat_map slot_bytes (slots j)) (spelling q) y ∙ ap (λ (k : Insn). flat_map slot_bytes (slots k) ++ (spelling q ++ y)) (sym same) in
-    (same, append_cancel_left (flat_map slot_bytes (slots i)) (spelling p ++ x) (spelling q ++ y) tails)
+    no_faulty_slot before p here rest f fb.1 fp.1 z (same_first i j before p (slot_bytes here ++ rest) [] fb fp e).1 faulty
 
 -- two faulty slots behind some instructions are one
 one_faulty_slot : (p q : List Insn) (here there : Slot) (x y : List ℕ) (f g : SlotFault) → AllByRecursion Fits p → AllByRecursion Fits q → Sized here → Sized there
@@ -249,11 +196,10 @@ one_faulty_slot (i ∷ p) (j ∷ q) here there x y f g fp fq z w e faulty wrong 
     (rw (first.0, later.0) refl, later.1)
 
 -- the first faulty instruction is one
-one_fault_at : (bytes : List ℕ) (at to : ℕ) (f g : SlotFault) → FaultAt bytes at f → FaultAt bytes to g → slot_fault_at f at ≡ slot_fault_at g to
-one_fault_at bytes at to f g x y =
-    let same = one_faulty_slot x.before y.before x.here y.here x.rest y.rest f g x.fit y.fit (sizes_of x.sizes) (sizes_of y.sizes) (sym x.spelled ∙ y.spelled) x.faulty y.faulty in
-    let place : at ≡ to = x.at_slot ∙ ap slot_count same.0 ∙ sym y.at_slot in
-    rw (same.1, place) refl
+one_fault_at : (bytes : List ℕ) (f g : InsnFault) → FaultAt bytes f → FaultAt bytes g → f ≡ g
+one_fault_at bytes f g x y =
+    let same = one_faulty_slot x.before y.before x.here y.here x.rest y.rest x.name y.name x.fit y.fit (sizes_of x.sizes) (sizes_of y.sizes) (sym x.spelled ∙ y.spelled) x.faulty y.faulty in
+    x.at_slot ∙ rw (same.0, same.1) (sym y.at_slot)
 
 -- the fault of a length alone
 abbrev length_fault : ℕ → Option InsnFault
@@ -263,13 +209,6 @@ length_fault n =
     else if nat_lt (8 * SLOT_LIMIT) n then Some faults.TooLong
     else None
 
-record OfASlot (bytes : List ℕ) (fault : InsnFault) : Type 0 where
-  short : length_fault (length bytes) ≡ None
-  at : ℕ
-  name : SlotFault
-  here : FaultAt bytes at name
-  is : fault ≡ slot_fault_at name at
-
 long_enough : (bytes : List ℕ) → IsWhole bytes → length_fault (length bytes) ≡ None
 long_enough bytes h =
     let n = length bytes in
@@ -278,36 +217,31 @@ long_enough bytes h =
     let short = h.short in
     rw (ne_eqb n 0 (λ e. absurd (omega arith)), le-ltb 0 (n % 8) (omega arith), le-ltb (8 * SLOT_LIMIT) n (omega arith)) refl
 
-of_a_slot : (bytes : List ℕ) (name : SlotFault) (at : ℕ) → IsWhole bytes × FaultAt bytes at name → (length_fault (length bytes) ≡ Some (slot_fault_at name at)) ⊎ OfASlot bytes (slot_fault_at name at)
-of_a_slot bytes name at h = inr (record { short = long_enough bytes h.0; at = at; name = name; here = h.1; is = refl })
+-- a fault of the length, or of a slot
+abbrev IsFirst : List ℕ → InsnFault → Type 0
+IsFirst bytes f = (length_fault (length bytes) ≡ Some f) ⊎ ((length_fault (length bytes) ≡ None) × FaultAt bytes f)
 
-by_length : (bytes : List ℕ) (f : InsnFault) → f ≢ faults.Memory → FirstInsnFault bytes f → (length_fault (length bytes) ≡ Some f) ⊎ OfASlot bytes f
+by_length : (bytes : List ℕ) (f : InsnFault) → f ≢ faults.Memory → FirstInsnFault bytes f → IsFirst bytes f
 by_length bytes faults.Empty other h = inl (rw h refl)
 by_length bytes faults.BadLength other h = let n = length bytes in inl (rw (ne_eqb n 0 (λ e. absurd (omega (arith, h.0))), lt-ltb 0 (n % 8) (omega (arith, h.1))) refl)
 by_length bytes faults.TooLong other h =
     let n = length bytes in
     inl (rw (ne_eqb n 0 (λ e. absurd (omega (arith, h.1))), le-ltb 0 (n % 8) (omega (arith, h.0)), lt-ltb (8 * SLOT_LIMIT) n h.1) refl)
-by_length bytes (faults.UnknownOpcode at) other h = of_a_slot bytes UnknownOpcode at h
-by_length bytes (faults.BadRegister at) other h = of_a_slot bytes BadRegister at h
-by_length bytes (faults.NonzeroField at) other h = of_a_slot bytes NonzeroField at h
-by_length bytes (faults.TruncatedWide at) other h = of_a_slot bytes TruncatedWide at h
-by_length bytes (faults.Atomic at) other h = of_a_slot bytes Atomic at h
-by_length bytes (faults.Call at) other h = of_a_slot bytes Call at h
-by_length bytes (faults.LegacyLoad at) other h = of_a_slot bytes LegacyLoad at h
 by_length bytes faults.Memory other h = absurd (other refl)
+by_length bytes f other h = inr (long_enough bytes h.0, h.1)
 
 -- bytes have one first fault, want of memory aside
 pub one_first_fault : (bytes : List ℕ) (f g : InsnFault) → f ≢ faults.Memory → g ≢ faults.Memory → FirstInsnFault bytes f → FirstInsnFault bytes g → f ≡ g
 one_first_fault bytes f g other another h k = both (by_length bytes f other h) (by_length bytes g another k) where
-  both : (length_fault (length bytes) ≡ Some f) ⊎ OfASlot bytes f → (length_fault (length bytes) ≡ Some g) ⊎ OfASlot bytes g → f ≡ g
+  both : IsFirst bytes f → IsFirst bytes g → f ≡ g
   both (inl e) (inl d) = let same : Some f ≡ Some g = sym e ∙ d in cc
-  both (inl e) (inr y) = let none = y.short in absurd cc
-  both (inr x) (inl d) = let none = x.short in absurd cc
-  both (inr x) (inr y) = x.is ∙ one_fault_at bytes x.at y.at x.name y.name x.here y.here ∙ sym y.is
+  both (inl e) (inr y) = let none = y.0 in absurd cc
+  both (inr x) (inl d) = let none = x.0 in absurd cc
+  both (inr x) (inr y) = one_fault_at bytes f g x.1 y.1
 
-no_fault_at : (bytes : List ℕ) (p : List Insn) (at : ℕ) (f : SlotFault) → FaultAt bytes at f → Spells bytes p → ⊥
-no_fault_at bytes p at f h s =
-    no_faulty_slot h.before p h.here h.rest f h.fit s.fit (sizes_of h.sizes) (sym h.spelled ∙ s.spelled) h.faulty
+no_fault_at : (bytes : List ℕ) (p : List Insn) (f : InsnFault) → FaultAt bytes f → Spells bytes p → ⊥
+no_fault_at bytes p f h s =
+    no_faulty_slot h.before p h.here h.rest h.name h.fit s.fit (sizes_of h.sizes) (sym h.spelled ∙ s.spelled ∙ sym (append-nil (spelling p))) h.faulty
 
 -- bytes that spell a program have no fault but a want of memory
 pub only_memory : (bytes : List ℕ) (f : InsnFault) → FirstInsnFault bytes f → (p : List Insn) → Spells bytes p → f ≡ faults.Memory
@@ -321,14 +255,8 @@ only_memory bytes faults.TooLong h p s =
     let long : length bytes ≡ 8 * slot_count p = ap (length {A = ℕ}) s.spelled ∙ length-spelling p in
     let more = h.1 in
     let short = s.in_bounds.short in absurd (omega arith)
-only_memory bytes (faults.UnknownOpcode at) h p s = absurd (no_fault_at bytes p at _ h.1 s)
-only_memory bytes (faults.BadRegister at) h p s = absurd (no_fault_at bytes p at _ h.1 s)
-only_memory bytes (faults.NonzeroField at) h p s = absurd (no_fault_at bytes p at _ h.1 s)
-only_memory bytes (faults.TruncatedWide at) h p s = absurd (no_fault_at bytes p at _ h.1 s)
-only_memory bytes (faults.Atomic at) h p s = absurd (no_fault_at bytes p at _ h.1 s)
-only_memory bytes (faults.Call at) h p s = absurd (no_fault_at bytes p at _ h.1 s)
-only_memory bytes (faults.LegacyLoad at) h p s = absurd (no_fault_at bytes p at _ h.1 s)
 only_memory bytes faults.Memory h p s = refl
+only_memory bytes f h p s = absurd (no_fault_at bytes p f h.1 s)
 
 pub only_err : {A : Type 0} (bytes : List ℕ) (r : Result A InsnFault) → IfErr r (FirstInsnFault bytes) → IfErr r (λ f. (p : List Insn) → Spells bytes p → f ≡ faults.Memory)
 only_err bytes (Ok x) h = tt

@@ -1,14 +1,23 @@
--- Working definitions, for proofs alone: the table of opcodes, a line for each use of the fields, as a decoder goes through it.
+-- Working definitions, for proofs alone: the table of opcodes by their halves, as a decoder goes through it.
 -- What it refuses IsSlotFault refuses, by the law slots_have_the_faults_of_the_table.
-use Rattle.std.specs.Prelude.{ℕ, ◌==◌, ◌&&◌, ◌||◌, not, nat_lt, Bool, true, false, if◌then◌else◌, ℤ, pos, negsuc, List, [], ◌∷◌, length, map, take, Option, Some, None}
+use Rattle.std.specs.Prelude.{◌≡◌, ℕ, ◌+◌, ◌-◌, ◌*◌, ◌≤◌, ◌/◌, ◌%◌, ◌==◌, ◌&&◌, ◌||◌, not, nat_lt, Bool, true, false, if◌then◌else◌, ℤ, pos, negsuc, List, [], ◌∷◌, ◌++◌, length, map, take, Option, Some, None, Result, MatchResult}
 use Rattle.std.specs.List.{list_any}
 use Rattle.std.specs.Option.{option_or}
+use Rattle.insn.specs.declared.operation.Width.{Width}
+use Rattle.insn.specs.declared.operation.Width.TheVariants.{W32, W64}
+use Rattle.insn.specs.declared.operation.Size.{Size}
+use Rattle.insn.specs.declared.operation.Size.TheVariants.{One, Two, Four, Eight}
+use Rattle.insn.specs.declared.operation.SignedSize.TheVariants as signed
+use Rattle.insn.specs.declared.operation.AluOp.{AluOp}
+use Rattle.insn.specs.declared.operation.Cond.{Cond}
 use Rattle.insn.specs.declared.operation.AluOp.TheVariants.{Add, Sub, Mul, Or, And, Lsh, Rsh, Xor, Mov, Arsh}
 use Rattle.insn.specs.declared.operation.Cond.TheVariants.{Eq, Gt, Ge, Set, Ne, Sgt, Sge, Lt, Le, Slt, Sle}
+use Rattle.insn.specs.declared.instruction.Insn.{Insn}
+use Rattle.insn.specs.Instruction.{slots_of, Fits}
 use Rattle.encoding.specs.declared.slot.Slot.{Slot}
 use Rattle.encoding.specs.declared.slot_fault.SlotFault.{SlotFault}
-use Rattle.encoding.specs.declared.slot_fault.SlotFault.TheVariants.{BadRegister, NonzeroField, TruncatedWide}
-use Rattle.encoding.specs.Spelling.{LOAD_WIDE, cond_code, is_one_of, op_code, refused_as}
+use Rattle.encoding.specs.declared.slot_fault.SlotFault.TheVariants.{UnknownOpcode, BadRegister, NonzeroField, TruncatedWide}
+use Rattle.encoding.specs.Spelling.{cond_code, imm_opcode, is_one_of, jump_imm_opcode, jump_reg_opcode, load_opcode, load_signed_opcode, op_code, refused_as, reg_opcode, slot_bytes, slots, spelling, store_imm_opcode, store_reg_opcode, DIVIDE, EXIT, JUMP, JUMP_LONG, LOAD_WIDE, NEGATE, REMAINDER, SWAP}
 
 -- ---- rows
 
@@ -27,65 +36,75 @@ pub record Fields : Type 0 where
 abbrev pub uses : FieldUse → FieldUse → FieldUse → FieldUse → Fields
 uses dst src offset imm = record { dst = dst; src = src; offset = offset; imm = imm }
 
--- the opcodes of operations, and of jumps, whose high halves are these
+abbrev pub ops : List AluOp
+ops = Add ∷ Sub ∷ Mul ∷ Or ∷ And ∷ Lsh ∷ Rsh ∷ Xor ∷ Mov ∷ Arsh ∷ []
+
+abbrev pub conds : List Cond
+conds = Eq ∷ Gt ∷ Ge ∷ Set ∷ Ne ∷ Sgt ∷ Sge ∷ Lt ∷ Le ∷ Slt ∷ Sle ∷ []
+
+abbrev pub sizes : List Size
+sizes = One ∷ Two ∷ Four ∷ Eight ∷ []
+
+-- the high halves of the opcodes of operations, and of jumps
 abbrev pub op_codes : List ℕ
-op_codes = map op_code (Add ∷ Sub ∷ Mul ∷ Or ∷ And ∷ Lsh ∷ Rsh ∷ Xor ∷ Mov ∷ Arsh ∷ [])
+op_codes = map op_code ops
 
 abbrev pub cond_codes : List ℕ
-cond_codes = map cond_code (Eq ∷ Gt ∷ Ge ∷ Set ∷ Ne ∷ Sgt ∷ Sge ∷ Lt ∷ Le ∷ Slt ∷ Sle ∷ [])
+cond_codes = map cond_code conds
 
--- opcodes, and how they use the fields
-pub record Row : Type 0 where
-  pub opcodes : List ℕ
-  pub fields : Fields
+-- the offset of a move of a register: 0, or the bits of one with sign extension
+abbrev pub move_offsets : Width → List ℕ
+move_offsets W32 = 0 ∷ 8 ∷ 16 ∷ []
+move_offsets W64 = 0 ∷ 8 ∷ 16 ∷ 32 ∷ []
 
-abbrev pub row : List ℕ → Fields → Row
-row opcodes fields = record { opcodes = opcodes; fields = fields }
+-- the fields of an opcode whose high half is one of a row's
+abbrev pub code_row : List ℕ → Fields → ℕ → Option Fields
+code_row codes f code = if is_one_of codes code then Some f else None
 
--- the table of opcodes, a line for each use of dst, src, offset and imm (RFC 9669, appendix A)
-abbrev pub opcode_table : List Row
-opcode_table =
-    -- a wide load
-    row (0x18 ∷ []) (uses Used Unused Unused Used)
-    -- operations on a register and a number, in 32 bits and in 64: the high halves are those of op_code
-    ∷ row (0x04 ∷ 0x14 ∷ 0x24 ∷ 0x44 ∷ 0x54 ∷ 0x64 ∷ 0x74 ∷ 0xa4 ∷ 0xb4 ∷ 0xc4 ∷ []) (uses Used Unused Unused Used)
-    ∷ row (0x07 ∷ 0x17 ∷ 0x27 ∷ 0x47 ∷ 0x57 ∷ 0x67 ∷ 0x77 ∷ 0xa7 ∷ 0xb7 ∷ 0xc7 ∷ []) (uses Used Unused Unused Used)
-    -- operations on two registers, but the move
-    ∷ row (0x0c ∷ 0x1c ∷ 0x2c ∷ 0x4c ∷ 0x5c ∷ 0x6c ∷ 0x7c ∷ 0xac ∷ 0xcc ∷ []) (uses Used Used Unused Unused)
-    ∷ row (0x0f ∷ 0x1f ∷ 0x2f ∷ 0x4f ∷ 0x5f ∷ 0x6f ∷ 0x7f ∷ 0xaf ∷ 0xcf ∷ []) (uses Used Used Unused Unused)
-    -- moves of a register: the offset is 0, or says how many bits are extended
-    ∷ row (0xbc ∷ []) (uses Used Used (OneOf (0 ∷ 8 ∷ 16 ∷ [])) Unused)
-    ∷ row (0xbf ∷ []) (uses Used Used (OneOf (0 ∷ 8 ∷ 16 ∷ 32 ∷ [])) Unused)
-    -- divisions and remainders: the offset says whether they are signed
-    ∷ row (0x34 ∷ 0x37 ∷ 0x94 ∷ 0x97 ∷ []) (uses Used Unused (OneOf (0 ∷ 1 ∷ [])) Used)
-    ∷ row (0x3c ∷ 0x3f ∷ 0x9c ∷ 0x9f ∷ []) (uses Used Used (OneOf (0 ∷ 1 ∷ [])) Unused)
-    -- negations
-    ∷ row (0x84 ∷ 0x87 ∷ []) (uses Used Unused Unused Unused)
-    -- byte swaps: the number says how many bits
-    ∷ row (0xd4 ∷ 0xd7 ∷ 0xdc ∷ []) (uses Used Unused Unused (OneOf (16 ∷ 32 ∷ 64 ∷ [])))
-    -- loads, those with sign extension, stores of a register, and of a number
-    ∷ row (0x61 ∷ 0x69 ∷ 0x71 ∷ 0x79 ∷ []) (uses Used Used Used Unused)
-    ∷ row (0x81 ∷ 0x89 ∷ 0x91 ∷ []) (uses Used Used Used Unused)
-    ∷ row (0x63 ∷ 0x6b ∷ 0x73 ∷ 0x7b ∷ []) (uses Used Used Used Unused)
-    ∷ row (0x62 ∷ 0x6a ∷ 0x72 ∷ 0x7a ∷ []) (uses Used Unused Used Used)
-    -- jumps, on no condition, of a register and a number, and of two registers
-    ∷ row (0x05 ∷ []) (uses Unused Unused Used Unused)
-    ∷ row (0x06 ∷ []) (uses Unused Unused Unused Used)
-    ∷ row (0x15 ∷ 0x25 ∷ 0x35 ∷ 0x45 ∷ 0x55 ∷ 0x65 ∷ 0x75 ∷ 0xa5 ∷ 0xb5 ∷ 0xc5 ∷ 0xd5 ∷ []) (uses Used Unused Used Used)
-    ∷ row (0x16 ∷ 0x26 ∷ 0x36 ∷ 0x46 ∷ 0x56 ∷ 0x66 ∷ 0x76 ∷ 0xa6 ∷ 0xb6 ∷ 0xc6 ∷ 0xd6 ∷ []) (uses Used Unused Used Used)
-    ∷ row (0x1d ∷ 0x2d ∷ 0x3d ∷ 0x4d ∷ 0x5d ∷ 0x6d ∷ 0x7d ∷ 0xad ∷ 0xbd ∷ 0xcd ∷ 0xdd ∷ []) (uses Used Used Used Unused)
-    ∷ row (0x1e ∷ 0x2e ∷ 0x3e ∷ 0x4e ∷ 0x5e ∷ 0x6e ∷ 0x7e ∷ 0xae ∷ 0xbe ∷ 0xce ∷ 0xde ∷ []) (uses Used Used Used Unused)
-    -- the exit
-    ∷ row (0x95 ∷ []) (uses Unused Unused Unused Unused)
-    ∷ []
+-- a byte swap to an order is in the class of 32 bits, and works on one register
+abbrev pub swap_fields : Width → Option Fields
+swap_fields W32 = Some (uses Used Unused Unused (OneOf (16 ∷ 32 ∷ 64 ∷ [])))
+swap_fields W64 = None
 
-abbrev pub in_rows : List Row → ℕ → Option Fields
-in_rows [] opcode = None
-in_rows (row ∷ later) opcode = if is_one_of row.opcodes opcode then Some row.fields else in_rows later opcode
+-- operations on a register and a number, by the high half of the opcode
+abbrev pub imm_fields : ℕ → Option Fields
+imm_fields code =
+    if is_one_of (DIVIDE ∷ REMAINDER ∷ []) code then Some (uses Used Unused (OneOf (0 ∷ 1 ∷ [])) Used)
+    else if code == NEGATE then Some (uses Used Unused Unused Unused)
+    else if code == SWAP then Some (uses Used Unused Unused (OneOf (16 ∷ 32 ∷ 64 ∷ [])))
+    else code_row op_codes (uses Used Unused Unused Used) code
 
--- how an opcode uses the fields, where the table has it
+-- operations on two registers
+abbrev pub reg_fields : Width → ℕ → Option Fields
+reg_fields width code =
+    if is_one_of (DIVIDE ∷ REMAINDER ∷ []) code then Some (uses Used Used (OneOf (0 ∷ 1 ∷ [])) Unused)
+    else if code == op_code Mov then Some (uses Used Used (OneOf (move_offsets width)) Unused)
+    else if code == SWAP then swap_fields width
+    else code_row op_codes (uses Used Used Unused Unused) code
+
+-- loads and stores
+abbrev pub memory_fields : ℕ → Option Fields
+memory_fields opcode =
+    if is_one_of (map load_opcode sizes ++ map load_signed_opcode (signed.One ∷ signed.Two ∷ signed.Four ∷ []) ++ map store_reg_opcode sizes) opcode
+    then Some (uses Used Used Used Unused)
+    else code_row (map store_imm_opcode sizes) (uses Used Unused Used Used) opcode
+
+-- how an opcode uses the fields, where it is an instruction's: those that stand alone, and the others by the low half
 unfoldable pub fields_of : ℕ → Option Fields
-fields_of opcode = in_rows opcode_table opcode
+fields_of opcode =
+    if opcode == LOAD_WIDE then Some (uses Used Unused Unused Used)
+    else if opcode == JUMP then Some (uses Unused Unused Used Unused)
+    else if opcode == JUMP_LONG then Some (uses Unused Unused Unused Used)
+    else if opcode == EXIT then Some (uses Unused Unused Unused Unused)
+    else if opcode % 16 == imm_opcode W32 0 then imm_fields (opcode / 16)
+    else if opcode % 16 == imm_opcode W64 0 then imm_fields (opcode / 16)
+    else if opcode % 16 == reg_opcode W32 0 then reg_fields W32 (opcode / 16)
+    else if opcode % 16 == reg_opcode W64 0 then reg_fields W64 (opcode / 16)
+    else if opcode % 16 == jump_imm_opcode W32 0 then code_row cond_codes (uses Used Unused Used Used) (opcode / 16)
+    else if opcode % 16 == jump_imm_opcode W64 0 then code_row cond_codes (uses Used Unused Used Used) (opcode / 16)
+    else if opcode % 16 == jump_reg_opcode W32 0 then code_row cond_codes (uses Used Used Used Unused) (opcode / 16)
+    else if opcode % 16 == jump_reg_opcode W64 0 then code_row cond_codes (uses Used Used Used Unused) (opcode / 16)
+    else memory_fields opcode
 
 -- a field that is not used is 0, and one of some values has one of them
 abbrev pub allows : FieldUse → ℤ → Bool
@@ -130,3 +149,21 @@ abbrev pub slot_fault : Slot → List ℕ → Option SlotFault
 slot_fault s behind = fault_with (fields_of s.opcode) s behind
 
 -- ---- what is read
+
+-- a slot is all of an instruction
+abbrev pub IsAllOf : Insn → Slot → Type 0
+IsAllOf i s = (slots i ≡ s ∷ []) × Fits i
+
+-- a slot and the bytes behind it begin with an instruction
+pub record BeginsWith (s : Slot) (behind : List ℕ) (i : Insn) : Type 0 where
+  pub fit : Fits i
+  pub room : 8 * slots_of i ≤ 8 + length behind
+  pub spelled : spelling (i ∷ []) ≡ slot_bytes s ++ take (8 * (slots_of i - 1)) behind
+
+-- a slot's opcode is of these and these fields, by its high half, and none with a name of its own among the refused
+abbrev pub IsRow : Slot → (ℕ → ℕ) → (ℕ → Option Fields) → Type 0
+IsRow s opcodes fields = (s.opcode ≡ opcodes (s.opcode / 16)) × (refused_as s.opcode ≡ UnknownOpcode) × (fields_of s.opcode ≡ fields (s.opcode / 16))
+
+-- a slot is read whole, or refused with its fault
+abbrev pub IsRead : Result Insn SlotFault → Slot → Option SlotFault → Type 0
+IsRead r s fault = MatchResult r (λ i. IsAllOf i s) (λ f. fault ≡ Some f)

@@ -27,7 +27,7 @@ use Rattle.encoding.specs.declared.slot_fault.SlotFault.{SlotFault}
 use Rattle.encoding.specs.declared.slot_fault.SlotFault.TheVariants.{UnknownOpcode, BadRegister, NonzeroField, TruncatedWide, Atomic, Call, LegacyLoad}
 use Rattle.insn.specs.declared.fault.InsnFault.{InsnFault}
 use Rattle.insn.specs.declared.fault.InsnFault.TheVariants as faults
-use Rattle.insn.specs.Instruction.{read_size, reg_number, slots_of, Fits}
+use Rattle.insn.specs.Instruction.{extended_width, read_size, reg_number, slots_of, Fits}
 use Rattle.insn.specs.Program.{IsProgram, SLOT_LIMIT, slot_count}
 
 -- ---- slots
@@ -118,11 +118,7 @@ extension_code From8To32 = pos 8
 extension_code From16To32 = pos 16
 
 abbrev pub extension_opcode : Extension → ℕ
-extension_opcode From8To64 = 0xbf
-extension_opcode From16To64 = 0xbf
-extension_opcode From32To64 = 0xbf
-extension_opcode From8To32 = 0xbc
-extension_opcode From16To32 = 0xbc
+extension_opcode extension = reg_opcode (extended_width extension) (op_code Mov)
 
 abbrev pub swap_opcode : SwapKind → ℕ
 swap_opcode ToLittle = imm_opcode W32 SWAP
@@ -253,23 +249,7 @@ pub record Spells (bytes : List ℕ) (program : List Insn) : Type 0 where
   pub fit : AllByRecursion Fits program
   pub spelled : bytes ≡ spelling program
 
--- the first instruction that is none is at this slot, and has this fault
-pub record FaultAt (bytes : List ℕ) (at : ℕ) (fault : SlotFault) : Type 0 where
-  pub before : List Insn
-  pub here : Slot
-  pub rest : List ℕ
-  pub fit : AllByRecursion Fits before
-  pub sizes : IsSlot here
-  pub at_slot : at ≡ slot_count before
-  pub spelled : bytes ≡ spelling before ++ (slot_bytes here ++ rest)
-  pub faulty : IsSlotFault here rest fault
-
--- as many bytes as some slots have, and no more than a program may have
-pub record IsWhole (bytes : List ℕ) : Type 0 where
-  pub some : 1 ≤ length bytes
-  pub slots : length bytes % 8 ≡ 0
-  pub short : length bytes ≤ 8 * SLOT_LIMIT
-
+-- a fault at a slot
 abbrev pub slot_fault_at : SlotFault → ℕ → InsnFault
 slot_fault_at UnknownOpcode at = faults.UnknownOpcode at
 slot_fault_at BadRegister at = faults.BadRegister at
@@ -279,16 +259,28 @@ slot_fault_at Atomic at = faults.Atomic at
 slot_fault_at Call at = faults.Call at
 slot_fault_at LegacyLoad at = faults.LegacyLoad at
 
+-- the first instruction that is none has this fault
+pub record FaultAt (bytes : List ℕ) (fault : InsnFault) : Type 0 where
+  pub before : List Insn
+  pub here : Slot
+  pub rest : List ℕ
+  pub name : SlotFault
+  pub fit : AllByRecursion Fits before
+  pub sizes : IsSlot here
+  pub spelled : bytes ≡ spelling before ++ (slot_bytes here ++ rest)
+  pub faulty : IsSlotFault here rest name
+  pub at_slot : fault ≡ slot_fault_at name (slot_count before)
+
+-- as many bytes as some slots have, and no more than a program may have
+pub record IsWhole (bytes : List ℕ) : Type 0 where
+  pub some : 1 ≤ length bytes
+  pub slots : length bytes % 8 ≡ 0
+  pub short : length bytes ≤ 8 * SLOT_LIMIT
+
 -- The first fault: no bytes, then a bad length, then too many slots, then the first faulty instruction.
 abbrev pub FirstInsnFault : List ℕ → InsnFault → Type 0
 FirstInsnFault bytes faults.Empty = length bytes ≡ 0
 FirstInsnFault bytes faults.BadLength = (1 ≤ length bytes) × (1 ≤ length bytes % 8)
 FirstInsnFault bytes faults.TooLong = (length bytes % 8 ≡ 0) × (8 * SLOT_LIMIT < length bytes)
-FirstInsnFault bytes (faults.UnknownOpcode at) = IsWhole bytes × FaultAt bytes at UnknownOpcode
-FirstInsnFault bytes (faults.BadRegister at) = IsWhole bytes × FaultAt bytes at BadRegister
-FirstInsnFault bytes (faults.NonzeroField at) = IsWhole bytes × FaultAt bytes at NonzeroField
-FirstInsnFault bytes (faults.TruncatedWide at) = IsWhole bytes × FaultAt bytes at TruncatedWide
-FirstInsnFault bytes (faults.Atomic at) = IsWhole bytes × FaultAt bytes at Atomic
-FirstInsnFault bytes (faults.Call at) = IsWhole bytes × FaultAt bytes at Call
-FirstInsnFault bytes (faults.LegacyLoad at) = IsWhole bytes × FaultAt bytes at LegacyLoad
 FirstInsnFault bytes faults.Memory = Unit {0}
+FirstInsnFault bytes fault = IsWhole bytes × FaultAt bytes fault

@@ -5,10 +5,8 @@ ghost use Rattle.std.specs.Int.{w32, cast_signed};
 ghost use Rattle.std.specs.List.{AllByRecursion};
 ghost use Rattle.insn.specs.declared.instruction.Insn.{Insn};
 ghost use Rattle.insn.specs.Instruction.{reg_number};
-ghost use Rattle.encoding.specs.OpcodeLaws.{code_row, fields_by_halves, imm_fields, memory_fields, move_offsets, reg_fields};
 ghost use Rattle.encoding.specs.Spelling.{imm_opcode, jump_imm_opcode, jump_reg_opcode, load_opcode, load_signed_opcode, op_code, refused_as, reg_opcode, signedness_code, slot, slot_bytes, slots, store_imm_opcode, store_reg_opcode, swap_opcode, DIVIDE, EXIT, FirstInsnFault, IsSlot, IsWhole, JUMP, JUMP_LONG, LOAD_WIDE, NEGATE, REMAINDER, Spells};
-ghost use Rattle.encoding.specs.Opcodes.{allows, cond_codes, op_codes, field_fault, fields_of, is_bad_second, slot_fault, uses, OneOf, Unused, Used};
-ghost use Rattle.encoding.specs.OpcodesParts.{BeginsWith, IsAllOf};
+ghost use Rattle.encoding.specs.Opcodes.{allows, code_row, cond_codes, op_codes, field_fault, fields_of, imm_fields, is_bad_second, memory_fields, move_offsets, reg_fields, slot_fault, uses, BeginsWith, IsRead, IsRow, OneOf, Unused, Used};
 
 use crate::codes::{cond_of, op_of};
 use crate::slot::Slot;
@@ -96,12 +94,11 @@ fn load_wide(slot: Slot, behind: &[u8]) -> Result<Insn, SlotFault>
 }
 
 /// The instruction of one slot, by its opcode: those that stand alone, and then by its low half.
-#[tactic(auto, using(crate::specs::OpcodeLaws::same_fields), unfolding(crate::specs::Opcodes::fields_of))]
+#[tactic(auto, unfolding(crate::specs::Opcodes::fields_of))]
 fn one_slot(slot: Slot) -> Result<Insn, SlotFault>
     requires one { slot.opcode ≢ LOAD_WIDE }
     requires read { refused_as slot.opcode ≡ SlotFault.UnknownOpcode }
-    ensures found { IfOk result (λ i. IsAllOf i slot) }
-    ensures fault { IfErr result (λ f. slot_fault slot [] ≡ Some f) }
+    ensures { IsRead result slot (slot_fault slot []) }
 {
     match slot.opcode {
         0x05 => jump(slot),
@@ -112,13 +109,11 @@ fn one_slot(slot: Slot) -> Result<Insn, SlotFault>
 }
 
 /// The instruction of one slot, by the low half of its opcode.
-#[tactic(auto, using(crate::proofs::Rows::by_class), unfolding(crate::specs::OpcodeLaws::fields_by_halves))]
+#[tactic(auto, using(crate::proofs::Spellings::by_class), unfolding(crate::specs::Opcodes::fields_of))]
 fn by_low_half(slot: Slot) -> Result<Insn, SlotFault>
     requires alone { (slot.opcode ≢ LOAD_WIDE) × (slot.opcode ≢ JUMP) × (slot.opcode ≢ JUMP_LONG) × (slot.opcode ≢ EXIT) }
     requires read { refused_as slot.opcode ≡ SlotFault.UnknownOpcode }
-    requires halves { fields_of slot.opcode ≡ fields_by_halves slot.opcode }
-    ensures found { IfOk result (λ i. IsAllOf i slot) }
-    ensures fault { IfErr result (λ f. slot_fault slot [] ≡ Some f) }
+    ensures { IsRead result slot (slot_fault slot []) }
 {
     match slot.opcode % 16 {
         0x4 => operation_imm(Width::W32, slot),
@@ -135,11 +130,8 @@ fn by_low_half(slot: Slot) -> Result<Insn, SlotFault>
 
 /// An operation on a register and a number, by the high half of its opcode.
 fn operation_imm(width: Width, slot: Slot) -> Result<Insn, SlotFault>
-    requires low { slot.opcode ≡ imm_opcode width (slot.opcode / 16) }
-    requires read { refused_as slot.opcode ≡ SlotFault.UnknownOpcode }
-    requires fields { fields_of slot.opcode ≡ imm_fields (slot.opcode / 16) }
-    ensures found { IfOk result (λ i. IsAllOf i slot) }
-    ensures fault { IfErr result (λ f. slot_fault slot [] ≡ Some f) }
+    requires { IsRow slot (imm_opcode width) imm_fields }
+    ensures { IsRead result slot (slot_fault slot []) }
 {
     match slot.opcode / 16 {
         0x3 => divide_imm(width, slot),
@@ -155,11 +147,8 @@ fn operation_imm(width: Width, slot: Slot) -> Result<Insn, SlotFault>
 
 /// An operation on two registers, by the high half of its opcode; a byte swap stands among them.
 fn operation_reg(width: Width, slot: Slot) -> Result<Insn, SlotFault>
-    requires low { slot.opcode ≡ reg_opcode width (slot.opcode / 16) }
-    requires read { refused_as slot.opcode ≡ SlotFault.UnknownOpcode }
-    requires fields { fields_of slot.opcode ≡ reg_fields width (slot.opcode / 16) }
-    ensures found { IfOk result (λ i. IsAllOf i slot) }
-    ensures fault { IfErr result (λ f. slot_fault slot [] ≡ Some f) }
+    requires { IsRow slot (reg_opcode width) (reg_fields width) }
+    ensures { IsRead result slot (slot_fault slot []) }
 {
     match slot.opcode / 16 {
         0x3 => divide_reg(width, slot),
@@ -177,8 +166,7 @@ fn operation_reg(width: Width, slot: Slot) -> Result<Insn, SlotFault>
 fn memory(slot: Slot) -> Result<Insn, SlotFault>
     requires class { fields_of slot.opcode ≡ memory_fields slot.opcode }
     requires read { refused_as slot.opcode ≡ SlotFault.UnknownOpcode }
-    ensures found { IfOk result (λ i. IsAllOf i slot) }
-    ensures fault { IfErr result (λ f. slot_fault slot [] ≡ Some f) }
+    ensures { IsRead result slot (slot_fault slot []) }
 {
     match slot.opcode {
         0x71 => load(Size::One, slot),
@@ -202,11 +190,8 @@ fn memory(slot: Slot) -> Result<Insn, SlotFault>
 
 /// An operation on a register and a number.
 fn alu_imm(width: Width, slot: Slot) -> Result<Insn, SlotFault>
-    requires low { slot.opcode ≡ imm_opcode width (slot.opcode / 16) }
-    requires read { refused_as slot.opcode ≡ SlotFault.UnknownOpcode }
-    requires fields { fields_of slot.opcode ≡ code_row op_codes (uses Used Unused Unused Used) (slot.opcode / 16) }
-    ensures found { IfOk result (λ i. IsAllOf i slot) }
-    ensures fault { IfErr result (λ f. slot_fault slot [] ≡ Some f) }
+    requires { IsRow slot (imm_opcode width) (code_row op_codes (uses Used Unused Unused Used)) }
+    ensures { IsRead result slot (slot_fault slot []) }
 {
     let Some(op) = op_of(slot.opcode / 16) else {
         return Err(SlotFault::UnknownOpcode);
@@ -222,11 +207,8 @@ fn alu_imm(width: Width, slot: Slot) -> Result<Insn, SlotFault>
 
 /// An operation on two registers, but a move.
 fn alu_reg(width: Width, slot: Slot) -> Result<Insn, SlotFault>
-    requires low { slot.opcode ≡ reg_opcode width (slot.opcode / 16) }
-    requires read { refused_as slot.opcode ≡ SlotFault.UnknownOpcode }
-    requires fields { fields_of slot.opcode ≡ code_row op_codes (uses Used Used Unused Unused) (slot.opcode / 16) }
-    ensures found { IfOk result (λ i. IsAllOf i slot) }
-    ensures fault { IfErr result (λ f. slot_fault slot [] ≡ Some f) }
+    requires { IsRow slot (reg_opcode width) (code_row op_codes (uses Used Used Unused Unused)) }
+    ensures { IsRead result slot (slot_fault slot []) }
 {
     let Some(op) = op_of(slot.opcode / 16) else {
         return Err(SlotFault::UnknownOpcode);
@@ -244,8 +226,7 @@ fn alu_reg(width: Width, slot: Slot) -> Result<Insn, SlotFault>
 /// A move of a register, with sign extension or without.
 fn move_reg(width: Width, slot: Slot) -> Result<Insn, SlotFault>
     requires { slot.opcode ≡ reg_opcode width (op_code AluOp.Mov) }
-    ensures found { IfOk result (λ i. IsAllOf i slot) }
-    ensures fault { IfErr result (λ f. field_fault (uses Used Used (OneOf (move_offsets width)) Unused) slot ≡ Some f) }
+    ensures { IsRead result slot (field_fault (uses Used Used (OneOf (move_offsets width)) Unused) slot) }
 {
     let dst = register(slot.dst)?;
     let src = register(slot.src)?;
@@ -271,26 +252,23 @@ fn move_reg(width: Width, slot: Slot) -> Result<Insn, SlotFault>
 /// A division by a number.
 fn divide_imm(width: Width, slot: Slot) -> Result<Insn, SlotFault>
     requires { slot.opcode ≡ imm_opcode width DIVIDE }
-    ensures found { IfOk result (λ i. IsAllOf i slot) }
-    ensures fault { IfErr result (λ f. field_fault (uses Used Unused (OneOf (0 ∷ 1 ∷ [])) Used) slot ≡ Some f) }
+    ensures { IsRead result slot (field_fault (uses Used Unused (OneOf (0 ∷ 1 ∷ [])) Used) slot) }
 {
     let dst = register(slot.dst)?;
     only_if(slot.src == 0)?;
     let signedness = signedness(slot.offset)?;
-    let operand = Operand::Imm(slot.imm);
     Ok(Insn::Divide {
         width,
         signedness,
         dst,
-        operand,
+        operand: Operand::Imm(slot.imm),
     })
 }
 
 /// A division by a register.
 fn divide_reg(width: Width, slot: Slot) -> Result<Insn, SlotFault>
     requires { slot.opcode ≡ reg_opcode width DIVIDE }
-    ensures found { IfOk result (λ i. IsAllOf i slot) }
-    ensures fault { IfErr result (λ f. field_fault (uses Used Used (OneOf (0 ∷ 1 ∷ [])) Unused) slot ≡ Some f) }
+    ensures { IsRead result slot (field_fault (uses Used Used (OneOf (0 ∷ 1 ∷ [])) Unused) slot) }
 {
     let dst = register(slot.dst)?;
     let operand = Operand::Reg(register(slot.src)?);
@@ -307,26 +285,23 @@ fn divide_reg(width: Width, slot: Slot) -> Result<Insn, SlotFault>
 /// The remainder of a division by a number.
 fn remainder_imm(width: Width, slot: Slot) -> Result<Insn, SlotFault>
     requires { slot.opcode ≡ imm_opcode width REMAINDER }
-    ensures found { IfOk result (λ i. IsAllOf i slot) }
-    ensures fault { IfErr result (λ f. field_fault (uses Used Unused (OneOf (0 ∷ 1 ∷ [])) Used) slot ≡ Some f) }
+    ensures { IsRead result slot (field_fault (uses Used Unused (OneOf (0 ∷ 1 ∷ [])) Used) slot) }
 {
     let dst = register(slot.dst)?;
     only_if(slot.src == 0)?;
     let signedness = signedness(slot.offset)?;
-    let operand = Operand::Imm(slot.imm);
     Ok(Insn::Remainder {
         width,
         signedness,
         dst,
-        operand,
+        operand: Operand::Imm(slot.imm),
     })
 }
 
 /// The remainder of a division by a register.
 fn remainder_reg(width: Width, slot: Slot) -> Result<Insn, SlotFault>
     requires { slot.opcode ≡ reg_opcode width REMAINDER }
-    ensures found { IfOk result (λ i. IsAllOf i slot) }
-    ensures fault { IfErr result (λ f. field_fault (uses Used Used (OneOf (0 ∷ 1 ∷ [])) Unused) slot ≡ Some f) }
+    ensures { IsRead result slot (field_fault (uses Used Used (OneOf (0 ∷ 1 ∷ [])) Unused) slot) }
 {
     let dst = register(slot.dst)?;
     let operand = Operand::Reg(register(slot.src)?);
@@ -343,8 +318,7 @@ fn remainder_reg(width: Width, slot: Slot) -> Result<Insn, SlotFault>
 /// A negation.
 fn negate(width: Width, slot: Slot) -> Result<Insn, SlotFault>
     requires { slot.opcode ≡ imm_opcode width NEGATE }
-    ensures found { IfOk result (λ i. IsAllOf i slot) }
-    ensures fault { IfErr result (λ f. field_fault (uses Used Unused Unused Unused) slot ≡ Some f) }
+    ensures { IsRead result slot (field_fault (uses Used Unused Unused Unused) slot) }
 {
     let dst = register(slot.dst)?;
     only_if(slot.src == 0 && slot.offset == 0 && slot.imm == 0)?;
@@ -354,8 +328,7 @@ fn negate(width: Width, slot: Slot) -> Result<Insn, SlotFault>
 /// A byte swap.
 fn swap_bytes(kind: SwapKind, slot: Slot) -> Result<Insn, SlotFault>
     requires { slot.opcode ≡ swap_opcode kind }
-    ensures found { IfOk result (λ i. IsAllOf i slot) }
-    ensures fault { IfErr result (λ f. field_fault (uses Used Unused Unused (OneOf (16 ∷ 32 ∷ 64 ∷ []))) slot ≡ Some f) }
+    ensures { IsRead result slot (field_fault (uses Used Unused Unused (OneOf (16 ∷ 32 ∷ 64 ∷ []))) slot) }
 {
     let dst = register(slot.dst)?;
     only_if(slot.src == 0 && slot.offset == 0)?;
@@ -371,62 +344,55 @@ fn swap_bytes(kind: SwapKind, slot: Slot) -> Result<Insn, SlotFault>
 /// A load.
 fn load(size: Size, slot: Slot) -> Result<Insn, SlotFault>
     requires { slot.opcode ≡ load_opcode size }
-    ensures found { IfOk result (λ i. IsAllOf i slot) }
-    ensures fault { IfErr result (λ f. field_fault (uses Used Used Used Unused) slot ≡ Some f) }
+    ensures { IsRead result slot (field_fault (uses Used Used Used Unused) slot) }
 {
     let dst = register(slot.dst)?;
     let src = register(slot.src)?;
     only_if(slot.imm == 0)?;
-    let offset = slot.offset;
     Ok(Insn::Load {
         size,
         dst,
         src,
-        offset,
+        offset: slot.offset,
     })
 }
 
 /// A load with sign extension.
 fn load_signed(size: SignedSize, slot: Slot) -> Result<Insn, SlotFault>
     requires { slot.opcode ≡ load_signed_opcode size }
-    ensures found { IfOk result (λ i. IsAllOf i slot) }
-    ensures fault { IfErr result (λ f. field_fault (uses Used Used Used Unused) slot ≡ Some f) }
+    ensures { IsRead result slot (field_fault (uses Used Used Used Unused) slot) }
 {
     let dst = register(slot.dst)?;
     let src = register(slot.src)?;
     only_if(slot.imm == 0)?;
-    let offset = slot.offset;
     Ok(Insn::LoadSigned {
         size,
         dst,
         src,
-        offset,
+        offset: slot.offset,
     })
 }
 
 /// A store of a register.
 fn store_reg(size: Size, slot: Slot) -> Result<Insn, SlotFault>
     requires { slot.opcode ≡ store_reg_opcode size }
-    ensures found { IfOk result (λ i. IsAllOf i slot) }
-    ensures fault { IfErr result (λ f. field_fault (uses Used Used Used Unused) slot ≡ Some f) }
+    ensures { IsRead result slot (field_fault (uses Used Used Used Unused) slot) }
 {
     let dst = register(slot.dst)?;
     let src = register(slot.src)?;
     only_if(slot.imm == 0)?;
-    let offset = slot.offset;
     Ok(Insn::StoreReg {
         size,
         dst,
         src,
-        offset,
+        offset: slot.offset,
     })
 }
 
 /// A store of a number.
 fn store_imm(size: Size, slot: Slot) -> Result<Insn, SlotFault>
     requires { slot.opcode ≡ store_imm_opcode size }
-    ensures found { IfOk result (λ i. IsAllOf i slot) }
-    ensures fault { IfErr result (λ f. field_fault (uses Used Unused Used Used) slot ≡ Some f) }
+    ensures { IsRead result slot (field_fault (uses Used Unused Used Used) slot) }
 {
     let dst = register(slot.dst)?;
     only_if(slot.src == 0)?;
@@ -441,8 +407,7 @@ fn store_imm(size: Size, slot: Slot) -> Result<Insn, SlotFault>
 /// A jump.
 fn jump(slot: Slot) -> Result<Insn, SlotFault>
     requires { slot.opcode ≡ JUMP }
-    ensures found { IfOk result (λ i. IsAllOf i slot) }
-    ensures fault { IfErr result (λ f. field_fault (uses Unused Unused Used Unused) slot ≡ Some f) }
+    ensures { IsRead result slot (field_fault (uses Unused Unused Used Unused) slot) }
 {
     only_if(slot.dst == 0 && slot.src == 0 && slot.imm == 0)?;
     let offset = slot.offset;
@@ -452,8 +417,7 @@ fn jump(slot: Slot) -> Result<Insn, SlotFault>
 /// A jump whose distance has 32 bits.
 fn jump_long(slot: Slot) -> Result<Insn, SlotFault>
     requires { slot.opcode ≡ JUMP_LONG }
-    ensures found { IfOk result (λ i. IsAllOf i slot) }
-    ensures fault { IfErr result (λ f. field_fault (uses Unused Unused Unused Used) slot ≡ Some f) }
+    ensures { IsRead result slot (field_fault (uses Unused Unused Unused Used) slot) }
 {
     only_if(slot.dst == 0 && slot.src == 0 && slot.offset == 0)?;
     let offset = slot.imm;
@@ -463,8 +427,7 @@ fn jump_long(slot: Slot) -> Result<Insn, SlotFault>
 /// The program's end.
 fn exit(slot: Slot) -> Result<Insn, SlotFault>
     requires { slot.opcode ≡ EXIT }
-    ensures found { IfOk result (λ i. IsAllOf i slot) }
-    ensures fault { IfErr result (λ f. field_fault (uses Unused Unused Unused Unused) slot ≡ Some f) }
+    ensures { IsRead result slot (field_fault (uses Unused Unused Unused Unused) slot) }
 {
     only_if(slot.dst == 0 && slot.src == 0 && slot.offset == 0 && slot.imm == 0)?;
     Ok(Insn::Exit)
@@ -472,11 +435,8 @@ fn exit(slot: Slot) -> Result<Insn, SlotFault>
 
 /// A jump where a condition holds of a register and a number.
 fn jump_if_imm(width: Width, slot: Slot) -> Result<Insn, SlotFault>
-    requires low { slot.opcode ≡ jump_imm_opcode width (slot.opcode / 16) }
-    requires read { refused_as slot.opcode ≡ SlotFault.UnknownOpcode }
-    requires fields { fields_of slot.opcode ≡ code_row cond_codes (uses Used Unused Used Used) (slot.opcode / 16) }
-    ensures found { IfOk result (λ i. IsAllOf i slot) }
-    ensures fault { IfErr result (λ f. slot_fault slot [] ≡ Some f) }
+    requires { IsRow slot (jump_imm_opcode width) (code_row cond_codes (uses Used Unused Used Used)) }
+    ensures { IsRead result slot (slot_fault slot []) }
 {
     let Some(cond) = cond_of(slot.opcode / 16) else {
         return Err(SlotFault::UnknownOpcode);
@@ -503,11 +463,8 @@ fn jump_if_imm(width: Width, slot: Slot) -> Result<Insn, SlotFault>
 
 /// A jump where a condition holds of two registers.
 fn jump_if_reg(width: Width, slot: Slot) -> Result<Insn, SlotFault>
-    requires low { slot.opcode ≡ jump_reg_opcode width (slot.opcode / 16) }
-    requires read { refused_as slot.opcode ≡ SlotFault.UnknownOpcode }
-    requires fields { fields_of slot.opcode ≡ code_row cond_codes (uses Used Used Used Unused) (slot.opcode / 16) }
-    ensures found { IfOk result (λ i. IsAllOf i slot) }
-    ensures fault { IfErr result (λ f. slot_fault slot [] ≡ Some f) }
+    requires { IsRow slot (jump_reg_opcode width) (code_row cond_codes (uses Used Used Used Unused)) }
+    ensures { IsRead result slot (slot_fault slot []) }
 {
     let Some(cond) = cond_of(slot.opcode / 16) else {
         return Err(SlotFault::UnknownOpcode);

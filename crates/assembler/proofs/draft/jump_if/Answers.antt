@@ -1,10 +1,5 @@
-use Rattle.std.proofs.Common.{subst}
-use Rattle.assembler.specs.declared.draft.Jump.{Jump}
-use Rattle.assembler.specs.DraftsParts.{HasTarget}
 use Rattle.assembler.proofs.Jumps.{jump_if_draft}
 use Rattle.assembler.proofs.draft.jump_if.Goals as goal
 
 pub returns : goal.returns
-returns c =
-    let t = subst (λ (j : Jump). HasTarget j c.args.target.now c.jump_to.result) c.condition.ensures c.jump_to.ensures in
-    jump_if_draft c.args.width c.args.cond c.in_ok-dst.dst c.in_ok-source.source c.args.dst.now c.args.source.now c.args.target.now c.in_ok-dst.ensures.some c.in_ok-source.ensures c.jump_to.result t
+returns c = jump_if_draft c.args.width c.args.cond c.in_ok-dst.dst c.in_ok-source.source c.args.dst.now c.args.source.now c.args.target.now c.in_ok-dst.ensures.some c.in_ok-source.ensures c.jump_to.result c.jump_to.ensures

@@ -2,7 +2,7 @@ use Rattle.std.proofs.Common.{◌≡◌, ◌<◌, ◌^◌, ◌∙◌, ap, length
 use Rattle.std.specs.Int.{cast_signed, cast_unsigned}
 use Rattle.std.proofs.lemmas.Int.{to_z-of_z}
 use Rattle.encoding.specs.Spelling.{slot, slot_bytes}
-use Rattle.encoding.proofs.Rows.{wide_begins}
+use Rattle.encoding.proofs.Spellings.{wide_begins}
 use Rattle.encoding.proofs.decoding.load_wide.Goals as goal
 
 pub returns-clause-found : goal.returns-clause-found
