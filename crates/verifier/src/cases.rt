@@ -1,6 +1,6 @@
 //! What waits at a slot: a few cases of what is known.
 
-ghost use Rattle.std.specs.Prelude.{◌≡◌, ◌<◌, ◌==◌, ℕ, [], ◌∷◌, IfSome, IsOk, IsSome, None, length, slice_index_or};
+ghost use Rattle.std.specs.Prelude.{◌≡◌, ◌<◌, ◌==◌, ℕ, [], ◌∷◌, IfSome, IsOk, IsSome, None, length, slice_index_or, true, false};
 ghost use Rattle.std.specs.Option.{option_map};
 ghost use Rattle.std.specs.Box.{box_value};
 ghost use Rattle.verifier.specs.Waits.{IsAdded};
@@ -62,7 +62,18 @@ struct Pair {
     other: Option<usize>,
 }
 
-/// The pair of which a join loses least: an earlier one, or a case, waiting in a place or not, with one from a place on.
+/// The first free place.
+fn free_place(places: &[Option<Box<Known>>; MOST]) -> Option<usize> {
+    for place in 0..MOST {
+        if places[place].is_none() {
+            return Some(place);
+        }
+    }
+    None
+}
+
+/// The pair of which a join loses least: an earlier one, or a case, waiting in a place or not, with one from a place on. The
+/// first one of which it loses little is near enough.
 fn nearest_to(
     places: &[Option<Box<Known>>; MOST],
     from: usize,
@@ -72,6 +83,9 @@ fn nearest_to(
 ) -> Pair {
     let mut nearest = earlier;
     for place in from..MOST {
+        if nearest.lost < MUCH {
+            return nearest;
+        }
         if let Some(waiting) = &places[place] {
             let lost = waiting.loss(known, nearest.lost);
             if lost < nearest.lost {
@@ -82,33 +96,15 @@ fn nearest_to(
     nearest
 }
 
-/// The pair of which a join loses least, among all that wait and the one that comes.
-fn nearest(places: &[Option<Box<Known>>; MOST], known: &Known) -> Pair {
-    let none = Pair {
-        lost: u32::MAX,
-        place: 0,
-        other: None,
-    };
-    let mut nearest = nearest_to(places, 0, known, None, none);
+/// The pair of which a join loses least: an earlier one, or two that wait.
+fn nearest_two(places: &[Option<Box<Known>>; MOST], earlier: Pair) -> Pair {
+    let mut nearest = earlier;
     for other in 0..MOST {
         if let Some(waiting) = &places[other] {
             nearest = nearest_to(places, other + 1, waiting, Some(other), nearest);
         }
     }
     nearest
-}
-
-/// The first place of a case that a join would cost little, or else the first free one.
-fn place_alone(places: &[Option<Box<Known>>; MOST], known: &Known) -> Option<usize> {
-    let mut free = None;
-    for place in 0..MOST {
-        match &places[place] {
-            Some(waiting) if waiting.loss(known, MUCH) < MUCH => return Some(place),
-            Some(_) => {}
-            None => free = free.or(Some(place)),
-        }
-    }
-    free
 }
 
 /// A case is joined with the one in a place; where the place is free, it may go there.
@@ -163,10 +159,20 @@ fn room_for(places: &mut [Option<Box<Known>>; MOST], known: &Known) -> Option<us
     ensures inside { IfSome result (λ place. place < 4) }
     ensures room { IsRoomFor places.old known.now places.new result }
 {
-    if let Some(place) = place_alone(places, known) {
+    let free = free_place(places);
+    let none = Pair {
+        lost: if free.is_some() { MUCH } else { u32::MAX },
+        place: 0,
+        other: None,
+    };
+    let near = nearest_to(places, 0, known, None, none);
+    if near.lost < MUCH {
+        return settle(places, within(near.place), known);
+    }
+    if let Some(place) = free {
         return settle(places, within(place), known);
     }
-    let Pair { place, other, .. } = nearest(places, known);
+    let Pair { place, other, .. } = nearest_two(places, near);
     match other {
         Some(from) => merge(places, within(place), within(from), known),
         None => settle(places, within(place), known),
@@ -209,22 +215,43 @@ impl Cases {
         }
     }
 
-    /// Adds a case: beside them, or joined with one of them, or beside them with two of them joined.
-    pub(crate) fn push(&mut self, known: Box<Known>)
+    /// Joins a case with the first of them, and says whether there is one.
+    pub(crate) fn join_first(&mut self, known: &Known) -> bool
+        ensures joined { result ≡ true → IsAdded self.old known.now self.new }
+        ensures kept { result ≡ false → self.new ≡ self.old }
+    {
+        match first_place(&self.places) {
+            Some(place) => settle(&mut self.places, place, known).is_none(),
+            None => false,
+        }
+    }
+
+    /// Adds a case: beside them, or joined with one of them, or beside them with two of them joined. Says whether it stands
+    /// beside others.
+    pub(crate) fn push(&mut self, known: Box<Known>) -> bool
         ensures { IsAdded self.old known.value self.new }
     {
-        if let Some(place) = room_for(&mut self.places, &known) {
-            self.places[place] = Some(known);
+        let others = !self.is_empty();
+        match room_for(&mut self.places, &known) {
+            Some(place) => {
+                self.places[place] = Some(known);
+                others
+            }
+            None => false,
         }
     }
 
     /// Adds a copy of a case in the same way.
-    pub(crate) fn push_copy(&mut self, alloc: Global, known: &Known) -> Result<(), AllocError>
+    pub(crate) fn push_copy(&mut self, alloc: Global, known: &Known) -> Result<bool, AllocError>
         ensures { IsOk result → IsAdded self.old known.now self.new }
     {
-        if let Some(place) = room_for(&mut self.places, known) {
-            self.places[place] = Some(Box::new(alloc, *known)?);
+        let others = !self.is_empty();
+        match room_for(&mut self.places, known) {
+            Some(place) => {
+                self.places[place] = Some(Box::new(alloc, *known)?);
+                Ok(others)
+            }
+            None => Ok(false),
         }
-        Ok(())
     }
 }

@@ -71,12 +71,11 @@ fn of_values(a: Reg, b: Reg, weights: Weights) -> u32 {
 
 /// Of what is known of eight bytes one by one: much where one is known otherwise.
 fn of_marks(a: &[Mark; 8], b: &[Mark; 8]) -> u32 {
+    let mut same = true;
     for i in 0..8 {
-        if a[i] != b[i] {
-            return BLOCK.number;
-        }
+        same = same & (a[i] == b[i]);
     }
-    0
+    if same { 0 } else { BLOCK.number }
 }
 
 /// Of eight bytes that are known one by one, and of others of which the number and each byte is known.
@@ -115,14 +114,15 @@ fn of_blocks(a: &Block, b: &Block) -> u32 {
     }
 }
 
-/// Of two stacks, added to what else is lost, as far as a bound.
+/// Of two stacks, added to what else is lost, as far as a bound: from the last block on, where C keeps its variables.
 fn of_stacks(a: &Stack, b: &Stack, lost: u32, bound: u32) -> u32 {
     let mut lost = lost;
     for i in 0..64 {
         if lost >= bound {
             return lost;
         }
-        lost = lost.saturating_add(of_blocks(&a.blocks()[i], &b.blocks()[i]));
+        let k = 63 - i;
+        lost = lost.saturating_add(of_blocks(&a.blocks()[k], &b.blocks()[k]));
     }
     lost
 }
