@@ -14,7 +14,7 @@ ghost use Rattle.endpoints.specs.Ruling.{CanMake};
 use crate::right::is_right;
 use crate::ruling::Checked;
 use clients::Registry;
-use consent::{Change, Changes, CodeFacts, Consents, Digest, Moment, RecordVersion};
+use consent::{Change, Changes, Consents, Digest, Moment, RecordVersion};
 use hook_host::{HookFault, HookHost};
 use insn::layout::Layout;
 use std::fmt::{self, Display, Formatter, Write};
@@ -66,58 +66,14 @@ impl From<HookFault> for RedoFault {
     }
 }
 
-// The same change.
-fn same<'a>(change: &Change<'a>) -> Change<'a>
-    ensures { result ≡ change.now }
-{
-    match change {
-        Change::Consented {
-            owner,
-            client,
-            mask,
-        } => Change::Consented {
-            owner: *owner,
-            client: *client,
-            mask: *mask,
-        },
-        Change::CodeGiven { facts, digest } => Change::CodeGiven {
-            facts: CodeFacts {
-                client: facts.client,
-                owner: facts.owner,
-                scope: facts.scope,
-                redirect: facts.redirect,
-                challenge: facts.challenge,
-            },
-            digest: *digest,
-        },
-        Change::IssuedAlone { client, token } => Change::IssuedAlone {
-            client: *client,
-            token: *token,
-        },
-        Change::Issued { of, token } => Change::Issued {
-            of: *of,
-            token: *token,
-        },
-        Change::Spent { digest } => Change::Spent { digest: *digest },
-        Change::FamilyEnded { of } => Change::FamilyEnded { of: *of },
-        Change::HookSet {
-            name,
-            version,
-            code,
-        } => Change::HookSet {
-            name,
-            version: *version,
-            code,
-        },
-        Change::HookGone { name } => Change::HookGone { name },
-    }
-}
-
 /// The change, by itself.
 pub(crate) fn alone<'a>(change: &Change<'a>) -> Changes<'a>
     ensures { as_list result ≡ change.now ∷ [] }
 {
-    Changes::One(same(change))
+    match Some(change).copied() {
+        Some(change) => Changes::One(change),
+        None => Changes::Nothing,
+    }
 }
 
 // Whether the digest names something that is unexpired.

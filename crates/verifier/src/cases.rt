@@ -6,8 +6,8 @@ ghost use Rattle.std.specs.Box.{box_value};
 ghost use Rattle.verifier.specs.Waits.{IsAdded};
 ghost use Rattle.verifier.specs.WaitsParts.{IsFirst, IsFirstPlace, IsRoomFor};
 
-use crate::difference::MUCH;
 use crate::known::Known;
+use stack_state::difference::{MUCH, of_registers, of_stacks};
 use std::alloc::{AllocError, Global};
 use std::marker::Model;
 
@@ -64,12 +64,18 @@ struct Pair {
 
 /// The first free place.
 fn free_place(places: &[Option<Box<Known>>; MOST]) -> Option<usize> {
-    for place in 0..MOST {
-        if places[place].is_none() {
-            return Some(place);
+    places.iter().position(|place| place.is_none())
+}
+
+impl Known {
+    /// What a join with another case would lose, as far as a bound: where it is not less, some part of it.
+    fn loss(&self, other: &Known, bound: u32) -> u32 {
+        let mut lost: u32 = 0;
+        for i in 0..11 {
+            lost = lost.saturating_add(of_registers(self.registers[i], other.registers[i]));
         }
+        of_stacks(&self.stack, &other.stack, lost, bound)
     }
-    None
 }
 
 /// The pair of which a join loses least: an earlier one, or a case, waiting in a place or not, with one from a place on. The

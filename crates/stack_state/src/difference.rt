@@ -1,12 +1,11 @@
-//! What a join of two cases would lose: what is chosen by this needs no proof.
+//! What a join of two registers, or of two stacks, would lose: what is chosen by this needs no proof.
 
-use crate::known::Known;
+use crate::block::Block;
+use crate::bytes::Bytes;
+use crate::mark::Mark;
+use crate::stack::Stack;
 use reg_kind::{Reg, Span};
 use scalar::Scalar;
-use stack_state::Stack;
-use stack_state::block::Block;
-use stack_state::bytes::Bytes;
-use stack_state::mark::Mark;
 
 /// How much it counts where a join loses something.
 #[derive(Clone, Copy)]
@@ -33,7 +32,7 @@ const BLOCK: Weights = Weights {
 const RANGE: u32 = 1;
 
 /// A join that loses less than this loses bounds alone.
-pub(crate) const MUCH: u32 = 100;
+pub const MUCH: u32 = 100;
 
 /// Of two numbers: something where their bounds have nothing in common, and much where one of them is exact.
 fn of_numbers(a: Scalar, b: Scalar, weights: Weights) -> u32 {
@@ -114,8 +113,13 @@ fn of_blocks(a: &Block, b: &Block) -> u32 {
     }
 }
 
+/// Of two registers.
+pub fn of_registers(a: Reg, b: Reg) -> u32 {
+    of_values(a, b, REGISTER)
+}
+
 /// Of two stacks, added to what else is lost, as far as a bound: from the last block on, where C keeps its variables.
-fn of_stacks(a: &Stack, b: &Stack, lost: u32, bound: u32) -> u32 {
+pub fn of_stacks(a: &Stack, b: &Stack, lost: u32, bound: u32) -> u32 {
     let mut lost = lost;
     for i in 0..64 {
         if lost >= bound {
@@ -125,15 +129,4 @@ fn of_stacks(a: &Stack, b: &Stack, lost: u32, bound: u32) -> u32 {
         lost = lost.saturating_add(of_blocks(&a.blocks()[k], &b.blocks()[k]));
     }
     lost
-}
-
-impl Known {
-    /// What a join with another case would lose, as far as a bound: where it is not less, some part of it.
-    pub(crate) fn loss(&self, other: &Known, bound: u32) -> u32 {
-        let mut lost: u32 = 0;
-        for i in 0..11 {
-            lost = lost.saturating_add(of_values(self.registers[i], other.registers[i], REGISTER));
-        }
-        of_stacks(&self.stack, &other.stack, lost, bound)
-    }
 }
