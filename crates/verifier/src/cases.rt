@@ -85,9 +85,8 @@ fn nearest_to(
     from: usize,
     known: &Known,
     other: Option<usize>,
-    earlier: Pair,
+    mut nearest: Pair,
 ) -> Pair {
-    let mut nearest = earlier;
     for place in from..MOST {
         if nearest.lost < MUCH {
             return nearest;
@@ -103,8 +102,7 @@ fn nearest_to(
 }
 
 /// The pair of which a join loses least: an earlier one, or two that wait.
-fn nearest_two(places: &[Option<Box<Known>>; MOST], earlier: Pair) -> Pair {
-    let mut nearest = earlier;
+fn nearest_two(places: &[Option<Box<Known>>; MOST], mut nearest: Pair) -> Pair {
     for other in 0..MOST {
         if let Some(waiting) = &places[other] {
             nearest = nearest_to(places, other + 1, waiting, Some(other), nearest);
@@ -166,12 +164,9 @@ fn room_for(places: &mut [Option<Box<Known>>; MOST], known: &Known) -> Option<us
     ensures room { IsRoomFor places.old known.now places.new result }
 {
     let free = free_place(places);
-    let none = Pair {
-        lost: if free.is_some() { MUCH } else { u32::MAX },
-        place: 0,
-        other: None,
-    };
-    let near = nearest_to(places, 0, known, None, none);
+    let lost = if free.is_some() { MUCH } else { u32::MAX };
+    let (place, other) = (0, None);
+    let near = nearest_to(places, 0, known, other, Pair { lost, place, other });
     if near.lost < MUCH {
         return settle(places, within(near.place), known);
     }
@@ -237,11 +232,14 @@ impl Cases {
     pub(crate) fn push(&mut self, known: Box<Known>) -> bool
         ensures { IsAdded self.old known.value self.new }
     {
-        let others = !self.is_empty();
+        if self.is_empty() {
+            self.places[0] = Some(known);
+            return false;
+        }
         match room_for(&mut self.places, &known) {
             Some(place) => {
                 self.places[place] = Some(known);
-                others
+                true
             }
             None => false,
         }
@@ -251,11 +249,14 @@ impl Cases {
     pub(crate) fn push_copy(&mut self, alloc: Global, known: &Known) -> Result<bool, AllocError>
         ensures { IsOk result → IsAdded self.old known.now self.new }
     {
-        let others = !self.is_empty();
+        if self.is_empty() {
+            self.places[0] = Some(Box::new(alloc, *known)?);
+            return Ok(false);
+        }
         match room_for(&mut self.places, known) {
             Some(place) => {
                 self.places[place] = Some(Box::new(alloc, *known)?);
-                Ok(others)
+                Ok(true)
             }
             None => Ok(false),
         }
