@@ -4,23 +4,21 @@ use Rattle.std.proofs.lemmas.Bool.{cases_lt}
 use Rattle.std.proofs.lemmas.Nat.{pow_pos, xor_shr, le-div, div_below}
 use Rattle.std.proofs.Math.Nat.{div-mul-le_self}
 use Rattle.std.proofs.Math.Pow.{pow_mono}
-use Rattle.std.proofs.lemmas.Nat.Bits.{bit_at-lt, bit_at_and, bit_at_or, bit_at_xor, bit_at-zero, bit_at_ones, same_from_bits}
+use Rattle.std.proofs.lemmas.Nat.Bits.{bit_at-lt, bit_at_xor, bit_at-zero, bit_at_ones, same_from_bits}
 use Rattle.std.specs.Int.{bit_at}
-use Rattle.std.specs.Int.RustNames.{bit_and, bit_or, bit_xor}
+use Rattle.std.specs.Int.RustNames.{bit_or, bit_xor}
 use Rattle.range.specs.Widths.{IsFilled}
-use Rattle.known_bits.specs.Members.{Agrees}
-use Rattle.known_bits.proofs.Agreeing.{subset_le, agrees_at}
+use Rattle.known_bits.specs.declared.bits.KnownBits.{KnownBits}
+use Rattle.known_bits.specs.Members.{HasBits}
+use Rattle.known_bits.proofs.Agreeing.{subset_le, least_in, in_greatest}
 
 -- ---- from known bits to a range
 
-pub least_below : (v m x : ℕ) → bit_and v m ≡ 0 → Agrees v m x → v ≤ x
-least_below v m x apart h = subset_le v x (same_from_bits _ _ (λ k.
-    let meet : bit_at (bit_and v m) k ≡ bit_at 0 k = ap (λ y. bit_at y k) apart in
-    omega (arith, agrees_at v m x k h, meet, bit_at_and v m k, bit_at-zero k, bit_at_and v x k, bit_at-lt v k, bit_at-lt x k, bit_at-lt m k)))
+pub least_below : (b : KnownBits) (x : ℕ) → HasBits b x → b.value ≤ x
+least_below b x h = subset_le b.value x (least_in b x h)
 
-pub greatest_above : (v m x : ℕ) → Agrees v m x → x ≤ bit_or v m
-greatest_above v m x h = subset_le x (bit_or v m) (same_from_bits _ _ (λ k.
-    omega (arith, agrees_at v m x k h, bit_at_and x (bit_or v m) k, bit_at_or v m k, bit_at-lt v k, bit_at-lt x k, bit_at-lt m k)))
+pub greatest_above : (b : KnownBits) (x : ℕ) → HasBits b x → x ≤ bit_or b.value b.mask
+greatest_above b x h = subset_le x (bit_or b.value b.mask) (in_greatest b x h)
 
 -- ---- from a range to known bits
 

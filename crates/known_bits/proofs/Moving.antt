@@ -1,5 +1,5 @@
 -- Functions that move bits take members to members.
-use Rattle.std.proofs.Common.{◌≡◌, ℕ, ◌+◌, ◌-◌, ◌*◌, ◌/◌, ◌%◌, ◌^◌, ◌<◌, ◌⊎◌, refl, sym, ap, ◌∙◌, inl, inr, lt_of_le_of_lt, div-le_self, arith}
+use Rattle.std.proofs.Common.{◌≡◌, ℕ, ◌+◌, ◌-◌, ◌*◌, ◌/◌, ◌%◌, ◌^◌, ◌≤◌, refl, sym, ap, ◌∙◌, inl, inr, lt_of_le_of_lt, div-le_self, arith}
 use Rattle.std.proofs.lemmas.Bool.{cases_lt}
 use Rattle.std.proofs.lemmas.Nat.{pow_pos, mod_below, shr-shr}
 use Rattle.std.proofs.lemmas.Nat.Bits.{bit_at-zero, bit_at_cat_low, bit_at_cat_high}
@@ -10,23 +10,24 @@ use Rattle.insn.specs.declared.operation.Width.{Width}
 use Rattle.insn.specs.declared.operation.Width.TheVariants.{W32, W64}
 use Rattle.insn.specs.declared.operation.BinOp.TheVariants.{Lsh, Rsh}
 use Rattle.insn.specs.Word.{seen, word_result}
-use Rattle.known_bits.specs.Members.{Agrees}
+use Rattle.known_bits.specs.declared.bits.KnownBits.{KnownBits}
+use Rattle.known_bits.specs.Members.{Agrees, HasBits}
 use Rattle.known_bits.specs.Moves.{MovesBits}
 use Rattle.known_bits.proofs.Agreeing.{apart_bits, apart_from, bit_at_mod, bit_at_mod_above}
 
-pub moved_agrees : (f : ℕ → ℕ) (v m x : ℕ) → v < 2 ^ 64 → m < 2 ^ 64 → MovesBits f → Agrees v m x → Agrees (f v) (f m) (f x)
-moved_agrees f v m x fits mask_fits moves h = record {
+pub moved_agrees : (f : ℕ → ℕ) (b : KnownBits) (x : ℕ) → MovesBits f → HasBits b x → Agrees (f b.value) (f b.mask) (f x)
+moved_agrees f b x moves h = record {
   word = moves.fits x h.word;
   same = λ k clear. elim (moves.source k) [
-    | inl none ↦ none x h.word ∙ sym (none v fits)
-    | inr s ↦ s.1 x h.word ∙ h.same s.0 (sym (s.1 m mask_fits) ∙ clear) ∙ sym (s.1 v fits)
+    | inl none ↦ none x h.word ∙ sym (none b.value b.fits)
+    | inr s ↦ s.1 x h.word ∙ h.same s.0 (sym (s.1 b.mask b.mask_fits) ∙ clear) ∙ sym (s.1 b.value b.fits)
   ];
 }
 
-pub moved_apart : (f : ℕ → ℕ) (v m : ℕ) → v < 2 ^ 64 → m < 2 ^ 64 → MovesBits f → bit_and v m ≡ 0 → bit_and (f v) (f m) ≡ 0
-moved_apart f v m fits mask_fits moves apart = apart_from (f v) (f m) (λ k. elim (moves.source k) [
-  | inl none ↦ omega (arith, none v fits)
-  | inr s ↦ omega (arith, s.1 v fits, s.1 m mask_fits, apart_bits v m s.0 apart)
+pub moved_apart : (f : ℕ → ℕ) (b : KnownBits) → MovesBits f → bit_and (f b.value) (f b.mask) ≡ 0
+moved_apart f b moves = apart_from (f b.value) (f b.mask) (λ k. elim (moves.source k) [
+  | inl none ↦ omega (arith, none b.value b.fits)
+  | inr s ↦ omega (arith, s.1 b.value b.fits, s.1 b.mask b.mask_fits, apart_bits b s.0)
 ])
 
 -- one move after another
@@ -63,23 +64,20 @@ down_moves j = record {
 }
 
 -- bits moved up
-up_source : (j b k : ℕ) → ((n : ℕ) → n < 2 ^ 64 → bit_at ((n * 2 ^ j) % 2 ^ b) k ≡ 0) ⊎ ((s : ℕ) × ((n : ℕ) → n < 2 ^ 64 → bit_at ((n * 2 ^ j) % 2 ^ b) k ≡ bit_at n s))
-up_source j b k = elim (cases_lt k b) [
-  | inr above ↦ inl (λ n h. bit_at_mod_above (n * 2 ^ j) b k above)
-  | inl within ↦ elim (cases_lt k j) [
-    | inl low ↦ inl (λ n h. bit_at_mod (n * 2 ^ j) b k within ∙ ap (λ q. bit_at q k) (whole n) ∙ bit_at_cat_low n j 0 k low ∙ bit_at-zero k)
-    | inr high ↦ inr (k - j, λ n h. bit_at_mod (n * 2 ^ j) b k within ∙ ap (λ q. bit_at q k) (whole n) ∙ bit_at_cat_high n j 0 k (pow_pos j) high)
-  ]
-]
+pub up_moves : (b j : ℕ) → 2 ^ b ≤ 2 ^ 64 → MovesBits (λ n. (n * 2 ^ j) % 2 ^ b)
+up_moves b j power = record {
+  fits = λ n h. let small = mod_below (n * 2 ^ j) (2 ^ b) (pow_pos b) in omega arith;
+  source = λ k. elim (cases_lt k b) [
+    | inr above ↦ inl (λ n h. bit_at_mod_above (n * 2 ^ j) b k above)
+    | inl within ↦ elim (cases_lt k j) [
+      | inl low ↦ inl (λ n h. bit_at_mod (n * 2 ^ j) b k within ∙ ap (λ q. bit_at q k) (whole n) ∙ bit_at_cat_low n j 0 k low ∙ bit_at-zero k)
+      | inr high ↦ inr (k - j, λ n h. bit_at_mod (n * 2 ^ j) b k within ∙ ap (λ q. bit_at q k) (whole n) ∙ bit_at_cat_high n j 0 k (pow_pos j) high)
+    ]
+  ];
+}
   where
     whole : (n : ℕ) → n * 2 ^ j ≡ n * 2 ^ j + 0
     whole n = omega arith
-
-pub up_moves_64 : (j : ℕ) → MovesBits (λ n. (n * 2 ^ j) % 2 ^ 64)
-up_moves_64 j = record { fits = λ n h. mod_below (n * 2 ^ j) (2 ^ 64) (pow_pos 64); source = up_source j 64 }
-
-pub up_moves_32 : (j : ℕ) → MovesBits (λ n. (n * 2 ^ j) % 2 ^ 32)
-up_moves_32 j = record { fits = λ n h. let small = mod_below (n * 2 ^ j) (2 ^ 32) (pow_pos 32) in omega arith; source = up_source j 32 }
 
 -- ---- what a width sees, and shifts
 
@@ -88,8 +86,8 @@ seen_moves W32 = low_moves 32
 seen_moves W64 = stays_moves
 
 pub left_shift_moves : (w : Width) (n : ℕ) → MovesBits (λ x. word_result w Lsh x n)
-left_shift_moves W32 n = then_moves (seen W32) _ (seen_moves W32) (up_moves_32 (n % 2 ^ 32 % 32))
-left_shift_moves W64 n = up_moves_64 (n % 64)
+left_shift_moves W32 n = then_moves (seen W32) _ (seen_moves W32) (up_moves 32 (n % 2 ^ 32 % 32) (omega arith))
+left_shift_moves W64 n = up_moves 64 (n % 64) (omega arith)
 
 pub right_shift_moves : (w : Width) (n : ℕ) → MovesBits (λ x. word_result w Rsh x n)
 right_shift_moves W32 n = then_moves (seen W32) _ (seen_moves W32) (down_moves (n % 2 ^ 32 % 32))

@@ -1,6 +1,7 @@
 -- What is known of words for which a condition has an answer.
 use Rattle.std.proofs.Common.{◌≡◌, ℕ, suc, zero, ◌+◌, ◌-◌, ◌*◌, ◌/◌, ◌%◌, ◌^◌, ◌<◌, refl, sym, ap, subst, ◌∙◌, inl, inr, Bool, true, false, not, IsTrue, arith, w64}
 use Rattle.std.proofs.lemmas.Bool.{cases_lt, cases_eq}
+use Rattle.std.proofs.lemmas.Bool.Decides.{nat_tests}
 use Rattle.std.proofs.lemmas.Nat.{pow_pos, mod_below, mod_low, shr-shr}
 use Rattle.std.proofs.lemmas.Nat.Bits.{and_pow, bit_at-lt, bit_at-zero, bit_at-pow_same, bit_at-trailing_zeros, same_from_bits, bit_at_above, bit_at_and, bit_at_or, bit_at_not, bit_at-pow_other, bit_at_mask_below, bit_at_mask_inside, bit_at_cat_low, bit_at_cat_high}
 use Rattle.std.specs.Int.{bit_at, bit_not, trailing_zeros}
@@ -9,13 +10,13 @@ use mathlib.Core.Bool.{beq}
 use Rattle.insn.specs.declared.operation.Width.{Width}
 use Rattle.insn.specs.declared.operation.Width.TheVariants.{W32, W64}
 use Rattle.insn.specs.declared.operation.Cond.{Cond}
+use Rattle.insn.specs.declared.operation.Cond.TheVariants.{Set}
 use Rattle.insn.specs.Word.{seen, word_holds}
 use Rattle.known_bits.specs.declared.bits.KnownBits.{KnownBits}
 use Rattle.known_bits.specs.Members.{Agrees, HasBits}
 use Rattle.known_bits.specs.Refined.{HasPartner}
-use Rattle.known_bits.proofs.Agreeing.{apart_bits, apart_from, agrees_below, bit_at_mod, bit_cases, set_below}
-use Rattle.known_bits.proofs.Witnesses.{IsKnown}
-use Rattle.known_bits.proofs.Results.{seen_set}
+use Rattle.known_bits.proofs.Agreeing.{apart_bits, apart_from, agrees_below, agrees_self, bit_at_mod, bit_cases, member_of_single, set_below}
+use Rattle.known_bits.proofs.Results.{cut_has, seen_set}
 
 -- ---- words that a width sees alike
 
@@ -23,10 +24,10 @@ use Rattle.known_bits.proofs.Results.{seen_set}
 abbrev upper : ℕ
 upper = 2 ^ 64 - 2 ^ 32
 
-pub alike_apart : (v m : ℕ) → v < 2 ^ 32 → bit_and v m ≡ 0 → bit_and v (bit_or m upper) ≡ 0
-alike_apart v m low apart = apart_from v (bit_or m upper) (λ k. elim (cases_lt k 32) [
-  | inl below ↦ omega (arith, bit_at_or m upper k, bit_at_mask_below 32 64 k below, apart_bits v m k apart)
-  | inr above ↦ omega (arith, bit_at_above v 32 k low above)
+pub alike_apart : (b : KnownBits) → b.value < 2 ^ 32 → bit_and b.value (bit_or b.mask upper) ≡ 0
+alike_apart b low = apart_from b.value (bit_or b.mask upper) (λ k. elim (cases_lt k 32) [
+  | inl below ↦ omega (arith, bit_at_or b.mask upper k, bit_at_mask_below 32 64 k below, apart_bits b k)
+  | inr above ↦ omega (arith, bit_at_above b.value 32 k low above)
 ])
 
 pub alike_has : (v m x y : ℕ) → v < 2 ^ 32 → y < 2 ^ 64 → Agrees v m (x % 2 ^ 32) → x % 2 ^ 32 ≡ y % 2 ^ 32 → Agrees v (bit_or m upper) y
@@ -41,11 +42,11 @@ alike_has v m x y low word h same = agrees_below v (bit_or m upper) y word (omeg
 abbrev with_low : ℕ → ℕ → ℕ
 with_low v y = v / 2 ^ 32 * 2 ^ 32 + y % 2 ^ 32
 
-pub alike_partner : (b low : KnownBits) (y : ℕ) → IsKnown b → low.value ≡ b.value % 2 ^ 32 → low.mask ≡ b.mask % 2 ^ 32 → Agrees low.value (bit_or low.mask upper) y → HasPartner W32 b y
-alike_partner b low y known value mask h = record {
+pub alike_partner : (b low : KnownBits) (y : ℕ) → low.value ≡ b.value % 2 ^ 32 → low.mask ≡ b.mask % 2 ^ 32 → Agrees low.value (bit_or low.mask upper) y → HasPartner W32 b y
+alike_partner b low y value mask h = record {
   partner = with_low b.value y;
   there = record {
-    word = let fits = known.fits in omega arith;
+    word = let fits = b.fits in omega arith;
     same = λ k clear. elim (cases_lt k 32) [
       | inl below ↦
           let masked : bit_at low.mask k ≡ 0 = ap (λ n. bit_at n k) mask ∙ bit_at_mod b.mask 32 k below ∙ clear in
@@ -63,21 +64,21 @@ alike_partner b low y known value mask h = record {
 
 -- ---- words of which some bits are known
 
-pub limited_has : (r : KnownBits) (t wanted x : ℕ) → IsKnown r → t < 2 ^ 64 → x < 2 ^ 64 → r.mask ≡ bit_not w64 t
+limited_has : (r : KnownBits) (t wanted x : ℕ) → t < 2 ^ 64 → x < 2 ^ 64 → r.mask ≡ bit_not w64 t
     → ((k : ℕ) → bit_at r.mask k ≡ 0 → bit_at r.value k ≡ bit_at wanted k) → ((k : ℕ) → bit_at t k ≡ 1 → bit_at x k ≡ bit_at wanted k) → HasBits r x
-limited_has r t wanted x known fits word mask value each = agrees_below r.value r.mask x word known.fits (λ k low clear.
+limited_has r t wanted x fits word mask value each = agrees_below r.value r.mask x word r.fits (λ k low clear.
     let here : bit_at (bit_not w64 t) k ≡ 0 = ap (λ m. bit_at m k) (sym mask) ∙ clear in
     each k (omega (arith, here, bit_at_not w64 t k fits low, bit_at-lt t k)) ∙ sym (value k clear))
 
 -- a bit that is tested, where no bit is common
-pub untouched : (w : Width) (x y t k : ℕ) → seen w y ≡ t → bit_and (seen w x) (seen w y) ≡ 0 → bit_at t k ≡ 1 → bit_at x k ≡ bit_at 0 k
+untouched : (w : Width) (x y t k : ℕ) → seen w y ≡ t → bit_and (seen w x) (seen w y) ≡ 0 → bit_at t k ≡ 1 → bit_at x k ≡ bit_at 0 k
 untouched w x y t k is none set =
     let tested : bit_at (seen w y) k ≡ 1 = ap (λ n. bit_at n k) is ∙ set in
     let clear : bit_at (bit_and (seen w x) (seen w y)) k ≡ bit_at 0 k = ap (λ n. bit_at n k) none in
     let whole = (seen_set w y k tested).1 x in
     omega (arith, tested, clear, whole, bit_at_and (seen w x) (seen w y) k, bit_at-zero k, bit_at-lt (seen w x) k)
 
-pub bit_of_power : (j k : ℕ) → bit_at (2 ^ j) k ≡ 1 → k ≡ j
+bit_of_power : (j k : ℕ) → bit_at (2 ^ j) k ≡ 1 → k ≡ j
 bit_of_power j k set = elim (cases_eq k j) [
   | inl same ↦ same
   | inr other ↦ absurd (omega (arith, set, bit_at-pow_other j k other))
@@ -93,13 +94,30 @@ power_touches n j some = elim (cases_lt (bit_at n j) 1) [
 ]
 
 -- the one bit that is tested, where a bit is common
-pub touched : (w : Width) (x y t j k : ℕ) → seen w y ≡ t → t ≡ 2 ^ j → 0 < bit_and (seen w x) (seen w y) → bit_at t k ≡ 1 → bit_at x k ≡ bit_at t k
+touched : (w : Width) (x y t j k : ℕ) → seen w y ≡ t → t ≡ 2 ^ j → 0 < bit_and (seen w x) (seen w y) → bit_at t k ≡ 1 → bit_at x k ≡ bit_at t k
 touched w x y t j k is power some set =
     let tested : bit_at (seen w y) k ≡ 1 = ap (λ n. bit_at n k) is ∙ set in
     let place : k ≡ j = bit_of_power j k (ap (λ n. bit_at n k) (sym power) ∙ set) in
     let common : 0 < bit_and (seen w x) (2 ^ j) = subst (λ n. 0 < bit_and (seen w x) n) (is ∙ power) some in
     let there : bit_at (seen w x) k ≡ 1 = ap (bit_at (seen w x)) place ∙ power_touches (seen w x) j common in
     sym ((seen_set w y k tested).1 x) ∙ there ∙ sym set
+
+-- a word that has no bit that is tested has the bits outside these
+pub untouched_has : (w : Width) (b t r : KnownBits) (x y : ℕ) → t.value ≡ seen w b.value → t.mask ≡ seen w b.mask → t.mask ≡ 0 → r.mask ≡ bit_not w64 t.value
+    → ((k : ℕ) → bit_at r.mask k ≡ 0 → bit_at r.value k ≡ bit_at 0 k) → x < 2 ^ 64 → HasBits b y → word_holds w Set x y ≡ false → HasBits r x
+untouched_has w b t r x y value mask clear limit each word hy taken =
+    let tested = member_of_single t (seen w y) clear (cut_has w b t y value mask hy) in
+    let none : bit_and (seen w x) (seen w y) ≡ 0 = grind (arith, nat_tests) in
+    limited_has r t.value 0 x t.fits word limit each (λ k set. untouched w x y t.value k tested none set)
+
+-- so has one that has the only bit that is tested
+pub touched_has : (w : Width) (b t r : KnownBits) (j x y : ℕ) → t.value ≡ seen w b.value → t.mask ≡ seen w b.mask → ((z : ℕ) → HasBits t z → z ≡ 2 ^ j) → r.mask ≡ bit_not w64 t.value
+    → ((k : ℕ) → bit_at r.mask k ≡ 0 → bit_at r.value k ≡ bit_at t.value k) → x < 2 ^ 64 → HasBits b y → word_holds w Set x y ≡ true → HasBits r x
+touched_has w b t r j x y value mask one limit each word hy taken =
+    let power = one t.value (agrees_self t) in
+    let tested = one (seen w y) (cut_has w b t y value mask hy) ∙ sym power in
+    let some : 0 < bit_and (seen w x) (seen w y) = grind (arith, nat_tests) in
+    limited_has r t.value t.value x t.fits word limit each (λ k set. touched w x y t.value j k tested power some set)
 
 -- ---- conditions of single words
 

@@ -6,7 +6,7 @@ use Rattle.std.proofs.lemmas.Nat.Bits.{bit_at_above}
 use Rattle.std.specs.Int.{Width as IntWidth, bit_at, swap_bytes}
 use mir.Val.{bits}
 use Rattle.insn.specs.declared.operation.SwapKind.{SwapKind}
-use Rattle.insn.specs.declared.operation.SwapKind.TheVariants.{ToLittle, ToBig, Swap}
+use Rattle.insn.specs.declared.operation.SwapKind.TheVariants.{ToLittle}
 use Rattle.insn.specs.declared.operation.SwapBits.{SwapBits}
 use Rattle.insn.specs.declared.operation.SwapBits.TheVariants as swapped
 use Rattle.insn.specs.Word.{swap_width, word_swapped, wrapped}
@@ -24,27 +24,16 @@ abbrev Reverses : IntWidth → ℕ → Type 0
 Reverses w last = (j n : ℕ) → j ≤ last → swap_bytes w n / 2 ^ (8 * j) % 2 ^ 8 ≡ n / 2 ^ (8 * (last - j)) % 2 ^ 8
 
 reverses_16 : Reverses w16 1
-reverses_16 zero n h = omega arith
 reverses_16 (suc zero) n h = omega arith
-reverses_16 (suc (suc j)) n h = absurd (omega arith)
+reverses_16 j n h = omega arith
 
 reverses_32 : Reverses w32 3
-reverses_32 zero n h = omega arith
-reverses_32 (suc zero) n h = omega arith
-reverses_32 (suc (suc zero)) n h = omega arith
 reverses_32 (suc (suc (suc zero))) n h = omega arith
-reverses_32 (suc (suc (suc (suc j)))) n h = absurd (omega arith)
+reverses_32 j n h = omega arith
 
 reverses_64 : Reverses w64 7
-reverses_64 zero n h = omega arith
-reverses_64 (suc zero) n h = omega arith
-reverses_64 (suc (suc zero)) n h = omega arith
-reverses_64 (suc (suc (suc zero))) n h = omega arith
-reverses_64 (suc (suc (suc (suc zero)))) n h = omega arith
-reverses_64 (suc (suc (suc (suc (suc zero))))) n h = omega arith
-reverses_64 (suc (suc (suc (suc (suc (suc zero)))))) n h = omega arith
 reverses_64 (suc (suc (suc (suc (suc (suc (suc zero))))))) n h = omega arith
-reverses_64 (suc (suc (suc (suc (suc (suc (suc (suc j)))))))) n h = absurd (omega arith)
+reverses_64 j n h = omega arith
 
 -- the bit that a swap takes to a place
 swap_source : (w : IntWidth) (last k : ℕ) → Reverses w last → k < 8 * (last + 1) → (n : ℕ) → bit_at (swap_bytes w n) k ≡ bit_at n (8 * (last - k / 8) + k % 8)
@@ -68,9 +57,6 @@ swapped_moves_by w last reverses long narrow fits power = record {
 
 pub swap_moves : (kind : SwapKind) (n : SwapBits) → MovesBits (λ x. word_swapped kind n x)
 swap_moves ToLittle n = low_moves (bits (swap_width n))
-swap_moves ToBig swapped.B16 = swapped_moves_by w16 1 reverses_16 refl (omega arith) (λ n. word_swapped_fits ToBig swapped.B16 n) (omega arith)
-swap_moves ToBig swapped.B32 = swapped_moves_by w32 3 reverses_32 refl (omega arith) (λ n. word_swapped_fits ToBig swapped.B32 n) (omega arith)
-swap_moves ToBig swapped.B64 = swapped_moves_by w64 7 reverses_64 refl (omega arith) (λ n. word_swapped_fits ToBig swapped.B64 n) (omega arith)
-swap_moves Swap swapped.B16 = swapped_moves_by w16 1 reverses_16 refl (omega arith) (λ n. word_swapped_fits Swap swapped.B16 n) (omega arith)
-swap_moves Swap swapped.B32 = swapped_moves_by w32 3 reverses_32 refl (omega arith) (λ n. word_swapped_fits Swap swapped.B32 n) (omega arith)
-swap_moves Swap swapped.B64 = swapped_moves_by w64 7 reverses_64 refl (omega arith) (λ n. word_swapped_fits Swap swapped.B64 n) (omega arith)
+swap_moves kind swapped.B16 = swapped_moves_by w16 1 reverses_16 refl (omega arith) (λ n. word_swapped_fits kind swapped.B16 n) (omega arith)
+swap_moves kind swapped.B32 = swapped_moves_by w32 3 reverses_32 refl (omega arith) (λ n. word_swapped_fits kind swapped.B32 n) (omega arith)
+swap_moves kind swapped.B64 = swapped_moves_by w64 7 reverses_64 refl (omega arith) (λ n. word_swapped_fits kind swapped.B64 n) (omega arith)

@@ -3,7 +3,7 @@ use Rattle.std.specs.Prelude.{◌≡◌, ℕ, ◌+◌, ◌/◌, ◌%◌, ◌^◌
 use Rattle.std.specs.Int.{bit_at}
 use Rattle.insn.specs.declared.operation.Width.{Width}
 use Rattle.insn.specs.declared.operation.BinOp.{BinOp}
-use Rattle.insn.specs.declared.operation.BinOp.TheVariants.{Add, Sub, Mul, Div, Sdiv, Or, And, Lsh, Rsh, Mod, Smod, Xor, Mov, Arsh}
+use Rattle.insn.specs.declared.operation.BinOp.TheVariants.{Mul, Div, Sdiv, Lsh, Rsh, Mod, Smod, Arsh}
 use Rattle.insn.specs.declared.operation.UnOp.{UnOp}
 use Rattle.insn.specs.Word.{unary_result, word_result}
 use Rattle.known_bits.specs.declared.bits.KnownBits.{KnownBits}
@@ -11,20 +11,15 @@ use Rattle.known_bits.specs.Members.{HasBits}
 
 -- operations that leave no bit unknown without need: shifts do where the amount is known
 abbrev pub is_exact : BinOp → KnownBits → Bool
-is_exact Add b = true
-is_exact Sub b = true
 is_exact Mul b = false
 is_exact Div b = false
 is_exact Sdiv b = false
-is_exact Or b = true
-is_exact And b = true
-is_exact Lsh b = b.mask == 0
-is_exact Rsh b = b.mask == 0
 is_exact Mod b = false
 is_exact Smod b = false
-is_exact Xor b = true
-is_exact Mov b = true
+is_exact Lsh b = b.mask == 0
+is_exact Rsh b = b.mask == 0
 is_exact Arsh b = b.mask == 0
+is_exact op b = true
 
 -- a bit comes out so for some members of the operands
 pub record Gives (op : BinOp) (w : Width) (a b : KnownBits) (k bit : ℕ) : Type 0 where

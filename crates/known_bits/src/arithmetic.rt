@@ -2,7 +2,7 @@
 
 ghost use Rattle.std.specs.Prelude.{◌≡◌, ◌<◌, ◌^◌, ◌*◌, ◌%◌, ◌↔◌, ℕ, IfNone, IfSome};
 ghost use Rattle.std.specs.Int.{bit_at, w64, bit_not};
-ghost use Rattle.std.specs.Int.RustNames.{bit_or};
+ghost use Rattle.std.specs.Int.RustNames.{bit_and};
 ghost use Rattle.range.specs.Domain.{IsSoundResult};
 ghost use Rattle.known_bits.specs.Exact.{carry};
 
@@ -33,8 +33,8 @@ impl KnownBits {
 
     /// The words whose complements are in it.
     fn complement(self) -> KnownBits
+        ensures has { (x : ℕ) → x < 2 ^ 64 → HasBits result x ↔ HasBits self (bit_not w64 x) }
         ensures mask { result.mask ≡ self.mask }
-        ensures value { result.value ≡ bit_not w64 (bit_or self.value self.mask) }
     {
         KnownBits::new(!self.greatest(), self.mask)
     }
@@ -47,13 +47,20 @@ impl KnownBits {
         KnownBits::sum(a.complement(), b).complement()
     }
 
+    /// The words that have the bits of a least one, and none but those of a greatest one.
+    fn between(least: u64, greatest: u64) -> KnownBits
+        ensures value { result.value ≡ least }
+        ensures mask { result.mask ≡ bit_and greatest (bit_not w64 least) }
+    {
+        KnownBits::new(least, greatest & !least)
+    }
+
     /// The bits of both words.
     pub(crate) fn both(a: KnownBits, b: KnownBits) -> KnownBits
         ensures sound { IsSoundResult HasBits BinOp.And Width.W64 a b result }
         ensures exact { IsExact BinOp.And Width.W64 a b result }
     {
-        let value = a.value & b.value;
-        KnownBits::new(value, a.greatest() & b.greatest() & !value)
+        KnownBits::between(a.value & b.value, a.greatest() & b.greatest())
     }
 
     /// The bits of either word.
@@ -61,8 +68,7 @@ impl KnownBits {
         ensures sound { IsSoundResult HasBits BinOp.Or Width.W64 a b result }
         ensures exact { IsExact BinOp.Or Width.W64 a b result }
     {
-        let value = a.value | b.value;
-        KnownBits::new(value, (a.mask | b.mask) & !value)
+        KnownBits::between(a.value | b.value, a.greatest() | b.greatest())
     }
 
     /// The bits of one word alone.

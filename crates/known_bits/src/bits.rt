@@ -18,6 +18,8 @@ const LOW_HALF: u64 = 0x1_0000_0000;
 pub struct KnownBits {
     pub(crate) value: u64,
     pub(crate) mask: u64,
+    ghost fits: { value < 2 ^ 64 },
+    ghost mask_fits: { mask < 2 ^ 64 },
     ghost apart: { bit_and value mask ≡ 0 },
 }
 

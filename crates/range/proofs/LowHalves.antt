@@ -1,10 +1,10 @@
 -- Low halves of words, and of results of operations on words.
-use Rattle.std.proofs.Common.{◌≡◌, ℕ, ℤ, pos, negsuc, zero, suc, lt_of_le_of_lt, ◌+◌, ◌-◌, ◌*◌, ◌%◌, ◌^◌, ◌<◌, ◌≤◌, ◌≤ℤ◌, ◌<ℤ◌, ◌+ℤ◌, ◌-ℤ◌, FitsSigned, subst, ◌⊎◌, inl, inr, bit_and, bit_or, bit_xor, w8, w16, w32, w64, sym, ap, ◌∙◌, refl, arith}
+use Rattle.std.proofs.Common.{◌≡◌, ℕ, ℤ, pos, negsuc, zero, suc, lt_of_le_of_lt, ◌+◌, ◌-◌, ◌*◌, ◌%◌, ◌^◌, ◌<◌, ◌≤◌, ◌≤ℤ◌, ◌<ℤ◌, FitsSigned, ◌⊎◌, inl, inr, bit_and, bit_or, bit_xor, w8, w16, w32, w64, sym, ap, ◌∙◌, refl, arith}
 use mir.Val.{bits}
 use Rattle.std.specs.Int.{Width as IntWidth, cast_signed, cast_unsigned, int_shr}
 use Rattle.std.specs.Int.Signed.{mag_shr, mag_rem}
 use Rattle.std.specs.Int.RustNames.{int_div, int_rem}
-use Rattle.std.proofs.Math.Facts.{Fits-of_z, sfits_to_z, sfits_widen}
+use Rattle.std.proofs.Math.Facts.{sfits_to_z, sfits_widen}
 use Rattle.std.proofs.lemmas.Bool.{cases_lt}
 use Rattle.std.proofs.lemmas.Int.{ints, to_z-of_z, of_z-to_z, to_z_pos}
 use Rattle.std.proofs.lemmas.Nat.{and_mod, or_mod, xor_mod, mul-mod, mul-mod_first, and_mask, pow-add}
@@ -12,18 +12,16 @@ use Rattle.std.proofs.Math.Nat.{mul_assoc, div-le_self}
 use Rattle.insn.specs.declared.operation.Width.{Width}
 use Rattle.insn.specs.declared.operation.Width.TheVariants.{W32, W64}
 use Rattle.insn.specs.declared.operation.BinOp.{BinOp}
-use Rattle.insn.specs.declared.operation.BinOp.TheVariants.{Add, Sub, Mul, Div, Sdiv, Or, And, Lsh, Rsh, Mod, Smod, Xor, Mov, Arsh}
+use Rattle.insn.specs.declared.operation.BinOp.TheVariants.{Add, Sub, Mul, Sdiv, Or, And, Lsh, Smod, Xor, Mov, Arsh}
 use Rattle.insn.specs.declared.operation.ExtendBits.{ExtendBits}
 use Rattle.insn.specs.declared.operation.ExtendBits.TheVariants.{B8, B16, B32}
-use Rattle.insn.specs.Word.{int_width, signed_quotient, signed_remainder, word_extended, word_negated, word_result}
+use Rattle.insn.specs.Word.{extend_width, int_width, signed_quotient, signed_remainder, word_extended, word_negated, word_result, wrapped}
 use Rattle.insn.specs.WordLaws.{word_extended_fits}
 use Rattle.range.specs.declared.half.HalfRange.{HalfRange}
 use Rattle.range.specs.Half.{InHalfRange, IsHalf, IsTold, places_of}
 use Rattle.range.specs.declared.unsigned.URange.{URange}
 use Rattle.range.specs.Places.{LiesIn, signed_place}
-use Rattle.range.specs.Sets.{IsLeastPair}
 use Rattle.range.specs.Unsigned.{InRange}
-use Rattle.range.proofs.Refinements.{moved_least}
 
 -- the low half of a word, read as a signed number
 abbrev low_reading : ℕ → ℤ
@@ -57,10 +55,6 @@ extended_reading x =
 pub extended_place : (x : ℕ) → signed_place W64 (word_extended W64 B32 x) ≡ signed_place W32 x + 9223372034707292160
 extended_place x = elim (extended_is x) [ inl low ↦ omega (arith, low.0, low.1) | inr high ↦ omega (arith, high.0, high.1) ]
 
--- numbers between two that are less than one turn apart and in order after it
-pub turn_between : (l x g : ℕ) → l ≤ x → x ≤ g → g < l + 4294967296 → (l + 2147483648) % 4294967296 ≤ (g + 2147483648) % 4294967296 → ((l + 2147483648) % 4294967296 ≤ (x + 2147483648) % 4294967296) × ((x + 2147483648) % 4294967296 ≤ (g + 2147483648) % 4294967296)
-turn_between l x g h k near order = (omega arith, omega arith)
-
 -- the place of a low half, by that of its word
 pub low_place : (x : ℕ) → signed_place W32 x ≡ (signed_place W64 x + 2147483648) % 4294967296
 low_place x = omega arith
@@ -70,19 +64,12 @@ low_back x = omega arith
 
 -- ---- words by their low halves
 
-pub half_lies : (r : HalfRange) (p : URange) (x : ℕ) → places_of r ≡ p → LiesIn (signed_place W32) p x → InHalfRange r x
-half_lies r p x e h = subst (λ (q : URange). LiesIn (signed_place W32) q x) (sym e) h
-
-pub lies_half : (r : HalfRange) (p : URange) (x : ℕ) → p ≡ places_of r → InHalfRange r x → LiesIn (signed_place W32) p x
-lies_half r p x e h = subst (λ (q : URange). LiesIn (signed_place W32) q x) (sym e) h
-
 -- a place of a low half is a word of the places
 pub place_lies : (r : HalfRange) (p : URange) (x : ℕ) → p ≡ places_of r → InHalfRange r x → InRange p (signed_place W32 x)
 place_lies r p x e h =
-    let lies = lies_half r p x e h in
-    let above = lies.above in
-    let below = lies.below in
-    record { word = omega arith; above = omega arith; below = omega arith }
+    let above = h.above in
+    let below = h.below in
+    rw e (record { word = omega arith; above = omega arith; below = omega arith })
 
 -- a place of a low half is that of the word
 pub low_same : (x : ℕ) → signed_place W32 (x % 2 ^ 32) ≡ signed_place W32 x
@@ -90,15 +77,6 @@ low_same x = omega arith
 
 pub lies_at : (r : URange) (x : ℕ) → x < 2 ^ 64 → InRange r (signed_place W32 x) → LiesIn (signed_place W32) r x
 lies_at r x fits h = record { word = fits; above = h.above; below = h.below }
-
--- least ranges of places are least ranges of low halves
-pub halves_least : (R : ℕ → ℕ → Type 0) (a b d e : HalfRange) (p q l r : URange) → p ≡ places_of a → q ≡ places_of b → places_of d ≡ l → places_of e ≡ r → IsLeastPair (LiesIn (signed_place W32)) R p q l r → IsLeastPair InHalfRange R a b d e
-halves_least R a b d e p q l r at_a at_b at_d at_e h =
-    let Has = LiesIn (signed_place W32) in
-    let first = subst (λ (z : URange). IsLeastPair Has R z q l r) at_a h in
-    let second = subst (λ (z : URange). IsLeastPair Has R (places_of a) z l r) at_b first in
-    let third = subst (λ (z : URange). IsLeastPair Has R (places_of a) (places_of b) z r) (sym at_d) second in
-    moved_least places_of W32 R a b d e (subst (λ (z : URange). IsLeastPair Has R (places_of a) (places_of b) (places_of d) z) (sym at_e) third)
 
 -- the ends of a range of one low half are its place
 pub half_ends_same : (r : HalfRange) (x : ℕ) → r.greatest < 2 ^ 32 → IsHalf r x → (r.least ≡ signed_place W32 x) × (r.greatest ≡ signed_place W32 x)
@@ -138,8 +116,6 @@ told_low Sub W32 x y m n told hx hy hm hn p q = omega arith
 told_low Sub W64 x y m n told hx hy hm hn p q = omega arith
 told_low Mul W32 x y m n told hx hy hm hn p q = sym (product_low m n ∙ rw (p, q) (omega arith))
 told_low Mul W64 x y m n told hx hy hm hn p q = product_low x y ∙ sym (product_low m n ∙ rw (p, q) refl)
-told_low Div w x y m n told hx hy hm hn p q = absurd told
-told_low Sdiv w x y m n told hx hy hm hn p q = absurd told
 told_low Or W32 x y m n told hx hy hm hn p q =
     let e : bit_or (x % 2 ^ 32) (y % 2 ^ 32) ≡ bit_or m n % 2 ^ 32 = sym (or_mod m n 32 ∙ rw (p, q) refl) in
     omega arith
@@ -148,18 +124,14 @@ told_low And W32 x y m n told hx hy hm hn p q =
     let e : bit_and (x % 2 ^ 32) (y % 2 ^ 32) ≡ bit_and m n % 2 ^ 32 = sym (and_mod m n 32 ∙ rw (p, q) refl) in
     omega arith
 told_low And W64 x y m n told hx hy hm hn p q = and_mod x y 32 ∙ sym (and_mod m n 32 ∙ rw (p, q) refl)
-told_low Lsh W32 x y m n told hx hy hm hn p q = absurd told
 told_low Lsh W64 x y m n told hx hy hm hn p q = raised_low x (2 ^ (y % 64)) ∙ sym (raised_low m (2 ^ (n % 64)) ∙ rw (p, shift_same y n q) refl)
-told_low Rsh w x y m n told hx hy hm hn p q = absurd told
-told_low Mod w x y m n told hx hy hm hn p q = absurd told
-told_low Smod w x y m n told hx hy hm hn p q = absurd told
 told_low Xor W32 x y m n told hx hy hm hn p q =
     let e : bit_xor (x % 2 ^ 32) (y % 2 ^ 32) ≡ bit_xor m n % 2 ^ 32 = sym (xor_mod m n 32 ∙ rw (p, q) refl) in
     omega arith
 told_low Xor W64 x y m n told hx hy hm hn p q = xor_mod x y 32 ∙ sym (xor_mod m n 32 ∙ rw (p, q) refl)
 told_low Mov W32 x y m n told hx hy hm hn p q = omega arith
 told_low Mov W64 x y m n told hx hy hm hn p q = omega arith
-told_low Arsh w x y m n told hx hy hm hn p q = absurd told
+told_low op w x y m n told hx hy hm hn p q = absurd told
 
 -- in 32 bits the operands' upper halves are not read
 pub seen_low : (op : BinOp) (x y : ℕ) → word_result W32 op (word_extended W64 B32 x) (word_extended W64 B32 y) ≡ word_result W32 op x y
@@ -171,7 +143,7 @@ amount_low y =
     let low = extended_low y in
     omega arith
 
-pub lsh_low : (x y : ℕ) → word_result W32 Lsh x y % 2 ^ 32 ≡ word_result W64 Lsh (word_extended W64 B32 x) (bit_and (word_extended W64 B32 y) 31) % 2 ^ 32
+lsh_low : (x y : ℕ) → word_result W32 Lsh x y % 2 ^ 32 ≡ word_result W64 Lsh (word_extended W64 B32 x) (bit_and (word_extended W64 B32 y) 31) % 2 ^ 32
 lsh_low x y =
     let k = 2 ^ ((y % 2 ^ 32) % 32) in
     let amount : 2 ^ (bit_and (word_extended W64 B32 y) 31 % 64) ≡ k = ap (λ (n : ℕ). 2 ^ n) (amount_low y) in
@@ -203,7 +175,7 @@ wide_low : (z : ℤ) → FitsSigned w32 z → cast_unsigned w64 z % 2 ^ 32 ≡ c
 wide_low (pos n) fits = refl
 wide_low (negsuc n) fits = let small = fits.sfits in omega arith
 
-pub arsh_low : (x y : ℕ) → word_result W32 Arsh x y % 2 ^ 32 ≡ word_result W64 Arsh (word_extended W64 B32 x) (bit_and (word_extended W64 B32 y) 31) % 2 ^ 32
+arsh_low : (x y : ℕ) → word_result W32 Arsh x y % 2 ^ 32 ≡ word_result W64 Arsh (word_extended W64 B32 x) (bit_and (word_extended W64 B32 y) 31) % 2 ^ 32
 arsh_low x y =
     let k = (y % 2 ^ 32) % 32 in
     let small : FitsSigned w32 (low_reading x) = sfits_to_z {w = w32} {n = x % 2 ^ 32} (record { fits = omega arith }) in
@@ -218,10 +190,9 @@ wrapped_low (pos n) h = omega arith
 wrapped_low (negsuc n) h = let small : n ≤ 2147483647 = omega (arith, ints) in omega arith
 
 quotient_least : (a b : ℤ) → FitsSigned w32 a → negsuc 2147483647 ≤ℤ int_div a b
-quotient_least (pos i) (pos j) fits = omega (arith, ints)
 quotient_least (pos i) (negsuc j) fits = let small = fits.sfits in let less = div-le_self i (suc j) in omega (arith, ints)
 quotient_least (negsuc i) (pos j) fits = let small = fits.sfits in let less = div-le_self (suc i) j in omega (arith, ints)
-quotient_least (negsuc i) (negsuc j) fits = omega (arith, ints)
+quotient_least a b fits = omega (arith, ints)
 
 -- a number that reads as 0 is 0
 zero_reading : (w : IntWidth) (n : ℕ) → n < 2 ^ bits w → cast_signed w n ≡ pos 0 → n ≡ 0
@@ -245,11 +216,17 @@ remainder_both p (suc q) m (suc n) h i k low e f =
     let fits : FitsSigned w32 (int_rem a d) = record { sfits = lt_of_le_of_lt (mag_rem a d) small.sfits } in
     sym (rw (e, f) (wide_low (int_rem a d) fits))
 
-pub sdiv_low : (x y : ℕ) → word_result W32 Sdiv x y % 2 ^ 32 ≡ word_result W64 Sdiv (word_extended W64 B32 x) (word_extended W64 B32 y) % 2 ^ 32
+sdiv_low : (x y : ℕ) → word_result W32 Sdiv x y % 2 ^ 32 ≡ word_result W64 Sdiv (word_extended W64 B32 x) (word_extended W64 B32 y) % 2 ^ 32
 sdiv_low x y = quotient_both (x % 2 ^ 32) (y % 2 ^ 32) _ _ (omega arith) (omega arith) (word_extended_fits W64 B32 y) (extended_reading x) (extended_reading y)
 
-pub smod_low : (x y : ℕ) → word_result W32 Smod x y % 2 ^ 32 ≡ word_result W64 Smod (word_extended W64 B32 x) (word_extended W64 B32 y) % 2 ^ 32
+smod_low : (x y : ℕ) → word_result W32 Smod x y % 2 ^ 32 ≡ word_result W64 Smod (word_extended W64 B32 x) (word_extended W64 B32 y) % 2 ^ 32
 smod_low x y = remainder_both (x % 2 ^ 32) (y % 2 ^ 32) _ _ (omega arith) (omega arith) (word_extended_fits W64 B32 y) (extended_low x) (extended_reading x) (extended_reading y)
+
+pub shifted_low : (op : BinOp) → (op ≡ Lsh) ⊎ (op ≡ Arsh) → (x y : ℕ) → word_result W32 op x y % 2 ^ 32 ≡ word_result W64 op (word_extended W64 B32 x) (bit_and (word_extended W64 B32 y) 31) % 2 ^ 32
+shifted_low op is x y = elim is [ inl e ↦ rw e (lsh_low x y) | inr e ↦ rw e (arsh_low x y) ]
+
+pub divided_low : (op : BinOp) → (op ≡ Sdiv) ⊎ (op ≡ Smod) → (x y : ℕ) → word_result W32 op x y % 2 ^ 32 ≡ word_result W64 op (word_extended W64 B32 x) (word_extended W64 B32 y) % 2 ^ 32
+divided_low op is x y = elim is [ inl e ↦ rw e (sdiv_low x y) | inr e ↦ rw e (smod_low x y) ]
 
 pub neg_low : (w : Width) (x m : ℕ) → x < 2 ^ 64 → m < 2 ^ 64 → m % 2 ^ 32 ≡ x % 2 ^ 32 → word_negated w x % 2 ^ 32 ≡ word_negated W64 m % 2 ^ 32
 neg_low W32 x m h k e = omega arith
@@ -259,20 +236,14 @@ extended_both : (w : Width) (z t : ℤ) → FitsSigned w32 z → z ≡ t → cas
 extended_both W32 z t fits e = sym (rw (← e) (wide_low z fits))
 extended_both W64 z t fits e = rw e refl
 
-fits8 : (x : ℕ) → FitsSigned w32 (cast_signed w8 (x % 2 ^ 8))
-fits8 x = sfits_widen tt (sfits_to_z {w = w8} {n = x % 2 ^ 8} (record { fits = omega arith }))
+extended_fits : (n : ExtendBits) (x : ℕ) → FitsSigned w32 (cast_signed (extend_width n) (wrapped (extend_width n) x))
+extended_fits B8 x = sfits_widen tt (sfits_to_z {w = w8} {n = x % 2 ^ 8} (record { fits = omega arith }))
+extended_fits B16 x = sfits_widen tt (sfits_to_z {w = w16} {n = x % 2 ^ 16} (record { fits = omega arith }))
+extended_fits B32 x = sfits_to_z {w = w32} {n = x % 2 ^ 32} (record { fits = omega arith })
 
-fits16 : (x : ℕ) → FitsSigned w32 (cast_signed w16 (x % 2 ^ 16))
-fits16 x = sfits_widen tt (sfits_to_z {w = w16} {n = x % 2 ^ 16} (record { fits = omega arith }))
-
-fits32 : (x : ℕ) → FitsSigned w32 (cast_signed w32 (x % 2 ^ 32))
-fits32 x = sfits_to_z {w = w32} {n = x % 2 ^ 32} (record { fits = omega arith })
+same_part : (n : ExtendBits) (x m : ℕ) → m % 2 ^ 32 ≡ x % 2 ^ 32 → wrapped (extend_width n) x ≡ wrapped (extend_width n) m
+same_part B8 x m e = omega arith
+same_part n x m e = omega arith
 
 pub extend_low : (w : Width) (n : ExtendBits) (x m : ℕ) → m % 2 ^ 32 ≡ x % 2 ^ 32 → word_extended w n x % 2 ^ 32 ≡ word_extended W64 n m % 2 ^ 32
-extend_low w B8 x m e =
-    let same : x % 2 ^ 8 ≡ m % 2 ^ 8 = omega arith in
-    extended_both w (cast_signed w8 (x % 2 ^ 8)) (cast_signed w8 (m % 2 ^ 8)) (fits8 x) (ap (cast_signed w8) same)
-extend_low w B16 x m e =
-    let same : x % 2 ^ 16 ≡ m % 2 ^ 16 = omega arith in
-    extended_both w (cast_signed w16 (x % 2 ^ 16)) (cast_signed w16 (m % 2 ^ 16)) (fits16 x) (ap (cast_signed w16) same)
-extend_low w B32 x m e = extended_both w (cast_signed w32 (x % 2 ^ 32)) (cast_signed w32 (m % 2 ^ 32)) (fits32 x) (ap (cast_signed w32) (sym e))
+extend_low w n x m e = extended_both w _ _ (extended_fits n x) (ap (cast_signed (extend_width n)) (same_part n x m e))

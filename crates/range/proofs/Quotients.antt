@@ -12,15 +12,14 @@ use Rattle.range.proofs.SignedNumbers.{fits_between}
 
 -- by a positive number they are in the order of the dividends
 pub quotient_order : (a x d : ℤ) → pos 0 <ℤ d → a ≤ℤ x → int_div a d ≤ℤ int_div x d
-quotient_order a x (negsuc n) positive h = absurd (omega (arith, ints))
 quotient_order (pos i) (pos j) (pos n) positive h =
     let up = div_mono i n j n (omega (arith, ints)) (omega (arith, ints)) (omega arith) in
     omega (arith, ints)
-quotient_order (pos i) (negsuc j) (pos n) positive h = absurd (omega (arith, ints))
-quotient_order (negsuc i) (pos j) (pos n) positive h = omega (arith, ints)
 quotient_order (negsuc i) (negsuc j) (pos n) positive h =
     let up = div_mono (suc j) n (suc i) n (omega (arith, ints)) (omega (arith, ints)) (omega arith) in
     omega (arith, ints)
+quotient_order (negsuc i) (pos j) (pos n) positive h = omega (arith, ints)
+quotient_order a x d positive h = absurd (omega (arith, ints))
 
 fits_reading : (x : ℕ) → x < 2 ^ 64 → FitsSigned w64 (cast_signed w64 x)
 fits_reading x h = sfits_to_z {w = w64} {n = x} (record { fits = h })
@@ -75,9 +74,8 @@ ends_fit (negsuc n) fits positive = absurd (omega (arith, ints))
 -- a number that is nearer to 0 than the divisor is its own remainder
 pub remainder_same : (x d : ℤ) → pos 0 <ℤ (x +ℤ d) → x <ℤ d → int_rem x d ≡ x
 remainder_same (pos i) (pos n) h k = let less : i < n = omega (arith, ints) in let same = mod-eq_of_lt less in omega (arith, ints)
-remainder_same (pos i) (negsuc n) h k = absurd (omega (arith, ints))
 remainder_same (negsuc i) (pos n) h k = let less : suc i < n = omega (arith, ints) in let same = mod-eq_of_lt less in omega (arith, ints)
-remainder_same (negsuc i) (negsuc n) h k = absurd (omega (arith, ints))
+remainder_same x d h k = absurd (omega (arith, ints))
 
 pub remainder_reading : (x y : ℕ) → x < 2 ^ 64 → y < 2 ^ 64 → pos 0 <ℤ cast_signed w64 y → cast_signed w64 (signed_remainder w64 x y) ≡ int_rem (cast_signed w64 x) (cast_signed w64 y)
 remainder_reading x zero h k positive = absurd (omega (arith, ints))

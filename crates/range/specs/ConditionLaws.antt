@@ -4,7 +4,7 @@ use Rattle.std.proofs.Common.{arith}
 use Rattle.std.proofs.lemmas.Bool.Decides.{nat_tests}
 use Rattle.insn.specs.declared.operation.Width.{Width}
 use Rattle.insn.specs.declared.operation.Cond.{Cond}
-use Rattle.insn.specs.declared.operation.Cond.TheVariants.{Eq, Gt, Ge, Set, Ne, Sgt, Sge, Lt, Le, Slt, Sle}
+use Rattle.insn.specs.declared.operation.Cond.TheVariants.{Eq, Ne}
 use Rattle.insn.specs.Word.{seen}
 use Rattle.range.specs.Conditions.{HasAnswer, says}
 
@@ -16,15 +16,5 @@ alike x y e = grind (arith, nat_tests)
 
 pub equal_seen : (c : Cond) (taken : Bool) (w : Width) (x y : ℕ) → IsTrue (says c taken).equal → HasAnswer w c taken x y → seen w x ≡ seen w y
 equal_seen Eq true w x y h e = alike (seen w x) (seen w y) e
-equal_seen Eq false w x y h e = absurd cc
-equal_seen Ne true w x y h e = absurd cc
 equal_seen Ne false w x y h e = unlike (seen w x) (seen w y) e
-equal_seen Gt taken w x y h e = absurd cc
-equal_seen Ge taken w x y h e = absurd cc
-equal_seen Set taken w x y h e = absurd cc
-equal_seen Sgt taken w x y h e = absurd cc
-equal_seen Sge taken w x y h e = absurd cc
-equal_seen Lt taken w x y h e = absurd cc
-equal_seen Le taken w x y h e = absurd cc
-equal_seen Slt taken w x y h e = absurd cc
-equal_seen Sle taken w x y h e = absurd cc
+equal_seen c taken w x y h e = absurd cc

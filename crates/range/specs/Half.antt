@@ -3,7 +3,7 @@ use Rattle.std.specs.Prelude.{◌≡◌, ◌↔◌, ℕ, ◌<◌, ◌%◌, ◌^�
 use Rattle.insn.specs.declared.operation.Width.{Width}
 use Rattle.insn.specs.declared.operation.Width.TheVariants.{W32, W64}
 use Rattle.insn.specs.declared.operation.BinOp.{BinOp}
-use Rattle.insn.specs.declared.operation.BinOp.TheVariants.{Add, Sub, Mul, Div, Sdiv, Or, And, Lsh, Rsh, Mod, Smod, Xor, Mov, Arsh}
+use Rattle.insn.specs.declared.operation.BinOp.TheVariants.{Div, Sdiv, Lsh, Rsh, Mod, Smod, Arsh}
 use Rattle.insn.specs.declared.operation.UnOp.{UnOp}
 use Rattle.insn.specs.declared.operation.UnOp.TheVariants.{Neg, Swap, Extend}
 use Rattle.insn.specs.Word.{unary_result, word_result}
@@ -22,21 +22,14 @@ InHalfRange r x = LiesIn (signed_place W32) (places_of r) x
 
 -- the low half of a result is that of the result in 64 bits of all words that have the operands' low halves
 abbrev pub IsTold : BinOp → Width → Type 0
-IsTold Add w = Unit {0}
-IsTold Sub w = Unit {0}
-IsTold Mul w = Unit {0}
 IsTold Div w = ⊥
 IsTold Sdiv w = ⊥
-IsTold Or w = Unit {0}
-IsTold And w = Unit {0}
 IsTold Lsh W32 = ⊥
-IsTold Lsh W64 = Unit {0}
 IsTold Rsh w = ⊥
 IsTold Mod w = ⊥
 IsTold Smod w = ⊥
-IsTold Xor w = Unit {0}
-IsTold Mov w = Unit {0}
 IsTold Arsh w = ⊥
+IsTold op w = Unit {0}
 
 -- the low halves of the operands tell that of the result
 abbrev pub IsDetermined : BinOp → Width → Type 0

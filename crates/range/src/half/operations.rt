@@ -57,10 +57,8 @@ impl HalfRange {
                 Width::W64 => HalfRange::any(),
                 Width::W32 => {
                     match op {
-                        BinOp::Lsh => HalfRange::shifted(op, a, b),
-                        BinOp::Arsh => HalfRange::shifted(op, a, b),
-                        BinOp::Sdiv => HalfRange::by_words(op, Width::W64, a, b),
-                        BinOp::Smod => HalfRange::by_words(op, Width::W64, a, b),
+                        BinOp::Lsh | BinOp::Arsh => HalfRange::shifted(op, a, b),
+                        BinOp::Sdiv | BinOp::Smod => HalfRange::by_words(op, Width::W64, a, b),
                         _ => HalfRange::by_words(op, width, a, b),
                     }
                 }

@@ -1,6 +1,8 @@
-use Rattle.std.proofs.Common.{arith}
-use Rattle.known_bits.proofs.Witnesses.{complement_apart}
+use Rattle.known_bits.proofs.Witnesses.{complement_apart, complement_has}
 use Rattle.known_bits.proofs.bits.KnownBits.complement.Goals as goal
 
 pub new-requires : goal.new-requires
-new-requires c = rw c.greatest.ensures (complement_apart c.args.self.value c.args.self.mask (omega arith) (omega arith))
+new-requires c = rw c.greatest.ensures (complement_apart c.args.self)
+
+pub returns-clause-has : goal.returns-clause-has
+returns-clause-has c = complement_has c.args.self c.new.result (rw c.greatest.ensures at c.new.ensures.value) c.new.ensures.mask

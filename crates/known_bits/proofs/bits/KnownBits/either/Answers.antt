@@ -1,22 +1,9 @@
-use Rattle.std.proofs.Common.{arith}
-use Rattle.known_bits.proofs.Witnesses.{IsKnown}
-use Rattle.known_bits.proofs.Bitwise.{or_apart, or_sound, or_exact}
+use Rattle.insn.specs.declared.operation.BinOp.TheVariants.{Or}
+use Rattle.known_bits.proofs.Bitwise.{or_grows, grown_sound, grown_exact}
 use Rattle.known_bits.proofs.bits.KnownBits.either.Goals as goal
 
-pub new-requires : goal.new-requires
-new-requires c =
-    let left : IsKnown c.args.a = record { fits = omega arith; mask_fits = omega arith; apart = c.args.a.apart } in
-    let right : IsKnown c.args.b = record { fits = omega arith; mask_fits = omega arith; apart = c.args.b.apart } in
-    or_apart c.args.a c.args.b left right
-
 pub returns-clause-sound : goal.returns-clause-sound
-returns-clause-sound c =
-    let left : IsKnown c.args.a = record { fits = omega arith; mask_fits = omega arith; apart = c.args.a.apart } in
-    let right : IsKnown c.args.b = record { fits = omega arith; mask_fits = omega arith; apart = c.args.b.apart } in
-    or_sound c.args.a c.args.b c.new.result left right c.new.ensures.value (c.new.ensures.mask)
+returns-clause-sound c = grown_sound Or c.args.a c.args.b c.between.result or_grows c.between.ensures.value (rw (c.greatest.ensures, c.greatest-2.ensures) at c.between.ensures.mask)
 
 pub returns-clause-exact : goal.returns-clause-exact
-returns-clause-exact c =
-    let left : IsKnown c.args.a = record { fits = omega arith; mask_fits = omega arith; apart = c.args.a.apart } in
-    let right : IsKnown c.args.b = record { fits = omega arith; mask_fits = omega arith; apart = c.args.b.apart } in
-    or_exact c.args.a c.args.b c.new.result left right (c.new.ensures.mask)
+returns-clause-exact c = grown_exact Or c.args.a c.args.b c.between.result (rw (c.greatest.ensures, c.greatest-2.ensures) at c.between.ensures.mask)

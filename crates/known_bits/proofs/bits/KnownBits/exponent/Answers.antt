@@ -1,6 +1,6 @@
 use Rattle.std.proofs.Common.{◌*◌, ◌%◌, ◌^◌, sym, ap, ◌∙◌, arith}
 use Rattle.std.proofs.lemmas.Nat.{one_shl}
-use Rattle.known_bits.proofs.Results.{member_of_single}
+use Rattle.known_bits.proofs.Agreeing.{member_of_single}
 use Rattle.known_bits.proofs.Refining.{trailing_of_power}
 use Rattle.known_bits.proofs.bits.KnownBits.exponent.Goals as goal
 use Rattle.known_bits.proofs.bits.KnownBits.exponent.Goals.{else-self-eq0-via-then-self-eq0+then-k-lt64+else-self-k, else-self-eq0-via-then-self-eq0+else-k-lt64, else-self-eq0-via-else-self-eq0}

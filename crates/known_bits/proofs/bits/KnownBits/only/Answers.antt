@@ -1,5 +1,6 @@
-use Rattle.known_bits.proofs.Agreeing.{agrees_self, agrees_only}
+use Rattle.std.proofs.Common.{◌∙◌}
+use Rattle.known_bits.proofs.Agreeing.{agrees_self, member_of_single}
 use Rattle.known_bits.proofs.bits.KnownBits.only.Goals as goal
 
 pub returns : goal.returns
-returns c x = rw (c.new.ensures.value, c.new.ensures.mask) (agrees_only c.args.n x, λ e. rw e (agrees_self c.args.n 0 c.ranges.n.fits))
+returns c x = (λ h. member_of_single c.new.result x c.new.ensures.mask h ∙ c.new.ensures.value, λ e. rw (e, ← c.new.ensures.value) (agrees_self c.new.result))

@@ -1,4 +1,4 @@
-use Rattle.std.proofs.Common.{◌≡◌, sym, ap, ◌∙◌, arith, ◌/◌, ◌^◌}
+use Rattle.std.proofs.Common.{◌≡◌, sym, ap, ◌∙◌, ◌/◌, ◌^◌}
 use Rattle.insn.specs.declared.operation.Width.TheVariants.{W64}
 use Rattle.insn.specs.declared.operation.BinOp.TheVariants.{Div}
 use Rattle.insn.specs.WordLaws.{word_result_fits}
@@ -8,11 +8,11 @@ use Rattle.known_bits.proofs.Moving.{moved_apart, moved_agrees, down_moves}
 use Rattle.known_bits.proofs.bits.KnownBits.quotient.Goals as goal
 
 pub new-requires : goal.new-requires
-new-requires c = moved_apart (λ n. n / 2 ^ c.in-Some.k) c.args.a.value c.args.a.mask (omega arith) (omega arith) (down_moves c.in-Some.k) c.args.a.apart
+new-requires c = moved_apart (λ n. n / 2 ^ c.in-Some.k) c.args.a (down_moves c.in-Some.k)
 
 pub returns-in-Some : goal.returns-in-Some
 returns-in-Some c x y hx hy = rw (c.new.ensures.value, c.new.ensures.mask, c.in-Some.ensures.some.1 y hy)
-    (moved_agrees (λ n. n / 2 ^ c.in-Some.k) c.args.a.value c.args.a.mask x (omega arith) (omega arith) (down_moves c.in-Some.k) hx)
+    (moved_agrees (λ n. n / 2 ^ c.in-Some.k) c.args.a x (down_moves c.in-Some.k) hx)
 
 pub returns-in-None : goal.returns-in-None
 returns-in-None c x y hx hy = c.all.ensures _ (word_result_fits W64 Div x y hx.word hy.word)

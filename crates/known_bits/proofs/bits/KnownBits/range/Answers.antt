@@ -8,8 +8,7 @@ new-requires c = rw c.greatest.ensures (le_or_l _ _)
 
 pub returns-clause-members : goal.returns-clause-members
 returns-clause-members c x h =
-    let bits = c.args.self in
-    let low = least_below bits.value bits.mask x bits.apart h in
-    let high = greatest_above bits.value bits.mask x h in
-    let end : c.new.result.greatest ≡ bit_or bits.value bits.mask = c.new.ensures.to ∙ c.greatest.ensures in
+    let low = least_below c.args.self x h in
+    let high = greatest_above c.args.self x h in
+    let end : c.new.result.greatest ≡ bit_or c.args.self.value c.args.self.mask = c.new.ensures.to ∙ c.greatest.ensures in
     record { word = h.word; above = omega arith; below = omega arith }

@@ -1,4 +1,4 @@
-use Rattle.std.proofs.Common.{◌≡◌, sym, ap, ◌∙◌, arith, ◌%◌, ◌^◌}
+use Rattle.std.proofs.Common.{◌≡◌, sym, ap, ◌∙◌, ◌%◌, ◌^◌}
 use Rattle.insn.specs.declared.operation.Width.TheVariants.{W64}
 use Rattle.insn.specs.declared.operation.BinOp.TheVariants.{Mod}
 use Rattle.insn.specs.WordLaws.{word_result_fits}
@@ -9,11 +9,11 @@ use Rattle.known_bits.proofs.Moving.{moved_apart, moved_agrees, low_moves}
 use Rattle.known_bits.proofs.bits.KnownBits.remainder.Goals as goal
 
 pub new-requires : goal.new-requires
-new-requires c = rw (one_shl c.in-Some.k 64 c.in-Some.ensures.some.0) (moved_apart (λ n. n % 2 ^ c.in-Some.k) c.args.a.value c.args.a.mask (omega arith) (omega arith) (low_moves c.in-Some.k) c.args.a.apart)
+new-requires c = rw (one_shl c.in-Some.k 64 c.in-Some.ensures.some.0) (moved_apart (λ n. n % 2 ^ c.in-Some.k) c.args.a (low_moves c.in-Some.k))
 
 pub returns-in-Some : goal.returns-in-Some
 returns-in-Some c x y hx hy = rw (c.new.ensures.value, c.new.ensures.mask, c.in-Some.ensures.some.1 y hy, one_shl c.in-Some.k 64 c.in-Some.ensures.some.0)
-    (moved_agrees (λ n. n % 2 ^ c.in-Some.k) c.args.a.value c.args.a.mask x (omega arith) (omega arith) (low_moves c.in-Some.k) hx)
+    (moved_agrees (λ n. n % 2 ^ c.in-Some.k) c.args.a x (low_moves c.in-Some.k) hx)
 
 pub returns-in-None : goal.returns-in-None
 returns-in-None c x y hx hy = c.all.ensures _ (word_result_fits W64 Mod x y hx.word hy.word)

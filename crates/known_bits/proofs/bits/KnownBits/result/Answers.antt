@@ -1,7 +1,6 @@
 use Rattle.std.proofs.Common.{◌≡◌, true, arith}
 use Rattle.insn.specs.Word.{seen}
 use Rattle.insn.specs.WordLaws.{word_result_fits}
-use Rattle.known_bits.proofs.Witnesses.{IsKnown}
 use Rattle.known_bits.proofs.Results.{is_low, by_whole, cut_has, cut_exact, divided}
 use Rattle.known_bits.proofs.Shifts.{is_shift, shift_moves, known_amount}
 use Rattle.known_bits.proofs.bits.KnownBits.result.Goals as goal
@@ -9,25 +8,21 @@ use Rattle.known_bits.proofs.bits.KnownBits.result.Goals as goal
 pub returns-in-Add-clause-sound : goal.returns-in-Add-clause-sound
 returns-in-Add-clause-sound c x y hx hy =
     let low : is_low c.args.op ≡ true = grind arith in
-    let whole : IsKnown c.whole.result = record { fits = omega arith; mask_fits = omega arith; apart = c.whole.result.apart } in
     rw (by_whole c.args.op low c.args.width x y hx.word hy.word)
-    (cut_has c.args.width c.whole.result c.in_width.result _ whole (record { value = c.in_width.ensures.value; mask = c.in_width.ensures.mask }) (c.whole.ensures.sound x y hx hy))
+    (cut_has c.args.width c.whole.result c.in_width.result _ c.in_width.ensures.value c.in_width.ensures.mask (c.whole.ensures.sound x y hx hy))
 
 pub returns-in-Add-clause-exact : goal.returns-in-Add-clause-exact
 returns-in-Add-clause-exact c exact =
     let low : is_low c.args.op ≡ true = grind arith in
-    cut_exact c.args.op c.args.width c.args.a c.args.b c.whole.result c.in_width.result (record { value = c.in_width.ensures.value; mask = c.in_width.ensures.mask })
+    cut_exact c.args.op c.args.width c.args.a c.args.b c.whole.result c.in_width.result c.in_width.ensures.mask
     (by_whole c.args.op low c.args.width) (c.whole.ensures.exact exact)
 
 pub returns-in-Div-clause-sound : goal.returns-in-Div-clause-sound
 returns-in-Div-clause-sound c x y hx hy =
-    let left : IsKnown c.args.a = record { fits = omega arith; mask_fits = omega arith; apart = c.args.a.apart } in
-    let right : IsKnown c.args.b = record { fits = omega arith; mask_fits = omega arith; apart = c.args.b.apart } in
-    let whole : IsKnown c.whole-in-Div.result = record { fits = omega arith; mask_fits = omega arith; apart = c.whole-in-Div.result.apart } in
-    let x' = cut_has c.args.width c.args.a c.in_width-in-Div.result x left (record { value = c.in_width-in-Div.ensures.value; mask = c.in_width-in-Div.ensures.mask }) hx in
-    let y' = cut_has c.args.width c.args.b c.in_width-in-Div-2.result y right (record { value = c.in_width-in-Div-2.ensures.value; mask = c.in_width-in-Div-2.ensures.mask }) hy in
+    let x' = cut_has c.args.width c.args.a c.in_width-in-Div.result x c.in_width-in-Div.ensures.value c.in_width-in-Div.ensures.mask hx in
+    let y' = cut_has c.args.width c.args.b c.in_width-in-Div-2.result y c.in_width-in-Div-2.ensures.value c.in_width-in-Div-2.ensures.mask hy in
     rw (divided c.args.op c.in-Div.is c.args.width x y hx.word hy.word)
-    (cut_has c.args.width c.whole-in-Div.result c.in_width-in-Div-3.result _ whole (record { value = c.in_width-in-Div-3.ensures.value; mask = c.in_width-in-Div-3.ensures.mask })
+    (cut_has c.args.width c.whole-in-Div.result c.in_width-in-Div-3.result _ c.in_width-in-Div-3.ensures.value c.in_width-in-Div-3.ensures.mask
     (c.whole-in-Div.ensures.sound (seen c.args.width x) (seen c.args.width y) x' y'))
 
 pub returns-in-Sdiv-clause-sound : goal.returns-in-Sdiv-clause-sound

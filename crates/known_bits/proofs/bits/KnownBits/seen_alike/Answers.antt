@@ -1,5 +1,4 @@
 use Rattle.std.proofs.Common.{refl, arith}
-use Rattle.known_bits.proofs.Witnesses.{IsKnown}
 use Rattle.known_bits.proofs.Results.{cut_has}
 use Rattle.insn.specs.declared.operation.Width.TheVariants.{W32}
 use Rattle.known_bits.proofs.Refining.{alike_apart, alike_has, alike_partner}
@@ -8,21 +7,19 @@ use Rattle.known_bits.proofs.bits.KnownBits.seen_alike.Goals as goal
 pub new-requires : goal.new-requires
 new-requires c =
     let value = c.in_width-low.ensures.value in
-    alike_apart c.in_width-low.result.value c.in_width-low.result.mask (omega arith) c.in_width-low.result.apart
+    alike_apart c.in_width-low.result (omega arith)
 
 pub returns-in-W32-clause-alike : goal.returns-in-W32-clause-alike
 returns-in-W32-clause-alike c x y word h same =
-    let known : IsKnown c.args.self = record { fits = omega arith; mask_fits = omega arith; apart = c.args.self.apart } in
     let value = c.in_width-low.ensures.value in
     rw (c.new.ensures.value, c.new.ensures.mask)
     (alike_has c.in_width-low.result.value c.in_width-low.result.mask x y (omega arith) word
-    (cut_has W32 c.args.self c.in_width-low.result x known (record { value = c.in_width-low.ensures.value; mask = c.in_width-low.ensures.mask }) h)
+    (cut_has W32 c.args.self c.in_width-low.result x c.in_width-low.ensures.value c.in_width-low.ensures.mask h)
     (rw c.in-W32.is at same))
 
 pub returns-in-W32-clause-partner : goal.returns-in-W32-clause-partner
 returns-in-W32-clause-partner c y h =
-    let known : IsKnown c.args.self = record { fits = omega arith; mask_fits = omega arith; apart = c.args.self.apart } in
-    rw c.in-W32.is (alike_partner c.args.self c.in_width-low.result y known c.in_width-low.ensures.value c.in_width-low.ensures.mask (rw (c.new.ensures.value, c.new.ensures.mask) at h))
+    rw c.in-W32.is (alike_partner c.args.self c.in_width-low.result y c.in_width-low.ensures.value c.in_width-low.ensures.mask (rw (c.new.ensures.value, c.new.ensures.mask) at h))
 
 pub returns-in-W64-clause-partner : goal.returns-in-W64-clause-partner
 returns-in-W64-clause-partner c y h = record { partner = y; there = h; alike = refl }

@@ -1,5 +1,3 @@
-use Rattle.std.proofs.Common.{arith}
-use Rattle.known_bits.proofs.Witnesses.{IsKnown}
 use Rattle.known_bits.proofs.Bitwise.{xor_sound, xor_exact}
 use Rattle.known_bits.proofs.bits.KnownBits.unlike.Goals as goal
 
@@ -7,7 +5,4 @@ pub returns-clause-sound : goal.returns-clause-sound
 returns-clause-sound c = xor_sound c.args.a c.args.b c.outside.result c.outside.ensures.mask c.outside.ensures.value
 
 pub returns-clause-exact : goal.returns-clause-exact
-returns-clause-exact c =
-    let left : IsKnown c.args.a = record { fits = omega arith; mask_fits = omega arith; apart = c.args.a.apart } in
-    let right : IsKnown c.args.b = record { fits = omega arith; mask_fits = omega arith; apart = c.args.b.apart } in
-    xor_exact c.args.a c.args.b c.outside.result left right c.outside.ensures.mask
+returns-clause-exact c = xor_exact c.args.a c.args.b c.outside.result c.outside.ensures.mask

@@ -1,7 +1,7 @@
 use Rattle.std.proofs.Common.{◌≡◌, true, arith}
 use Rattle.insn.specs.declared.operation.Width.TheVariants.{W64}
 use Rattle.insn.specs.WordLaws.{word_result_fits}
-use Rattle.known_bits.proofs.Witnesses.{IsKnown, right_exact}
+use Rattle.known_bits.proofs.Witnesses.{right_exact}
 use Rattle.known_bits.proofs.Shifts.{is_shift, shift_moves, known_amount}
 use Rattle.known_bits.proofs.bits.KnownBits.whole.Goals as goal
 
@@ -10,9 +10,7 @@ returns-in-Sdiv-clause-sound c x y hx hy = c.all.ensures _ (word_result_fits W64
 
 pub returns-in-Mov-clause-exact : goal.returns-in-Mov-clause-exact
 returns-in-Mov-clause-exact c exact =
-    let left : IsKnown c.args.a = record { fits = omega arith; mask_fits = omega arith; apart = c.args.a.apart } in
-    let right : IsKnown c.args.b = record { fits = omega arith; mask_fits = omega arith; apart = c.args.b.apart } in
-    rw c.in-Mov.is (right_exact c.args.a c.args.b left right)
+    rw c.in-Mov.is (right_exact c.args.a c.args.b)
 
 pub shifted-requires : goal.shifted-requires
 shifted-requires c =

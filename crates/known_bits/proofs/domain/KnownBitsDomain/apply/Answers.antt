@@ -1,8 +1,8 @@
-use Rattle.std.proofs.Common.{◌≡◌, sym, refl, ◌∙◌, arith}
+use Rattle.std.proofs.Common.{◌≡◌, sym, refl, ◌∙◌}
 use Rattle.std.specs.Int.RustNames.{bit_or}
 use Rattle.insn.specs.Word.{word_result}
-use Rattle.known_bits.proofs.Witnesses.{IsKnown}
-use Rattle.known_bits.proofs.Results.{member_of_single, single_value, no_mask, only_exact, no_left, no_right}
+use Rattle.known_bits.proofs.Agreeing.{member_of_single, single_value, no_mask}
+use Rattle.known_bits.proofs.Results.{only_exact, no_left, no_right}
 use Rattle.known_bits.proofs.domain.KnownBitsDomain.apply.Goals as goal
 
 pub returns-then-a-b-eq0-clause-sound : goal.returns-then-a-b-eq0-clause-sound
@@ -13,19 +13,14 @@ returns-then-a-b-eq0-clause-sound c x y hx hy =
 
 pub returns-then-a-b-eq0-clause-single : goal.returns-then-a-b-eq0-clause-single
 returns-then-a-b-eq0-clause-single c x y hx hy n =
-    let left : IsKnown c.args.a = record { fits = omega arith; mask_fits = omega arith; apart = c.args.a.apart } in
-    let right : IsKnown c.args.b = record { fits = omega arith; mask_fits = omega arith; apart = c.args.b.apart } in
-    let same : c.alu.result ≡ word_result c.args.width c.args.op x y = rw (single_value c.args.a x left hx, single_value c.args.b y right hy) at c.alu.ensures in
+    let same : c.alu.result ≡ word_result c.args.width c.args.op x y = rw (single_value c.args.a x hx, single_value c.args.b y hy) at c.alu.ensures in
     (λ h. (c.only.ensures n).0 h ∙ same, λ h. (c.only.ensures n).1 (h ∙ sym same))
 
 pub returns-then-a-b-eq0-clause-exact : goal.returns-then-a-b-eq0-clause-exact
 returns-then-a-b-eq0-clause-exact c exact k set =
-    let only : IsKnown c.only.result = record { fits = omega arith; mask_fits = omega arith; apart = c.only.result.apart } in
-    absurd (only_exact c.only.result c.alu.result k only c.only.ensures set)
+    absurd (only_exact c.only.result c.alu.result k c.only.ensures set)
 
 pub returns-else-a-b-eq0-clause-single : goal.returns-else-a-b-eq0-clause-single
 returns-else-a-b-eq0-clause-single c x y hx hy =
-    let left : IsKnown c.args.a = record { fits = omega arith; mask_fits = omega arith; apart = c.args.a.apart } in
-    let right : IsKnown c.args.b = record { fits = omega arith; mask_fits = omega arith; apart = c.args.b.apart } in
-    let none : bit_or c.args.a.mask c.args.b.mask ≡ 0 = rw (no_mask c.args.a x left hx, no_mask c.args.b y right hy) refl in
+    let none : bit_or c.args.a.mask c.args.b.mask ≡ 0 = rw (no_mask c.args.a x hx, no_mask c.args.b y hy) refl in
     absurd (c.if-a-b-eq0.false none)

@@ -1,7 +1,7 @@
-use Rattle.std.proofs.Common.{◌≡◌, sym, ◌∙◌, arith}
+use Rattle.std.proofs.Common.{◌≡◌, sym, ◌∙◌}
 use Rattle.insn.specs.Word.{unary_result}
-use Rattle.known_bits.proofs.Witnesses.{IsKnown}
-use Rattle.known_bits.proofs.Results.{member_of_single, single_value, no_mask, only_exact}
+use Rattle.known_bits.proofs.Agreeing.{member_of_single, single_value, no_mask}
+use Rattle.known_bits.proofs.Results.{only_exact}
 use Rattle.known_bits.proofs.domain.KnownBitsDomain.unary.Goals as goal
 
 pub returns-then-a-eq0-clause-sound : goal.returns-then-a-eq0-clause-sound
@@ -9,16 +9,13 @@ returns-then-a-eq0-clause-sound c x h = rw (member_of_single c.args.a x c.if-a-e
 
 pub returns-then-a-eq0-clause-single : goal.returns-then-a-eq0-clause-single
 returns-then-a-eq0-clause-single c x h n =
-    let known : IsKnown c.args.a = record { fits = omega arith; mask_fits = omega arith; apart = c.args.a.apart } in
-    let same : c.unary.result ≡ unary_result c.args.op c.args.width x = rw (single_value c.args.a x known h) at c.unary.ensures in
+    let same : c.unary.result ≡ unary_result c.args.op c.args.width x = rw (single_value c.args.a x h) at c.unary.ensures in
     (λ i. (c.only.ensures n).0 i ∙ same, λ i. (c.only.ensures n).1 (i ∙ sym same))
 
 pub returns-else-a-eq0-clause-single : goal.returns-else-a-eq0-clause-single
 returns-else-a-eq0-clause-single c x h =
-    let known : IsKnown c.args.a = record { fits = omega arith; mask_fits = omega arith; apart = c.args.a.apart } in
-    absurd (c.if-a-eq0.false (no_mask c.args.a x known h))
+    absurd (c.if-a-eq0.false (no_mask c.args.a x h))
 
 pub returns-then-a-eq0-clause-exact : goal.returns-then-a-eq0-clause-exact
 returns-then-a-eq0-clause-exact c k set =
-    let only : IsKnown c.only.result = record { fits = omega arith; mask_fits = omega arith; apart = c.only.result.apart } in
-    absurd (only_exact c.only.result c.unary.result k only c.only.ensures set)
+    absurd (only_exact c.only.result c.unary.result k c.only.ensures set)

@@ -1,12 +1,11 @@
 use Rattle.std.proofs.Common.{sym, ◌∙◌}
 use Rattle.std.proofs.lemmas.Bool.{true≢false}
 use Rattle.insn.specs.declared.operation.Width.TheVariants.{W32, W64}
-use Rattle.insn.specs.declared.operation.BinOp.TheVariants.{Sdiv, Smod, Lsh, Arsh}
 use Rattle.insn.specs.declared.operation.ExtendBits.TheVariants.{B32}
 use Rattle.insn.specs.Word.{word_result}
 use Rattle.insn.specs.WordLaws.{word_in_width, word_result_fits, word_extended_fits}
 use Rattle.range.specs.MemberLaws.{same_low}
-use Rattle.range.proofs.LowHalves.{same_half, told_low, seen_low, lsh_low, arsh_low, sdiv_low, smod_low, extended_low}
+use Rattle.range.proofs.LowHalves.{same_half, told_low, seen_low, shifted_low, divided_low, extended_low}
 use Rattle.range.proofs.half.HalfRange.apply.Goals as goal
 
 pub returns-then-is_told-clause-sound : goal.returns-then-is_told-clause-sound
@@ -17,24 +16,12 @@ returns-then-is_told-clause-sound c x y hx hy =
     (c.by_words.ensures.has x y hx hy)
 
 pub returns-in-Lsh-clause-sound : goal.returns-in-Lsh-clause-sound
-returns-in-Lsh-clause-sound c x y hx hy =
-    rw (c.in-Lsh.is, c.in-W32.is)
-    (same_low c.shifted.result _ (word_result W32 Lsh x y) (word_in_width W32 _ (word_result_fits W32 Lsh x y hx.word hy.word)) (lsh_low x y) (rw c.in-Lsh.is at (c.shifted.ensures.has x y hx hy)))
-
-pub returns-in-Arsh-clause-sound : goal.returns-in-Arsh-clause-sound
-returns-in-Arsh-clause-sound c x y hx hy =
-    rw (c.in-Arsh.is, c.in-W32.is)
-    (same_low c.shifted-in-Arsh.result _ (word_result W32 Arsh x y) (word_in_width W32 _ (word_result_fits W32 Arsh x y hx.word hy.word)) (arsh_low x y) (rw c.in-Arsh.is at (c.shifted-in-Arsh.ensures.has x y hx hy)))
+returns-in-Lsh-clause-sound c x y hx hy = rw c.in-W32.is
+    (same_low c.shifted.result _ (word_result W32 c.args.op x y) (word_in_width W32 _ (word_result_fits W32 c.args.op x y hx.word hy.word)) (shifted_low c.args.op c.in-Lsh.is x y) (c.shifted.ensures.has x y hx hy))
 
 pub returns-in-Sdiv-clause-sound : goal.returns-in-Sdiv-clause-sound
-returns-in-Sdiv-clause-sound c x y hx hy =
-    rw (c.in-Sdiv.is, c.in-W32.is)
-    (same_low c.by_words-in-Sdiv.result _ (word_result W32 Sdiv x y) (word_in_width W32 _ (word_result_fits W32 Sdiv x y hx.word hy.word)) (sdiv_low x y) (rw c.in-Sdiv.is at (c.by_words-in-Sdiv.ensures.has x y hx hy)))
-
-pub returns-in-Smod-clause-sound : goal.returns-in-Smod-clause-sound
-returns-in-Smod-clause-sound c x y hx hy =
-    rw (c.in-Smod.is, c.in-W32.is)
-    (same_low c.by_words-in-Smod.result _ (word_result W32 Smod x y) (word_in_width W32 _ (word_result_fits W32 Smod x y hx.word hy.word)) (smod_low x y) (rw c.in-Smod.is at (c.by_words-in-Smod.ensures.has x y hx hy)))
+returns-in-Sdiv-clause-sound c x y hx hy = rw c.in-W32.is
+    (same_low c.by_words-in-Sdiv.result _ (word_result W32 c.args.op x y) (word_in_width W32 _ (word_result_fits W32 c.args.op x y hx.word hy.word)) (divided_low c.args.op c.in-Sdiv.is x y) (c.by_words-in-Sdiv.ensures.has x y hx hy))
 
 pub returns-in_default-clause-sound : goal.returns-in_default-clause-sound
 returns-in_default-clause-sound c x y hx hy =
@@ -52,24 +39,12 @@ returns-then-is_told-clause-single c determined x y hx hy ha hb =
     (c.by_words.ensures.single x y hx hy ha hb)
 
 pub returns-in-Lsh-clause-single : goal.returns-in-Lsh-clause-single
-returns-in-Lsh-clause-single c determined x y hx hy ha hb =
-    rw (c.in-Lsh.is, c.in-W32.is)
-    (same_half c.shifted.result _ (word_result W32 Lsh x y) (lsh_low x y) (rw c.in-Lsh.is at (c.shifted.ensures.single x y hx hy ha hb)))
-
-pub returns-in-Arsh-clause-single : goal.returns-in-Arsh-clause-single
-returns-in-Arsh-clause-single c determined x y hx hy ha hb =
-    rw (c.in-Arsh.is, c.in-W32.is)
-    (same_half c.shifted-in-Arsh.result _ (word_result W32 Arsh x y) (arsh_low x y) (rw c.in-Arsh.is at (c.shifted-in-Arsh.ensures.single x y hx hy ha hb)))
+returns-in-Lsh-clause-single c determined x y hx hy ha hb = rw c.in-W32.is
+    (same_half c.shifted.result _ (word_result W32 c.args.op x y) (shifted_low c.args.op c.in-Lsh.is x y) (c.shifted.ensures.single x y hx hy ha hb))
 
 pub returns-in-Sdiv-clause-single : goal.returns-in-Sdiv-clause-single
-returns-in-Sdiv-clause-single c determined x y hx hy ha hb =
-    rw (c.in-Sdiv.is, c.in-W32.is)
-    (same_half c.by_words-in-Sdiv.result _ (word_result W32 Sdiv x y) (sdiv_low x y) (rw c.in-Sdiv.is at (c.by_words-in-Sdiv.ensures.single x y hx hy ha hb)))
-
-pub returns-in-Smod-clause-single : goal.returns-in-Smod-clause-single
-returns-in-Smod-clause-single c determined x y hx hy ha hb =
-    rw (c.in-Smod.is, c.in-W32.is)
-    (same_half c.by_words-in-Smod.result _ (word_result W32 Smod x y) (smod_low x y) (rw c.in-Smod.is at (c.by_words-in-Smod.ensures.single x y hx hy ha hb)))
+returns-in-Sdiv-clause-single c determined x y hx hy ha hb = rw c.in-W32.is
+    (same_half c.by_words-in-Sdiv.result _ (word_result W32 c.args.op x y) (divided_low c.args.op c.in-Sdiv.is x y) (c.by_words-in-Sdiv.ensures.single x y hx hy ha hb))
 
 pub returns-in_default-clause-single : goal.returns-in_default-clause-single
 returns-in_default-clause-single c determined x y hx hy ha hb =
