@@ -1,13 +1,11 @@
 -- A store that keeps new tokens fits the history in which they are issued.
-use Rattle.std.proofs.Common.{◌≡◌, ◌<◌, inl, inr, ℕ, ◌+◌, List, [], ◌∷◌, ◌++◌, Option, Some, None, Bool, true, false, cond, eqb, length, refl, ap, ◌∙◌, sym, arith}
-use Rattle.std.specs.Prelude.{find, is_some, option_map}
+use Rattle.std.proofs.Common.{◌≡◌, inl, inr, ℕ, List, [], ◌∷◌, ◌++◌, Option, Some, None, true, cond, eqb, length, refl, ap, ◌∙◌, sym, arith}
+use Rattle.std.specs.Prelude.{find, option_map, ◌==◌}
 use Rattle.std.specs.Str.{bytes_eq}
-use Rattle.std.proofs.lemmas.Bool.{eqb-true, eq-eqb, and_parts, and_from, false≢true}
+use Rattle.std.proofs.lemmas.Bool.{eqb-true, eq-eqb, and_parts, and_from}
 use Rattle.std.proofs.lemmas.Slice.Eq.{bytes_eq-Decides}
-use Rattle.std.specs.Prelude.{◌==◌}
-use Rattle.std.specs.Map.{values_of}
-use Rattle.consent.specs.ListLaws.{find-passes, find-one, find-some, count_by-cons}
-use Rattle.consent.specs.History.{Event, Grant, grants, grant_at, is_named, is_unexpired, is_code, is_code_of, terms_of, code_terms, has_ended, opener, is_of, IsHome, with_change}
+use Rattle.consent.specs.ListLaws.{find-passes, find-one, find-some, find-map}
+use Rattle.consent.specs.History.{Event, Grant, grants, grant_at, is_named, is_unexpired, is_code, is_code_of, code_terms, has_ended, opener, is_of, IsHome, with_change}
 use Rattle.consent.specs.GrowthLaws.{code_terms-push_other, has_ended-push_other}
 use Rattle.consent.specs.HistoryLaws.{grant_at-kin, opener-of_one, code_terms-kin, code_terms-fresh, has_ended-fresh, is_history-push}
 use Rattle.consent.specs.declared.change.NewToken.{NewToken}
@@ -19,35 +17,29 @@ use Rattle.token_store.specs.Kept.{Kept, is_in, HasFamily}
 use Rattle.token_store.specs.Fits.{FitsBy, to_keep}
 use Rattle.token_store.specs.FitsParts.{IsMember, with_family_number}
 use Rattle.consent.specs.Changes.{token_issued, issued_with}
-use Rattle.token_store.specs.Records.{kind_in, owner_in, kept_in, member_count, terms_by, shared_at, kept_under, all_kept}
-use Rattle.token_store.specs.RecordsParts.{Place, family_place, own_place, token_kept, IsUnused}
-use Rattle.token_store.proofs.Adding.{Gives, keeps_push, fits_given, fits_named}
-use Rattle.token_store.proofs.Opening.{own_unused}
+use Rattle.token_store.specs.Records.{own_shared, kind_in, owner_in, kept_in, terms_by, shared_at, kept_under, all_kept}
+use Rattle.token_store.specs.RecordsParts.{token_kept, IsUnused}
+use Rattle.token_store.proofs.Adding.{Gives, fits_given, fits_named, own_unused}
+use Rattle.std.proofs.lemmas.Bool.Decides.{nat_tests}
 
 -- ONE TOKEN
 
--- The place's number, client, owner, code and end are those of the family, which may be the next one
-pub record IsReady (history : List Event) (number : ℕ → ℕ) (moment family : ℕ) (place : Place) : Type 0 where
-  pub number_is : number family ≡ place.family
-  pub home : IsHome history family place.client place.owner
+-- The number is the family's, which may be the next one, and so are the client, the owner, the code and the end
+pub record IsReady (history : List Event) (number : ℕ → ℕ) (moment family n : ℕ) (s : Shared) : Type 0 where
+  pub number_is : number family ≡ n
+  pub home : IsHome history family s.client s.owner
   pub own : (digest : List ℕ) (h : Grant) → grant_at history digest moment ≡ Some h → number h.family ≡ number family → h.family ≡ family
-  pub terms : code_terms history family ≡ option_map (terms_by place.client place.owner) place.code_scope
-  pub ended : has_ended history family ≡ place.ended
+  pub terms : code_terms history family ≡ option_map (terms_by s.client s.owner) s.code_scope
+  pub ended : has_ended history family ≡ s.ended
 
-abbrev pub token_event : ℕ → ℕ → Place → NewToken → Event
-token_event moment family place token = record { moment = moment; change = token_issued family place.client place.owner token }
-
-abbrev pub token_grant : ℕ → ℕ → Place → NewToken → Grant
-token_grant moment family place token = record (token_kept place moment token).grant { family = family }
-
-fits_token : (kept : List Kept) (history : List Event) (number : ℕ → ℕ) (moment family : ℕ) (place : Place) (token : NewToken) →
-    IsReady history number moment family place → grant_at history token.digest moment ≡ None → FitsBy kept history moment number →
-    FitsBy (kept ++ token_kept place moment token ∷ []) (history ++ token_event moment family place token ∷ []) moment number
-fits_token kept history number moment family place token ready untaken fits =
-    let e = token_event moment family place token in
-    let g = token_grant moment family place token in
-    let terms : code_terms (history ++ e ∷ []) family ≡ option_map (terms_by place.client place.owner) place.code_scope = code_terms-push_other history e g family refl refl ∙ ready.terms in
-    let ended : has_ended (history ++ e ∷ []) family ≡ place.ended = has_ended-push_other history e family refl ∙ ready.ended in
+fits_token : (kept : List Kept) (history : List Event) (number : ℕ → ℕ) (moment family n : ℕ) (s : Shared) (token : NewToken) →
+    IsReady history number moment family n s → grant_at history token.digest moment ≡ None → FitsBy kept history moment number →
+    FitsBy (kept ++ token_kept n s moment token ∷ []) (with_change history moment (token_issued family s.client s.owner token)) moment number
+fits_token kept history number moment family n s token ready untaken fits =
+    let e : Event = record { moment = moment; change = token_issued family s.client s.owner token } in
+    let g : Grant = record (token_kept n s moment token).grant { family = family } in
+    let terms : code_terms (history ++ e ∷ []) family ≡ option_map (terms_by s.client s.owner) s.code_scope = code_terms-push_other history e g family refl refl ∙ ready.terms in
+    let ended : has_ended (history ++ e ∷ []) family ≡ s.ended = has_ended-push_other history e family refl ∙ ready.ended in
     let gives : Gives history number moment e g = record {
       gives_it = refl;
       ends_none = refl;
@@ -55,25 +47,25 @@ fits_token kept history number moment family place token ready untaken fits =
       same_terms = λ d t h at. code_terms-push_other history e g h.family refl refl;
       own = ready.own;
       untaken = untaken;
-      is_history = is_history-push history moment (token_issued family place.client place.owner token) fits.is_history (ready.home, untaken);
+      is_history = is_history-push history moment (token_issued family s.client s.owner token) fits.is_history (ready.home, untaken);
     } in
-    fits_given kept (kept ++ token_kept place moment token ∷ []) history number moment e g (token_kept place moment token) gives
-    (sym (rw (ready.number_is, terms, ended) refl)) (keeps_push kept (token_kept place moment token) moment) fits
+    fits_given kept history number moment e g (token_kept n s moment token) gives
+    (sym (rw (ready.number_is, terms, ended) refl)) fits
 
 -- IN A FAMILY OF THEIR OWN
 
 pub fits_alone : (kept : List Kept) (history : List Event) (number : ℕ → ℕ) (moment client n : ℕ) (token : NewToken) →
     IsUnused kept moment n → grant_at history token.digest moment ≡ None → FitsBy kept history moment number →
-    FitsBy (kept ++ token_kept (own_place n client) moment token ∷ []) (with_change history moment (token_issued (length history) client 0 token)) moment (with_family_number number (length history) n)
+    FitsBy (kept ++ token_kept n (own_shared client 0) moment token ∷ []) (with_change history moment (token_issued (length history) client 0 token)) moment (with_family_number number (length history) n)
 fits_alone kept history number moment client n token unused untaken fits =
-    let ready : IsReady history (with_family_number number (length history) n) moment (length history) (own_place n client) = record {
+    let ready : IsReady history (with_family_number number (length history) n) moment (length history) n (own_shared client 0) = record {
       number_is = ap (λ b. cond b n (number (length history))) (eq-eqb (length history) (length history) refl);
       home = inl refl;
       own = λ d h at same_number. own_unused kept history number n moment d h fits unused at same_number;
       terms = code_terms-fresh history fits.is_history.placed;
       ended = has_ended-fresh history fits.is_history.placed;
     } in
-    fits_token kept history (with_family_number number (length history) n) moment (length history) (own_place n client) token ready untaken (fits_named kept history number n moment fits)
+    fits_token kept history (with_family_number number (length history) n) moment (length history) n (own_shared client 0) token ready untaken (fits_named kept history number n moment fits)
 
 -- IN A FAMILY THAT THERE IS
 
@@ -100,16 +92,12 @@ behind kept history number moment family k fits found =
 code_has_terms : (history : List Event) (digest : List ℕ) (moment : ℕ) (h : Grant) → grant_at history digest moment ≡ Some h → is_code h.kind ≡ true → code_terms history h.family ≡ None → ⊥
 code_has_terms history digest moment h at code none =
     let some = find-some (is_named digest moment) (is_code_of h.family) (grants history) h at (and_from (is_code h.kind) (h.family == h.family) code (eq-eqb h.family h.family refl)) in
-    no_terms (find (is_code_of h.family) (grants history)) some none
-  where
-    no_terms : (o : Option Grant) → is_some o ≡ true → option_map terms_of o ≡ None → ⊥
-    no_terms None some none = cc
-    no_terms (Some g) some none = cc
+    grind (arith, some, none)
 
 -- its place is its family's
 ready_joined : (kept : List Kept) (history : List Event) (number : ℕ → ℕ) (moment family : ℕ) (g : Grant) (s : Shared) (digest : List ℕ) (r : Record) → FitsBy kept history moment number → IsMember history number moment family g →
     find (is_in family moment) kept ≡ Some (kept_under s digest r) →
-    IsReady history number moment g.family (family_place family s) × ((s.client ≡ g.client) × (s.owner ≡ g.owner))
+    IsReady history number moment g.family family s × ((s.client ≡ g.client) × (s.owner ≡ g.owner))
 ready_joined kept history number moment family g s digest r fits member found =
     let k = kept_under s digest r in
     let of = behind kept history number moment family k fits found in
@@ -141,42 +129,26 @@ ready_joined kept history number moment family g s digest r fits member found =
     owner_cases d h at (Code texts) kind owner (Some scope) terms = sym (code_terms-kin history d moment h (terms_by s.client s.owner scope) fits.is_history.kin at terms).1
 
 -- what is found of a family shows what it shares
-pub record FoundIn (families : List (Option Shared)) (es : List (List ℕ × Record)) (n : ℕ) (k : Kept) : Type 0 where
+pub record FoundIn (families : List (Option Shared)) (es : List (List ℕ × Record)) (n m : ℕ) : Type 0 where
   pub digest : List ℕ
   pub item : Record
-  pub is : k ≡ kept_under (shared_at families n) digest item
-  pub counted : 0 < member_count es n
+  pub at : find (is_in n m) (all_kept families es) ≡ Some (kept_under (shared_at families n) digest item)
 
-pub found_in : (families : List (Option Shared)) (es : List (List ℕ × Record)) (n m : ℕ) (k : Kept) → find (is_in n m) (all_kept families es) ≡ Some k → FoundIn families es n k
-found_in families [] n m k found = cc
-found_in families (e ∷ es) n m k found = in_cases (is_in n m (kept_in families e)) refl found (found_in families es n m k)
+pub found_in : (families : List (Option Shared)) (es : List (List ℕ × Record)) (n m : ℕ) → HasFamily (all_kept families es) n m → FoundIn families es n m
+found_in families es n m there = in_cases (find (λ e. is_in n m (kept_in families e)) es) refl
   where
-    sums : member_count (e ∷ es) n ≡ cond {A = ℕ} (eqb e.1.family n) 1 0 + member_count es n
-    sums = count_by-cons (λ x. eqb x.family n) e.1 (values_of es)
+    whole : find (is_in n m) (all_kept families es) ≡ option_map (kept_in families) (find (λ e. is_in n m (kept_in families e)) es)
+    whole = find-map (kept_in families) (is_in n m) es
 
-    in_cases : (b : Bool) → is_in n m (kept_in families e) ≡ b → cond b (Some (kept_in families e)) (find (is_in n m) (all_kept families es)) ≡ Some k →
-        (find (is_in n m) (all_kept families es) ≡ Some k → FoundIn families es n k) → FoundIn families (e ∷ es) n k
-    in_cases true is h more =
-        let first : kept_in families e ≡ k = cc in
-        let same = (and_parts (eqb e.1.family n) (is_unexpired m (kept_in families e).grant) is).0 in
-        let number : e.1.family ≡ n = eqb-true e.1.family n same in
-        let one = ap (λ b. cond {A = ℕ} b 1 0) same in
-        record { digest = e.0; item = e.1; is = sym first ∙ ap (λ i. kept_under (shared_at families i) e.0 e.1) number; counted = omega (arith, sums, one) }
-    in_cases false is h more = let rest = more h in record { digest = rest.digest; item = rest.item; is = rest.is; counted = (let some = rest.counted in omega (arith, sums, some)) }
+    in_cases : (o : Option (List ℕ × Record)) → find (λ e. is_in n m (kept_in families e)) es ≡ o → FoundIn families es n m
+    in_cases None is = absurd (grind (arith, whole, is, there))
+    in_cases (Some e) is = let passes = find-passes (λ e. is_in n m (kept_in families e)) es e is in record { digest = e.0; item = e.1; at = grind (arith, nat_tests, whole, is, passes) }
 
 pub fits_joined : (families : List (Option Shared)) (es : List (List ℕ × Record)) (history : List Event) (number : ℕ → ℕ) (moment family : ℕ) (g : Grant) (token : NewToken) →
     HasFamily (all_kept families es) family moment → IsMember history number moment family g → grant_at history token.digest moment ≡ None → FitsBy (all_kept families es) history moment number →
-    FitsBy (all_kept families es ++ token_kept (family_place family (shared_at families family)) moment token ∷ []) (with_change history moment (issued_with token g)) moment number
-fits_joined families es history number moment family g token there member untaken fits = joined_cases (find (is_in family moment) (all_kept families es)) refl there
-  where
-    s : Shared
-    s = shared_at families family
-
-    joined_cases : (o : Option Kept) → find (is_in family moment) (all_kept families es) ≡ o → is_some o ≡ true →
-        FitsBy (all_kept families es ++ token_kept (family_place family s) moment token ∷ []) (with_change history moment (issued_with token g)) moment number
-    joined_cases None found h = absurd (false≢true h)
-    joined_cases (Some k) found h =
-        let of = found_in families es family moment k found in
-        let ready = ready_joined (all_kept families es) history number moment family g s of.digest of.item fits member (found ∙ ap (λ x. Some x) of.is) in
-        let all = fits_token (all_kept families es) history number moment g.family (family_place family s) token ready.0 untaken fits in
-        rw (← ready.1.0, ← ready.1.1) all
+    FitsBy (all_kept families es ++ token_kept family (shared_at families family) moment token ∷ []) (with_change history moment (issued_with token g)) moment number
+fits_joined families es history number moment family g token there member untaken fits =
+    let s = shared_at families family in
+    let of = found_in families es family moment there in
+    let ready = ready_joined (all_kept families es) history number moment family g s of.digest of.item fits member of.at in
+    rw (← ready.1.0, ← ready.1.1) (fits_token (all_kept families es) history number moment g.family family s token ready.0 untaken fits)

@@ -5,9 +5,7 @@ pub mod Sweeping
 pub mod Families
 pub mod Issuing
 pub mod Looking
-pub mod Changed
 pub mod Following
-pub mod Opening
 pub mod Remaking
 pub mod Settling
 pub mod Spending

@@ -1,7 +1,6 @@
 -- When a store's answers are those of a history.
 use Rattle.std.specs.Prelude.{◌≡◌, ◌≤◌, ℕ, List, Bool, Option, Some, None, count_by, option_map, if◌then◌else◌, not}
-use Rattle.consent.specs.History.{Event, Grant, grant_at, is_spent, has_ended, code_terms, is_named, unexpired_count, IsHistory, has_room, is_taken, with_changes}
-use Rattle.consent.specs.History.{Change as told}
+use Rattle.consent.specs.History.{Event, Grant, grant_at, is_spent, has_ended, code_terms, is_named, unexpired_count, IsHistory, has_room, is_taken, with_changes, Change as told}
 use Rattle.consent.specs.Changes.{changes_of, AllFollow}
 use Rattle.consent.specs.declared.change.Change.{Change}
 use Rattle.token_store.specs.declared.fault.StoreFault.{StoreFault}

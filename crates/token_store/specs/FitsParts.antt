@@ -1,11 +1,9 @@
 -- Beside Fits: only the contracts of this crate's own parts and their proofs cite this, no public clause.
-use Rattle.std.specs.Prelude.{◌≡◌, ◌+◌, ℕ, List, Bool, Option, Some, None, if◌then◌else◌, ◌==◌, nat_le, is_some, length}
+use Rattle.std.specs.Prelude.{◌≡◌, ◌+◌, ℕ, List, Bool, Option, Some, if◌then◌else◌, ◌==◌, nat_le, is_some, length}
 use Rattle.consent.specs.Limits.{record_limit}
-use Rattle.consent.specs.History.{Event, Grant, grant_at, are_taken, with_change, CanFollow}
-use Rattle.consent.specs.History.{Change as told}
+use Rattle.consent.specs.History.{Event, Grant, grant_at, are_taken, with_change, CanFollow, Change as told}
 use Rattle.consent.specs.Changes.{change_of}
 use Rattle.consent.specs.declared.change.Change.{Change}
-use Rattle.consent.specs.declared.change.Change.TheVariants.{CodeGiven, IssuedAlone, Issued}
 use Rattle.token_store.specs.declared.fault.StoreFault.{StoreFault}
 use Rattle.token_store.specs.Kept.{Kept, kept_at, kept_unexpired}
 use Rattle.token_store.specs.Fits.{FitsHistory, refusal_by}
@@ -14,13 +12,6 @@ use Rattle.token_store.specs.Fits.{FitsHistory, refusal_by}
 abbrev pub MakesChange : (old new : List Kept) → ℕ → Change → Type 0
 MakesChange old new moment change = (history : List Event) (next : told) → FitsHistory old history moment →
     change_of history moment change ≡ Some next → CanFollow history moment next → FitsHistory new (with_change history moment next) moment
-
--- what the change gives is under a digest that names nothing
-abbrev pub GivesFree : List Event → ℕ → Change → Type 0
-GivesFree history moment (CodeGiven facts digest) = grant_at history digest moment ≡ None
-GivesFree history moment (IssuedAlone client token) = grant_at history token.digest moment ≡ None
-GivesFree history moment (Issued of token) = grant_at history token.digest moment ≡ None
-GivesFree history moment _ = Unit {0}
 
 -- there is room for so many more
 abbrev pub has_kept_room : List Kept → ℕ → ℕ → Bool

@@ -19,7 +19,8 @@ use Rattle.consent.specs.declared.change.CodeFacts.{CodeFacts}
 use Rattle.consent.specs.declared.change.NewToken.{NewToken}
 use Rattle.token_store.specs.Agenda.{is_deadline}
 use Rattle.token_store.specs.Kept.{Kept, kept_at, kept_unexpired}
-use Rattle.token_store.specs.Records.{terms_by, kept_under, kept_in, family_numbered, shared_at, kept_of, all_kept, expiry, expiry_of, owner_cmp, has_owner, code_shared, IsCounted}
+use Rattle.token_store.specs.Records.{terms_by, kept_under, kept_in, family_numbered, shared_at, kept_of, all_kept, expiry, expiry_of, owner_cmp, has_owner, code_shared, IsCounted, IsOwned}
+use Rattle.std.specs.Option.{option_and_then}
 
 abbrev pub is_live_at : ℕ → Record → Bool
 is_live_at moment r = nat_lt moment (r.moment + r.life)
@@ -70,13 +71,15 @@ abbrev pub AllGone : List Deadline → List (List ℕ × Record) → ℕ → Typ
 AllGone deadlines records moment = (digest : List ℕ) (t : ℕ) → list_any (is_deadline digest t) deadlines ≡ true →
     expiry_of (lookup (bytes_eq digest) records) ≡ Some t → moment < t
 
--- Some records are gone that had expired, and their families with the last of them.
-pub record Sheds (families : List (Option Shared)) (records : List (List ℕ × Record)) (families' : List (Option Shared)) (records' : List (List ℕ × Record))
-    (moment : ℕ) : Type 0 where
+-- Some records are gone that had expired, and their families with the last of them; none that is left has one of these deadlines and has expired.
+pub record Sheds (families : List (Option Shared)) (records : List (List ℕ × Record)) (owners : List ((ℕ × ℕ) × ℕ)) (families' : List (Option Shared))
+    (records' : List (List ℕ × Record)) (owners' : List ((ℕ × ℕ) × ℕ)) (deadlines : List Deadline) (moment : ℕ) : Type 0 where
   pub once : IsDistinct bytes_eq (keys_of records')
   pub counted : IsCounted families' records' []
+  pub owned : IsOwned families owners → IsOwned families' owners'
   pub same : TellsSame (all_kept families records) (all_kept families' records') moment
   pub fewer : (digest : List ℕ) (t : ℕ) → expiry_of (lookup (bytes_eq digest) records') ≡ Some t → expiry_of (lookup (bytes_eq digest) records) ≡ Some t
+  pub gone : AllGone deadlines records' moment
 
 -- each but the family with the number is as it was
 abbrev pub OthersStay : (old new : List (Option Shared)) → ℕ → Type 0
@@ -87,11 +90,13 @@ pub record HasEntered (old new : List (Option Shared)) (n more : ℕ) : Type 0 w
   pub here : family_numbered new n ≡ option_map (λ (s : Shared). record s { count = s.count + more }) (family_numbered old n)
   pub others : OthersStay old new n
 
--- one record fewer is of the family, which goes with the last
+-- the family with one record fewer, which goes with the last
+abbrev pub left_by : Shared → Option Shared
+left_by s = if nat_le s.count 1 then None else Some (record s { count = s.count - 1 })
+
+-- one record fewer is of the family
 pub record HasLeft (old new : List (Option Shared)) (n : ℕ) : Type 0 where
-  pub gone : family_numbered old n ≡ None → family_numbered new n ≡ None
-  pub here : (s : Shared) → family_numbered old n ≡ Some s → family_numbered new n ≡
-      (if nat_le s.count 1 then None else Some (record s { count = s.count - 1 }))
+  pub here : family_numbered new n ≡ option_and_then left_by (family_numbered old n)
   pub others : OthersStay old new n
 
 -- a family that was not there is there
@@ -212,37 +217,22 @@ abbrev pub IsCodeRecord : ℕ → CodeFacts → ℕ → Record → Type 0
 IsCodeRecord family facts moment r =
     (digest : List ℕ) (count : ℕ) → kept_under (code_shared facts count) digest r ≡ code_kept family digest facts moment
 
--- where tokens are issued: a family's number and what it shares
-pub record Place : Type 0 where
-  pub family : ℕ
-  pub client : ℕ
-  pub owner : ℕ
-  pub code_scope : Option ℕ
-  pub ended : Bool
-
-abbrev pub family_place : ℕ → Shared → Place
-family_place n s = record { family = n; client = s.client; owner = s.owner; code_scope = s.code_scope; ended = s.ended }
-
--- that of a family of the client's own
-abbrev pub own_place : ℕ → ℕ → Place
-own_place n client = record { family = n; client = client; owner = 0; code_scope = None; ended = false }
-
--- what is kept of a new token
-abbrev pub token_kept : Place → ℕ → NewToken → Kept
-token_kept place moment token = record {
+-- what is kept of a new token, in the family with the number
+abbrev pub token_kept : ℕ → Shared → ℕ → NewToken → Kept
+token_kept family s moment token = record {
   grant = record {
     digest = token.digest;
     kind = kind.Token token.kind;
-    family = place.family;
-    client = place.client;
-    owner = place.owner;
+    family = family;
+    client = s.client;
+    owner = s.owner;
     scope = token.scope;
     moment = moment;
     life = token.life;
     redirect = [];
     challenge = [];
   };
-  terms = option_map (terms_by place.client place.owner) place.code_scope;
+  terms = option_map (terms_by s.client s.owner) s.code_scope;
   spent = false;
-  ended = place.ended;
+  ended = s.ended;
 }

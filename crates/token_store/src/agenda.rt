@@ -51,6 +51,7 @@ impl Page {
     }
 
     /// Strikes out the deadlines that have come.
+    #[tactic(auto, using(crate::proofs::Timing::ahead_least))]
     fn strike(&mut self, moment: Moment)
         requires bounded { IsBounded self.old }
         ensures struck { self.new.deadlines.items ≡ filter (is_ahead moment) self.old.deadlines.items }

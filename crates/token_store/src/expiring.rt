@@ -5,8 +5,8 @@ ghost use Rattle.std.specs.Str.{bytes_eq};
 ghost use Rattle.std.specs.Map.{keys_of, lookup};
 ghost use Rattle.token_store.specs.Agenda.{IsBounded, deadlines_in, deadlines_of};
 ghost use Rattle.token_store.specs.AgendaParts.{is_ahead, HasCome};
-ghost use Rattle.token_store.specs.Records.{IsCounted, IsOwned, IsTied, kept_of};
-ghost use Rattle.token_store.specs.RecordsParts.{AllGone, AllLive, HasTaken, IsNoneExpired, Sheds, TellsSame, is_live_at};
+ghost use Rattle.token_store.specs.Records.{IsCounted, IsTied, kept_of};
+ghost use Rattle.token_store.specs.RecordsParts.{AllLive, HasTaken, IsNoneExpired, Sheds, TellsSame, is_live_at};
 
 use crate::agenda::{Deadline, Page};
 use crate::record::{Record, Shared};
@@ -19,6 +19,7 @@ use std::collections::hash_map::Entry;
 impl Tables {
     /// Lets go of all that has expired.
     #[inline]
+    #[tactic(auto, using(crate::proofs::Timing::ahead_least, std::proofs::lemmas::Bool::Decides::nat_tests))]
     pub(crate) fn drop_expired(&mut self, moment: Moment)
         requires { IsTied self.old [] }
         ensures tied { IsTied self.new [] }
@@ -70,9 +71,7 @@ fn drop_one(
     requires once { IsDistinct bytes_eq (keys_of records.old.entries) }
     requires counted { IsCounted families.old.slots records.old.entries [] }
     requires due { deadline.now.moment ≤ moment }
-    ensures sheds { Sheds families.old.slots records.old.entries families.new.slots records.new.entries moment }
-    ensures owned { IsOwned families.old.slots owners.old.keys → IsOwned families.new.slots owners.new.keys }
-    ensures gone { AllGone (deadline.now ∷ []) records.new.entries moment }
+    ensures { Sheds families.old.slots records.old.entries owners.old.keys families.new.slots records.new.entries owners.new.keys (deadline.now ∷ []) moment }
 {
     if let Some(expired) = take_expired(records, &deadline.digest, moment) {
         leave(families, owners, expired.family);
@@ -117,9 +116,7 @@ fn drop_all(
     requires once { IsDistinct bytes_eq (keys_of records.old.entries) }
     requires counted { IsCounted families.old.slots records.old.entries [] }
     requires due { HasCome deadlines.now moment }
-    ensures sheds { Sheds families.old.slots records.old.entries families.new.slots records.new.entries moment }
-    ensures owned { IsOwned families.old.slots owners.old.keys → IsOwned families.new.slots owners.new.keys }
-    ensures gone { AllGone deadlines.now records.new.entries moment }
+    ensures { Sheds families.old.slots records.old.entries owners.old.keys families.new.slots records.new.entries owners.new.keys deadlines.now moment }
 {
     for deadline in deadlines {
         if deadline.moment <= moment.get() {
@@ -139,9 +136,7 @@ fn drop_page(
     requires once { IsDistinct bytes_eq (keys_of records.old.entries) }
     requires counted { IsCounted families.old.slots records.old.entries [] }
     requires bounded { IsBounded page.now }
-    ensures sheds { Sheds families.old.slots records.old.entries families.new.slots records.new.entries moment }
-    ensures owned { IsOwned families.old.slots owners.old.keys → IsOwned families.new.slots owners.new.keys }
-    ensures gone { AllGone page.now.deadlines.items records.new.entries moment }
+    ensures { Sheds families.old.slots records.old.entries owners.old.keys families.new.slots records.new.entries owners.new.keys page.now.deadlines.items moment }
 {
     if page.earliest <= moment.get() {
         drop_all(records, families, owners, page.deadlines.as_slice(), moment);
@@ -159,9 +154,7 @@ fn drop_pages(
     requires once { IsDistinct bytes_eq (keys_of records.old.entries) }
     requires counted { IsCounted families.old.slots records.old.entries [] }
     requires bounded { AllByRecursion IsBounded pages.now }
-    ensures sheds { Sheds families.old.slots records.old.entries families.new.slots records.new.entries moment }
-    ensures owned { IsOwned families.old.slots owners.old.keys → IsOwned families.new.slots owners.new.keys }
-    ensures gone { AllGone (deadlines_in pages.now) records.new.entries moment }
+    ensures { Sheds families.old.slots records.old.entries owners.old.keys families.new.slots records.new.entries owners.new.keys (deadlines_in pages.now) moment }
 {
     for page in pages {
         drop_page(records, families, owners, page, moment);

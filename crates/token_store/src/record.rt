@@ -2,7 +2,7 @@
 ghost use Rattle.std.specs.Prelude.{◌≡◌, ◌+◌, ℕ, List, IfOk};
 ghost use Rattle.token_store.specs.Found.{found_seen, kept_seen};
 ghost use Rattle.token_store.specs.Records.{kept_under, code_shared, own_shared, texts_seen, texts_given};
-ghost use Rattle.token_store.specs.RecordsParts.{is_live_at, family_place, IsCodeRecord, token_kept, owner_no};
+ghost use Rattle.token_store.specs.RecordsParts.{is_live_at, IsCodeRecord, token_kept, owner_no};
 
 use crate::found::Found;
 use consent::{
@@ -165,7 +165,7 @@ impl Record {
 
     /// That of a token, in the family with the number.
     pub(crate) fn of_token(token: &NewToken, moment: Moment, number: usize) -> Record
-        ensures kept { (shared : Shared) → kept_under shared token.now.digest result ≡ token_kept (family_place number shared) moment token.now }
+        ensures kept { (shared : Shared) → kept_under shared token.now.digest result ≡ token_kept number shared moment token.now }
         ensures family { result.family ≡ number }
     {
         Record {

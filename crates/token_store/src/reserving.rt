@@ -1,9 +1,12 @@
 //! Room for changes.
-ghost use Rattle.std.specs.Prelude.{◌≡◌, ◌+◌, ℕ, [], OnOk, option_map};
+ghost use Rattle.std.specs.Prelude.{◌≡◌, ◌+◌, ℕ, List, [], OnOk, option_map};
+ghost use Rattle.std.specs.Str.{bytes_eq};
+ghost use Rattle.std.specs.Map.{lookup};
 ghost use Rattle.consent.specs.Changes.{as_list};
+ghost use Rattle.token_store.specs.Agenda.{deadlines_of};
 ghost use Rattle.token_store.specs.Records.{IsTied, kept_of, texts_seen};
 ghost use Rattle.token_store.specs.RecordsParts.{TellsSame};
-ghost use Rattle.token_store.specs.Room.{records_by, records_of, AreReady, HasRoomFor, room_of};
+ghost use Rattle.token_store.specs.Room.{records_by, records_of, AreReady, HasRoomFor, HasSpare, room_of};
 ghost use Rattle.token_store.specs.RoomParts.{ExpectsNext, MakesReady};
 
 use crate::record::{CodeTexts, Shared};
@@ -117,6 +120,21 @@ impl Tables {
         }
     }
 
+    /// Takes the memory for so many records more.
+    pub(crate) fn make_room(&mut self, alloc: Global, more: usize) -> Result<(), AllocError>
+        requires { IsTied self.old [] }
+        ensures tied { IsTied self.new [] }
+        ensures same { (moment : ℕ) → TellsSame (kept_of self.old) (kept_of self.new) moment }
+        ensures families { self.new.families ≡ self.old.families }
+        ensures coming { self.new.coming ≡ self.old.coming }
+        ensures deadlines { deadlines_of self.new.agenda ≡ deadlines_of self.old.agenda }
+        ensures found { (digest : List ℕ) → lookup (bytes_eq digest) self.new.records.entries ≡ lookup (bytes_eq digest) self.old.records.entries }
+        ensures room { OnOk result (HasSpare (room_of self.new) more) }
+    {
+        self.records.reserve(more)?;
+        self.agenda.reserve(alloc, more)
+    }
+
     /// Takes the memory that the changes need.
     pub(crate) fn reserve(&mut self, alloc: Global, changes: &Changes<'_>) -> Result<(), AllocError>
         requires tied { IsTied self.old [] }
@@ -126,8 +144,7 @@ impl Tables {
     {
         let count = records_of(changes);
         self.forget_coming();
-        self.records.reserve(count)?;
-        self.agenda.reserve(alloc, count)?;
+        self.make_room(alloc, count)?;
         self.prepare_all(alloc, changes)
     }
 }

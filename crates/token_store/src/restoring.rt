@@ -14,7 +14,7 @@ ghost use Rattle.token_store.specs.Homes.{AreHomes, HasHome, AllHome, HasGrown, 
 
 use crate::image::{is_of, is_unexpired, record_of, shared_by};
 use crate::record::Record;
-use crate::tables::{Tables, enter};
+use crate::tables::Tables;
 use consent::{Digest, KeptRecord, Moment, RECORD_LIMIT};
 use std::alloc::{AllocError, Global};
 use std::collections::HashMap;
@@ -51,15 +51,8 @@ impl Tables {
         ensures entered { OnOk result (HasEntered self.old.families.slots self.new.families.slots new.family 1) }
         ensures found { OnOk result (HasPut self.old.records.entries self.new.records.entries digest.now new) }
     {
-        // There are fewer than 2^63, and so there are of the family.
-        let _ = self.records.len();
-        self.records.reserve(1)?;
-        self.agenda.reserve(alloc, 1)?;
-        enter(&mut self.families, new.family, 1);
-        self.agenda.add(digest, new.expiry());
-        let Ok(_) = self.records.insert(*digest, new) else {
-            unreachable!()
-        };
+        self.make_room(alloc, 1)?;
+        self.put(digest, new);
         Ok(())
     }
 

@@ -11,7 +11,7 @@ ghost use Rattle.token_store.specs.FitsParts.{are_kept, has_kept_room, kept_refu
 ghost use Rattle.token_store.specs.Room.{HasSpare, room_of};
 ghost use Rattle.token_store.specs.RoomParts.{KeepsRoom, WaitsStill};
 ghost use Rattle.token_store.specs.Records.{family_numbered, kept_under, kept_of, shared_at, IsCounted, IsOwned, IsTied};
-ghost use Rattle.token_store.specs.RecordsParts.{deadline_of, is_live_at, IsNextOwned, start_of, kept_found, HasEntered, HasLeft, HasClosed, HasEnded, HasIndexed, HasOpened, HasLowered, HasSpent, lowered_by, AllLive, KeepsToo, OthersStay, RecordChange, all_changed, spent_in};
+ghost use Rattle.token_store.specs.RecordsParts.{deadline_of, is_live_at, IsNextOwned, start_of, kept_found, HasEntered, HasLeft, HasClosed, HasEnded, HasIndexed, HasOpened, HasLowered, HasPut, HasSpent, lowered_by, AllLive, KeepsToo, OthersStay, RecordChange, all_changed, spent_in};
 
 use crate::agenda::Agenda;
 use crate::fault::StoreFault;
@@ -245,6 +245,8 @@ impl Tables {
         ensures keeps { KeepsToo self.old self.new digest.now new }
         ensures room { (n : ℕ) → HasSpare (room_of self.old) (n + 1) → HasSpare (room_of self.new) n }
         ensures noted { deadlines_of self.new.agenda ≡ deadlines_of self.old.agenda ++ deadline_of digest.now new ∷ [] }
+        ensures found { HasPut self.old.records.entries self.new.records.entries digest.now new }
+        ensures entered { lookup (bytes_eq digest.now) self.old.records.entries ≡ None → HasEntered self.old.families.slots self.new.families.slots new.family 1 }
         ensures waiting { (n : ℕ) → n ≢ new.family → WaitsStill self.old.families.slots self.new.families.slots n }
         ensures coming { self.new.coming ≡ self.old.coming }
     {
@@ -280,7 +282,7 @@ fn add_owner(
 }
 
 // So many records more are of the family.
-pub(crate) fn enter(families: &mut Slab<Shared>, number: usize, more: usize)
+fn enter(families: &mut Slab<Shared>, number: usize, more: usize)
     requires few { (shared_at families.old.slots number).count + more < 2 ^ 64 }
     ensures entered { HasEntered families.old.slots families.new.slots number more }
 {

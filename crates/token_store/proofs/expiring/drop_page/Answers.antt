@@ -1,10 +1,13 @@
 use Rattle.std.proofs.Common.{arith}
-use Rattle.token_store.proofs.Sweeping.{gone_later}
+use Rattle.token_store.proofs.Sweeping.{sheds_none, gone_later}
 use Rattle.token_store.proofs.expiring.drop_page.Goals as goal
 
-pub returns-else-page-get-clause-gone : goal.returns-else-page-get-clause-gone
-returns-else-page-get-clause-gone c =
+pub returns-else-page-get : goal.returns-else-page-get
+returns-else-page-get c =
+    let a = c.args in
+    let xs = a.page.now.deadlines.items in
     let later = c.if-page-get.false in
     let is = c.get.ensures.value in
     let bounded = c.requires.bounded in
-    gone_later c.args.page.now.deadlines.items 18446744073709551615 c.args.moment c.args.records.now.entries (omega (arith, later, is, bounded))
+    sheds_none a.families.now.slots a.records.now.entries a.owners.now.keys xs a.moment c.requires.once c.requires.counted
+    (gone_later xs 18446744073709551615 a.moment a.records.now.entries (omega (arith, later, is, bounded)))

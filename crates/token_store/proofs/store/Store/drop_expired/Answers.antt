@@ -1,19 +1,17 @@
-use Rattle.std.proofs.Common.{◌∙◌, sym, subst, arith}
-use Rattle.token_store.specs.Kept.{Held}
+use Rattle.std.proofs.Common.{◌∙◌, List, arith}
+use Rattle.consent.specs.History.{Event}
 use Rattle.token_store.specs.Fits.{FitsHistory}
 use Rattle.token_store.specs.Records.{kept_of}
 use Rattle.token_store.proofs.Telling.{fits_same, all_unexpired}
 use Rattle.token_store.proofs.store.Store.drop_expired.Goals as goal
 
-pub returns-clause-fits : goal.returns-clause-fits
-returns-clause-fits c = λ history fits.
+pub returns : goal.returns
+returns c =
     let t = c.self.inside.tables in
-    let of : FitsHistory (kept_of t) history c.args.moment = subst (λ (h : Held). FitsHistory h.kept history c.args.moment) (sym c.self.view_is) fits in
-    record { number = of.number; fits = fits_same (kept_of t) c.drop_expired.new.self history c.args.moment of.number c.drop_expired.ensures.tied c.drop_expired.ensures.same of.fits }
-
-pub returns-clause-kept : goal.returns-clause-kept
-returns-clause-kept c = λ history fits.
-    let t = c.self.inside.tables in
-    let of : FitsHistory (kept_of t) history c.args.moment = subst (λ (h : Held). FitsHistory h.kept history c.args.moment) (sym c.self.view_is) fits in
-    let after = fits_same (kept_of t) c.drop_expired.new.self history c.args.moment of.number c.drop_expired.ensures.tied c.drop_expired.ensures.same of.fits in
-    all_unexpired c.drop_expired.new.self c.args.moment c.drop_expired.ensures.tied c.drop_expired.ensures.live ∙ after.count c.args.moment (omega arith)
+    let m = c.args.moment in
+    let t' = c.drop_expired.new.self in
+    let of = λ (history : List Event) (fits : FitsHistory (kept_of t) history m). fits_same (kept_of t) t' history m fits.number c.drop_expired.ensures.tied c.drop_expired.ensures.same fits.fits in
+    rw (← c.self.view_is) (record {
+      fits = λ history fits. record { number = fits.number; fits = of history fits };
+      kept = λ history fits. all_unexpired t' m c.drop_expired.ensures.tied c.drop_expired.ensures.live ∙ (of history fits).count m (omega arith);
+    })

@@ -4,20 +4,17 @@ use Rattle.token_store.specs.Room.{room_of}
 use Rattle.token_store.proofs.Waiting.{ready_all, waits_ended}
 use Rattle.token_store.proofs.tables.Tables.end.Goals as goal
 
-pub returns-clause-tied : goal.returns-clause-tied
-returns-clause-tied c =
+pub returns : goal.returns
+returns c =
     let t = c.args.self.now in
-    tied_ended t.families.slots c.end_one.new.families.slots c.args.number t.records.entries t.agenda t.owners.keys c.end_one.ensures.ended c.requires
-
-pub returns-clause-changed : goal.returns-clause-changed
-returns-clause-changed c =
-    let t = c.args.self.now in
-    view_ended t.families.slots c.end_one.new.families.slots c.args.number t.records.entries c.end_one.ensures.ended (λ k. (let same = c.requires.counted k in omega (arith, same)))
-
-pub returns-clause-room : goal.returns-clause-room
-returns-clause-room c = λ changes has.
-    let t = c.args.self.now in
+    let slots' = c.end_one.new.families.slots in
+    let n = c.args.number in
+    let ended = c.end_one.ensures.ended in
     record {
-      spare = record { records = has.spare.records };
-      ready = ready_all t.families.slots c.end_one.new.families.slots (room_of t).coming changes (λ k s waits. waits_ended t.families.slots c.end_one.new.families.slots c.args.number k s c.end_one.ensures.ended waits) has.ready;
+      tied = tied_ended t.families.slots slots' n t.records.entries t.agenda t.owners.keys ended c.requires;
+      changed = view_ended t.families.slots slots' n t.records.entries ended (λ k. (let same = c.requires.counted k in omega (arith, same)));
+      room = λ changes has. record {
+        spare = record { records = has.spare.records };
+        ready = ready_all t.families.slots slots' (room_of t).coming changes (λ k s waits. waits_ended t.families.slots slots' n k s ended waits) has.ready;
+      };
     }

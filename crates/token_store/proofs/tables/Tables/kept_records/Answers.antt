@@ -4,11 +4,12 @@ use Rattle.std.specs.Str.{bytes_eq}
 use Rattle.std.specs.Map.{lookup}
 use Rattle.std.specs.Map.Iter.{deref_pair}
 use Rattle.std.proofs.lemmas.Map.Iter.{rest_more}
+use Rattle.std.proofs.lemmas.List.Elements.{All-rest}
 use Rattle.token_store.specs.declared.record.Record.{Record}
 use Rattle.token_store.specs.Image.{as_kept, kept_record}
 use Rattle.token_store.specs.Records.{kept_in, kept_under, or_nothing}
 use Rattle.token_store.specs.RecordsParts.{is_live_at}
-use Rattle.token_store.proofs.Remaking.{step_expired, step_kept, all_rest}
+use Rattle.token_store.proofs.Remaking.{step_expired, step_kept}
 use Rattle.token_store.proofs.tables.Tables.kept_records.Goals as goal
 
 pub loop-digest-preserved-then-not-is_unexpired : goal.loop-digest-preserved-then-not-is_unexpired
@@ -21,7 +22,7 @@ loop-digest-preserved-then-not-is_unexpired c =
     let expired : is_live_at c.args.moment c.in-Some.record.now ≡ false = search rules in
     record {
       so_far = step_expired f c.args.moment (as_kept c.loop-digest.kept.items) _ it u e is expired c.loop-digest.invariant.so_far;
-      found = all_rest (λ x. lookup (bytes_eq x.0) c.args.self.now.records.entries ≡ Some x.1) it u e is c.loop-digest.invariant.found;
+      found = All-rest (λ x. lookup (bytes_eq x.0) c.args.self.now.records.entries ≡ Some x.1) e u it is c.loop-digest.invariant.found;
     }
 
 pub loop-digest-preserved : goal.loop-digest-preserved
@@ -36,5 +37,5 @@ loop-digest-preserved c =
     let same : kept_record c.kept.result ≡ kept_in f e = c.kept.ensures ∙ ap (λ o. kept_under (or_nothing o) c.in-Some.digest.now c.in-Some.record.now) (sym slot) in
     record {
       so_far = step_kept f c.args.moment c.loop-digest.kept.items c.push.new.self.items c.kept.result _ it u e is live same c.in-Ok.ensures.items c.loop-digest.invariant.so_far;
-      found = all_rest (λ x. lookup (bytes_eq x.0) c.args.self.now.records.entries ≡ Some x.1) it u e is c.loop-digest.invariant.found;
+      found = All-rest (λ x. lookup (bytes_eq x.0) c.args.self.now.records.entries ≡ Some x.1) e u it is c.loop-digest.invariant.found;
     }

@@ -3,23 +3,17 @@ use Rattle.token_store.specs.Room.{room_of}
 use Rattle.token_store.proofs.Waiting.{ready_all, waits_lowered}
 use Rattle.token_store.proofs.tables.Tables.lower.Goals as goal
 
-pub returns-clause-tied : goal.returns-clause-tied
-returns-clause-tied c =
+pub returns : goal.returns
+returns c =
     let t = c.args.self.now in
-    tied_lowered t.families.slots c.lower_all.new.families.slots c.args.owner c.args.client c.args.mask t.records.entries t.agenda t.owners.keys
-    (rw (c.get.ensures.value, c.get-2.ensures.value) at c.lower_all.ensures.lowered) c.requires
-
-pub returns-clause-changed : goal.returns-clause-changed
-returns-clause-changed c =
-    let t = c.args.self.now in
-    view_lowered t.families.slots c.lower_all.new.families.slots t.records.entries c.args.owner c.args.client c.args.mask
-    (rw (c.get.ensures.value, c.get-2.ensures.value) at c.lower_all.ensures.lowered)
-
-pub returns-clause-room : goal.returns-clause-room
-returns-clause-room c = λ changes has.
-    let t = c.args.self.now in
+    let slots' = c.lower_all.new.families.slots in
+    let a = c.args in
     let lowered = rw (c.get.ensures.value, c.get-2.ensures.value) at c.lower_all.ensures.lowered in
     record {
-      spare = record { records = has.spare.records };
-      ready = ready_all t.families.slots c.lower_all.new.families.slots (room_of t).coming changes (λ k s waits. waits_lowered t.families.slots c.lower_all.new.families.slots c.args.owner c.args.client c.args.mask k s lowered waits) has.ready;
+      tied = tied_lowered t.families.slots slots' a.owner a.client a.mask t.records.entries t.agenda t.owners.keys lowered c.requires;
+      changed = view_lowered t.families.slots slots' t.records.entries a.owner a.client a.mask lowered;
+      room = λ changes has. record {
+        spare = record { records = has.spare.records };
+        ready = ready_all t.families.slots slots' (room_of t).coming changes (λ k s waits. waits_lowered t.families.slots slots' a.owner a.client a.mask k s lowered waits) has.ready;
+      };
     }

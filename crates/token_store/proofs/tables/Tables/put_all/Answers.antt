@@ -1,9 +1,10 @@
-use Rattle.std.proofs.Common.{◌≡◌, ◌+◌, ◌∷◌, ◌++◌, [], take, drop, ap, ◌∙◌, sym}
+use Rattle.std.proofs.Common.{◌≡◌, ◌+◌, ◌∷◌, ◌++◌, [], take, drop, ap, ◌∙◌, sym, subst}
 use Rattle.std.proofs.lemmas.List.{take_more}
+use Rattle.std.proofs.Math.Logic.{⊎_map}
 use Rattle.token_store.specs.Records.{kept_of}
 use Rattle.token_store.specs.ImageParts.{renumbered}
-use Rattle.token_store.specs.Homes.{renumber_by}
-use Rattle.token_store.proofs.Remaking.{parts_at, all_at, all_mapped, two_from, tells_push, known_push, known_from}
+use Rattle.token_store.specs.Homes.{AllHome, renumber_by}
+use Rattle.token_store.proofs.Remaking.{parts_at, all_split, all_mapped, two_from, tells_push, known_push}
 use Rattle.token_store.proofs.tables.Tables.put_all.Goals as goal
 
 pub put_home-requires-clause-home : goal.put_home-requires-clause-home
@@ -12,7 +13,8 @@ put_home-requires-clause-home c =
     let i = c.loop-kept.kept-index in
     let r = c.kept-item.result in
     let whole : rs ≡ take i rs ++ r ∷ drop (i + 1) rs = parts_at rs i r c.loop-kept-test.true ∙ ap (λ x. take i rs ++ x ∷ drop (i + 1) rs) (sym c.kept-item.is) in
-    all_at c.args.numbers.now.entries c.loop-kept.self.families.slots c.args.moment rs (take i rs) r (drop (i + 1) rs) whole c.loop-kept.invariant.all
+    let all = subst (AllHome c.args.numbers.now.entries c.loop-kept.self.families.slots c.args.moment) whole c.loop-kept.invariant.all in
+    all_split c.args.numbers.now.entries c.loop-kept.self.families.slots c.args.moment (take i rs) r (drop (i + 1) rs) all
 
 pub returns-in-Err-clause-twice : goal.returns-in-Err-clause-twice
 returns-in-Err-clause-twice c = λ is.
@@ -35,5 +37,5 @@ loop-kept-preserved c =
       tied = c.in_default.ensures.tied;
       tells = rw more (tells_push (renumbered (renumber_by n)) (take i rs) r (kept_of c.loop-kept.self) (kept_of c.put_home.new.self) m c.loop-kept.invariant.tells c.in_default.ensures.tells);
       all = all_mapped n n c.loop-kept.self.families.slots c.put_home.new.self.families.slots m rs c.in_default.ensures.homes c.loop-kept.invariant.all;
-      known = λ d there. rw more (known_push (take i rs) r d m (known_from _ _ _ (c.loop-kept.invariant.known d) (c.in_default.ensures.found d there)));
+      known = λ d there. rw more (known_push (take i rs) r d m (⊎_map (c.loop-kept.invariant.known d) (λ q. q) (c.in_default.ensures.found d there)));
     }
