@@ -1,36 +1,36 @@
 -- Whatever steps lead to, what was written answers what was read.
-use Rattle.std.proofs.Common.{◌≡◌, ◌≢◌, inl, inr, ℕ, List, [], ◌∷◌, ◌++◌, false, Some, length, append_assoc, refl, sym, ap, subst, ◌∙◌}
-use Rattle.std.specs.Prelude.{slice_get, slice_set}
-use Rattle.std.proofs.lemmas.Bool.{false≢true}
+use Rattle.std.proofs.Common.{◌≡◌, ◌≢◌, inl, inr, ℕ, List, [], ◌∷◌, ◌++◌, false, Some, length, append_assoc, refl, sym, ap, subst, ◌∙◌, slice_get, slice_set}
+use Rattle.event_loop.specs.declared.place.Place.{Place}
+use Rattle.event_loop.specs.Places.{IsOccupied, IsInService, IsFreeAt, MayRead, read_limit}
+use Rattle.event_loop.specs.Closing.{Closes, leaves}
 use Rattle.std.proofs.lemmas.Bool.Decides.{eqb_tells}
 use Rattle.http_edge.specs.Schedule.{connection_at, piece_of, untaken}
 use Rattle.http_edge.specs.Reached.{is_closing}
-use Rattle.event_loop.specs.declared.fault.ConnectionFault.TheVariants.{Read, Write, Refused}
-use Rattle.event_loop.specs.declared.place.Place.{Place}
-use Rattle.event_loop.specs.declared.place.Stage.{Stage}
+use Rattle.event_loop.specs.Progress.{Progress, known, IsReached}
+use Rattle.event_loop.specs.Giving.{GivesPieces}
+use Rattle.std.proofs.lemmas.Bool.{false≢true}
+use Rattle.http_edge.proofs.Connections.{no_other}
+use Rattle.event_loop.specs.LoopStates.{Promises, LoopState, with_call, with_place}
 use Rattle.event_loop.specs.declared.place.Stage.TheVariants.{Free, Open, Ended, Broken}
+use Rattle.event_loop.specs.Calls.{Call}
+use Rattle.event_loop.specs.Coming.{opens, denies, finds_nobody, asks, fresh_place, fails}
+use Rattle.event_loop.specs.Served.{LoopStep, Served, hears_of_listener, hears_of, hears_of_none, comes, tries_again, reads, writes, closes, reports, keeps, puts_image, no_image, begins, goes, waits}
+use Rattle.event_loop.specs.Reading.{ReadsPlace}
+use Rattle.event_loop.specs.Writing.{WritesPlace}
+use Rattle.event_loop.specs.declared.fault.ConnectionFault.TheVariants.{Read, Write, Refused}
+use Rattle.event_loop.specs.declared.place.Stage.{Stage}
 use Rattle.event_loop.specs.declared.sockets.Accepted.TheVariants as accepted
 use Rattle.event_loop.specs.Calls as call
-use Rattle.event_loop.specs.Calls.{Call}
-use Rattle.event_loop.specs.Progress.{known, IsReached}
-use Rattle.event_loop.specs.Places.{IsOccupied, IsInService, IsFreeAt, MayRead, read_limit}
-use Rattle.event_loop.specs.LoopStates.{Promises, LoopState}
-use Rattle.event_loop.specs.Coming.{AcceptsOne, opens, denies, finds_nobody, fails, asks, fresh_place}
 use Rattle.event_loop.specs.Reading as reading
-use Rattle.event_loop.specs.Reading.{ReadsPlace}
 use Rattle.event_loop.specs.Writing as writing
-use Rattle.event_loop.specs.Writing.{WritesPlace}
-use Rattle.event_loop.specs.Closing.{Closes, leaves}
-use Rattle.event_loop.specs.Served.{LoopStep, Served, waits, hears_of_listener, hears_of, hears_of_none, comes, tries_again, reads, writes, closes, reports, keeps, puts_image, no_image, begins, goes}
 use Rattle.event_loop.specs.Answered.{PlaceExchange, IsAllAnswered, read_at, written_at}
 use Rattle.event_loop.proofs.Putting.{set_cases}
 use Rattle.event_loop.proofs.Kept.{kept_connections}
-use Rattle.http_edge.proofs.Connections.{no_other}
 use Rattle.event_loop.proofs.Others.{is_itself, opens_other, ends_other, takes_other, forgets_other}
 use Rattle.event_loop.proofs.Telling.{Talk, talk_opened, talk_lost, talk_given, talk_ended, talk_written, closing_taken, gives_reached, gives_other}
 
 -- one that is served is there
-served_taken : (stage : Stage) → IsInService stage → IsOccupied stage
+pub served_taken : (stage : Stage) → IsInService stage → IsOccupied stage
 served_taken Free is = absurd is
 served_taken Open is = tt
 served_taken Ended is = tt
@@ -61,16 +61,9 @@ module _ {N C J K H : Type 0} where
   -- nothing happened to it
   stays_same : (s s' : LoopState N C J K H) (k : ℕ) (place place' : Place) → PlaceExchange s k place → known s'.progress k ≡ known s.progress k → read_at k s'.calls ≡ read_at k s.calls → written_at k s'.calls ≡ written_at k s.calls →
       (place'.stage ≡ Open → place.stage ≡ Open) → PlaceExchange s' k place'
-  stays_same s s' k place place' x same_known same_read same_written opened = record {
-    connection = x.connection;
-    here = same_known ∙ x.here;
-    lost = x.lost;
-    stream = same_read ∙ x.stream;
-    rest = x.rest;
-    requests = x.requests;
-    front = ap (λ bytes. bytes ++ untaken (Some x.connection)) same_written ∙ x.front;
-    whole = λ is_open stays. x.whole (opened is_open) stays;
-  }
+  stays_same s s' k place place' x same_known same_read same_written opened =
+      exchange_of s' k place' _ _ x.lost same_read same_written (subst (Talk (read_at k s.calls) (written_at k s.calls) x.lost) (sym same_known) (talk_of s k place x))
+      (λ is_open stays. x.whole (opened is_open) (ap is_closing (sym x.here) ∙ ap is_closing (sym same_known) ∙ stays))
 
   -- the place of a step at j, and another
   module _ (p : Promises N C J K H) (s : LoopState N C J K H) (before : IsAllAnswered p s) where
@@ -124,60 +117,31 @@ module _ {N C J K H : Type 0} where
           (λ k other. ap (λ progress. known progress k) same_progress) (λ k other. same_read k) (λ k other. same_written k);
     }
 
-    comes_answered : (s' : LoopState N C J K H) → AcceptsOne p s s' → IsAllAnswered p s'
-    comes_answered s' (opens j n e on within free done) = record {
-      reached = on.reached;
-      exchanges =
-          at_places _ j (fresh_place s.times.steady) refl
-          (λ taken. exchange_of _ j (fresh_place s.times.steady) [] [] [] (came_here j s.calls).0 (came_here j s.calls).1 (talk_opened s.progress.journey.world on.world j on.happens) (λ is_open stays. refl))
-          (λ k other. opens_other s.progress.journey.world on.world j k on.happens other) (λ k other. (came_other j k s.calls other).0) (λ k other. (came_other j k s.calls other).1);
-    }
-    comes_answered s' (denies j n n' fault noted within free done refused closed noting) = record {
-      reached = before.reached;
-      exchanges = λ k place here taken. elim (eqb_tells k j) [
-        | inl is ↦ absurd (not_free s.places j place free (subst (λ i. slice_get s.places i ≡ Some place) is.1 here) taken)
-        | inr is ↦ stays_same s _ k place place (before.exchanges k place here taken) refl (came_other j k s.calls is.1).0 (came_other j k s.calls is.1).1 (λ e. e)
-      ];
-    }
-    comes_answered s' (finds_nobody j n done) = idles _ refl refl (λ k. refl) (λ k. refl)
-    comes_answered s' (fails j n noted done noting) = idles _ refl refl (λ k. refl) (λ k. refl)
-    comes_answered s' (asks n taken done) = idles _ refl refl (λ k. refl) (λ k. refl)
+    -- a front of the bytes that were read is given to the connection, and the rest is lost
+    given_answered : (j : ℕ) (place place' : Place) (bytes given lost : List ℕ) (n : N) (progress : Progress H) → slice_get s.places j ≡ Some place → MayRead place (known s.progress j) →
+        GivesPieces p.hosting (piece_of j bytes s.times.moment) s.progress given progress → bytes ≡ given ++ lost → (place'.stage ≡ Open → is_closing (known progress j) ≡ false → lost ≡ []) →
+        IsAllAnswered p (record (with_place (with_call s (call.Read j read_limit (call.Bytes bytes)) n) j place') { progress = progress })
+    given_answered j place place' bytes given lost n progress here may giving all whole =
+        let x = before.exchanges j place here (subst IsOccupied (sym may.is_open) tt) in
+        let nothing_lost : x.lost ≡ [] = x.whole may.is_open (ap is_closing (sym x.here) ∙ may.stays) in
+        let t : Talk (read_at j s.calls) (written_at j s.calls) [] (known s.progress j) = subst (λ lost. Talk (read_at j s.calls) (written_at j s.calls) lost (known s.progress j)) nothing_lost (talk_of s j place x) in
+        let t' = talk_given p.hosting (piece_of j bytes s.times.moment) s.progress given progress (read_at j s.calls) (written_at j s.calls) giving before.reached t in
+        let read : read_at j (call.Read j read_limit (call.Bytes bytes) ∷ s.calls) ≡ (read_at j s.calls ++ given) ++ lost =
+        read_here j bytes s.calls ∙ ap (λ l. read_at j s.calls ++ l) all ∙ sym (append_assoc (read_at j s.calls) given lost) in
+        record {
+          reached = gives_reached p.hosting (piece_of j bytes s.times.moment) s.progress given progress giving before.reached;
+          exchanges =
+              at_places _ j place' refl (λ taken. exchange_of _ j place' _ _ lost read refl (talk_lost _ _ [] lost _ t') whole)
+              (λ k other. gives_other p.hosting (piece_of j bytes s.times.moment) k s.progress given progress giving other)
+              (λ k other. read_other j k bytes s.calls other) (λ k other. refl);
+        }
 
     reads_answered : (j : ℕ) (place : Place) (s' : LoopState N C J K H) → slice_get s.places j ≡ Some place → MayRead place (known s.progress j) → ReadsPlace p j place s s' → IsAllAnswered p s'
     reads_answered j place s' here may (reading.hears bytes n progress place' some few done heard is) =
-        let taken : IsOccupied place.stage = subst IsOccupied (sym may.is_open) tt in
-        let x = before.exchanges j place here taken in
-        let nothing_lost : x.lost ≡ [] = x.whole may.is_open (ap is_closing (sym x.here) ∙ may.stays) in
-        let t : Talk (read_at j s.calls) (written_at j s.calls) [] (known s.progress j) = subst (λ lost. Talk (read_at j s.calls) (written_at j s.calls) lost (known s.progress j)) nothing_lost (talk_of s j place x) in
-        let t' = talk_given p.hosting (piece_of j bytes s.times.moment) s.progress heard.given progress (read_at j s.calls) (written_at j s.calls) heard.gives before.reached t in
-        let none_left : is_closing (known progress j) ≡ false → heard.rest ≡ [] = λ stays. elim heard.over [ inl none ↦ none | inr closed ↦ absurd (false≢true (sym stays ∙ closed)) ] in
-        let all : read_at j (call.Read j read_limit (call.Bytes bytes) ∷ s.calls) ≡ (read_at j s.calls ++ heard.given) ++ heard.rest =
-        read_here j bytes s.calls ∙ ap (λ l. read_at j s.calls ++ l) heard.all ∙ sym (append_assoc (read_at j s.calls) heard.given heard.rest) in
-        record {
-          reached = gives_reached p.hosting (piece_of j bytes s.times.moment) s.progress heard.given progress heard.gives before.reached;
-          exchanges =
-              at_places _ j place' refl
-              (λ taken'. exchange_of _ j place' _ _ heard.rest all refl (talk_lost _ _ [] heard.rest _ t') (λ is_open stays. none_left stays))
-              (λ k other. gives_other p.hosting (piece_of j bytes s.times.moment) k s.progress heard.given progress heard.gives other)
-              (λ k other. read_other j k bytes s.calls other) (λ k other. refl);
-        }
+        given_answered j place place' bytes heard.given heard.rest n progress here may heard.gives heard.all
+        (λ is_open stays. elim heard.over [ inl none ↦ none | inr closed ↦ absurd (false≢true (sym stays ∙ closed)) ])
     reads_answered j place s' here may (reading.refuses bytes n fault progress some few done unheard) =
-        let taken : IsOccupied place.stage = subst IsOccupied (sym may.is_open) tt in
-        let x = before.exchanges j place here taken in
-        let nothing_lost : x.lost ≡ [] = x.whole may.is_open (ap is_closing (sym x.here) ∙ may.stays) in
-        let t : Talk (read_at j s.calls) (written_at j s.calls) [] (known s.progress j) = subst (λ lost. Talk (read_at j s.calls) (written_at j s.calls) lost (known s.progress j)) nothing_lost (talk_of s j place x) in
-        let t' = talk_given p.hosting (piece_of j bytes s.times.moment) s.progress unheard.given progress (read_at j s.calls) (written_at j s.calls) unheard.gives before.reached t in
-        let lost : List ℕ = unheard.part ++ unheard.rest in
-        let all : read_at j (call.Read j read_limit (call.Bytes bytes) ∷ s.calls) ≡ (read_at j s.calls ++ unheard.given) ++ lost =
-        read_here j bytes s.calls ∙ ap (λ l. read_at j s.calls ++ l) unheard.all ∙ sym (append_assoc (read_at j s.calls) unheard.given lost) in
-        record {
-          reached = gives_reached p.hosting (piece_of j bytes s.times.moment) s.progress unheard.given progress unheard.gives before.reached;
-          exchanges =
-              at_places _ j (record place { stage = Broken (Refused fault) }) refl
-              (λ taken'. exchange_of _ j (record place { stage = Broken (Refused fault) }) _ _ lost all refl (talk_lost _ _ [] lost _ t') (λ is_open stays. absurd (cc)))
-              (λ k other. gives_other p.hosting (piece_of j bytes s.times.moment) k s.progress unheard.given progress unheard.gives other)
-              (λ k other. read_other j k bytes s.calls other) (λ k other. refl);
-        }
+        given_answered j place (record place { stage = Broken (Refused fault) }) bytes unheard.given (unheard.part ++ unheard.rest) n progress here may unheard.gives unheard.all (λ is_open stays. absurd (cc))
     reads_answered j place s' here may (reading.ends n e on done) =
         let taken : IsOccupied place.stage = subst IsOccupied (sym may.is_open) tt in
         let x = before.exchanges j place here taken in
@@ -227,7 +191,23 @@ module _ {N C J K H : Type 0} where
         let same : place'.stage ≡ place.stage = ap (λ (q : Place). q.stage) told in
         notes_place _ j place place' here refl refl (λ t. subst IsOccupied same t) (λ e. sym same ∙ e) (λ k. refl) (λ k. refl)
     step_answered s' (hears_of_none j readable writable hung more is none) = idles _ refl refl (λ k. refl) (λ k. refl)
-    step_answered s' (comes s'' told coming) = comes_answered s'' coming
+    step_answered s' (comes s'' told (opens j n e on within free done)) = record {
+      reached = on.reached;
+      exchanges =
+          at_places _ j (fresh_place s.times.steady) refl
+          (λ taken. exchange_of _ j (fresh_place s.times.steady) [] [] [] (came_here j s.calls).0 (came_here j s.calls).1 (talk_opened s.progress.journey.world on.world j on.happens) (λ is_open stays. refl))
+          (λ k other. opens_other s.progress.journey.world on.world j k on.happens other) (λ k other. (came_other j k s.calls other).0) (λ k other. (came_other j k s.calls other).1);
+    }
+    step_answered s' (comes s'' told (denies j n n' fault noted within free done refused closed noting)) = record {
+      reached = before.reached;
+      exchanges = λ k place here taken. elim (eqb_tells k j) [
+        | inl is ↦ absurd (not_free s.places j place free (subst (λ i. slice_get s.places i ≡ Some place) is.1 here) taken)
+        | inr is ↦ stays_same s _ k place place (before.exchanges k place here taken) refl (came_other j k s.calls is.1).0 (came_other j k s.calls is.1).1 (λ e. e)
+      ];
+    }
+    step_answered s' (comes s'' told (finds_nobody j n done)) = idles _ refl refl (λ k. refl) (λ k. refl)
+    step_answered s' (comes s'' told (fails j n noted done noting)) = idles _ refl refl (λ k. refl) (λ k. refl)
+    step_answered s' (comes s'' told (asks n taken done)) = idles _ refl refl (λ k. refl) (λ k. refl)
     step_answered s' (tries_again since barred later) = idles _ refl refl (λ k. refl) (λ k. refl)
     step_answered s' (reads j place s'' here readable unread may reading) = reads_answered j place s'' here may reading
     step_answered s' (writes j place s'' here writable unwritten kept may writing) = writes_answered j place s'' here (served_taken place.stage may.served) writing

@@ -1,20 +1,18 @@
 -- Bytes given in cuts.
-use Rattle.std.proofs.Common.{◌≡◌, ◌≤◌, ◌+◌, ◌-◌, ℕ, List, [], ◌∷◌, ◌++◌, false, None, length, take, drop, append_assoc, append-nil, refl, sym, ap, ◌∙◌, inl, arith}
-use Rattle.std.proofs.lemmas.List.{take-append-drop, length-take}
-use Rattle.std.proofs.Math.Seq.{take-add}
-use Rattle.rand_chacha.specs.ChaCha.{ChaCha}
-use Rattle.hook_host.specs.declared.host.HookHost.{Ghosts as Hosting}
+use Rattle.std.proofs.Common.{◌≡◌, ◌≤◌, ◌+◌, ◌-◌, ℕ, List, [], ◌∷◌, ◌++◌, false, None, length, take, drop, append_assoc, append-nil, refl, sym, ap, ◌∙◌, inl, arith, take-append-drop, length-take, take-add}
 use Rattle.http_edge.specs.Schedule.{Piece, Came, connection_at}
 use Rattle.http_edge.specs.Edges.{SeenEdge}
 use Rattle.http_edge.specs.Reached.{Journey, Reached, is_closing, led_on}
+use Rattle.http_edge.specs.Pieces.{PieceGiven, RefusesPiece, supplied}
+use Rattle.event_loop.specs.Progress.{Progress}
+use Rattle.event_loop.specs.Giving.{GivesPieces, nothing, gives, cut_limit, AreBytesHeard, IsUnheard}
+use Rattle.rand_chacha.specs.ChaCha.{ChaCha}
+use Rattle.event_loop.specs.GivingParts.{GivesOn}
+use Rattle.hook_host.specs.declared.host.HookHost.{Ghosts as Hosting}
 use Rattle.http_edge.specs.declared.fault.EdgeFault.{EdgeFault}
 use Rattle.http_edge.specs.declared.fault.EdgeFault.TheVariants.{TooManyRequests}
 use Rattle.http_edge.specs.Sources.{draws_for}
-use Rattle.http_edge.specs.Pieces.{PieceGiven, RefusesPiece, supplied}
 use Rattle.http_edge.specs.contracts.chance.ChaCha20RngDrawSource.TheImpl as generators
-use Rattle.event_loop.specs.Progress.{Progress}
-use Rattle.event_loop.specs.Giving.{GivesPieces, nothing, gives, cut_limit}
-use Rattle.event_loop.specs.GivingParts.{GivesAll, GivesSome}
 
 module _ {H : Type 0} (hosting : Hosting H) (piece : Piece) where
   -- a front of its bytes was given
@@ -35,21 +33,21 @@ module _ {H : Type 0} (hosting : Hosting H) (piece : Piece) where
 
   -- all was given at once
   pub heard_at_once : (progress : Progress H) (edge : SeenEdge H) (generator : ChaCha) → Reached hosting progress.edge progress.journey →
-      is_closing (connection_at progress.journey.world.connections piece.connection) ≡ false → PieceGiven hosting generators.ghosts (supplied progress.edge progress.generator) piece (supplied edge generator) → GivesAll hosting piece progress (supplied edge generator)
+      is_closing (connection_at progress.journey.world.connections piece.connection) ≡ false → PieceGiven hosting generators.ghosts (supplied progress.edge progress.generator) piece (supplied edge generator) → GivesOn (AreBytesHeard hosting piece progress) (supplied edge generator)
   heard_at_once progress edge generator reached stays piece_given =
       let front = gives_part progress progress [] piece.bytes edge generator nothing reached stays piece_given in
       record {
         journey = front.journey;
-        heard = record { given = piece.bytes; rest = []; all = sym (append-nil piece.bytes); gives = front.given; over = inl refl };
+        given = record { given = piece.bytes; rest = []; all = sym (append-nil piece.bytes); gives = front.given; over = inl refl };
       }
 
   -- a part behind the front was refused, and is not cut
   pub unheard_behind : (first progress : Progress H) (front part rest : List ℕ) (fault : EdgeFault) (edge : SeenEdge H) (generator : ChaCha) → GivesPieces hosting piece first front progress →
       Reached hosting progress.edge progress.journey → piece.bytes ≡ front ++ (part ++ rest) → RefusesPiece hosting progress.edge (record piece { bytes = part }) None fault → edge ≡ progress.edge → generator ≡ progress.generator →
-      (fault ≡ TooManyRequests → length part ≤ cut_limit) → GivesSome hosting piece fault first (supplied edge generator)
+      (fault ≡ TooManyRequests → length part ≤ cut_limit) → GivesOn (IsUnheard hosting piece fault first) (supplied edge generator)
   unheard_behind first progress front part rest fault edge generator given reached all refused same undrawn cut = record {
     journey = progress.journey;
-    unheard = record {
+    given = record {
       given = front;
       part = part;
       rest = rest;

@@ -1,11 +1,13 @@
 -- Calls that were done after others.
-use Rattle.std.proofs.Common.{suc, ◌≡◌, ◌≢◌, ◌⊎◌, inl, inr, ◌<◌, ℕ, List, Some, None, refl, sym, ◌∙◌, arith, [], ◌∷◌}
+use Rattle.std.proofs.Common.{suc, ◌≡◌, ◌≢◌, ◌⊎◌, inl, inr, ◌<◌, ℕ, List, Some, refl, sym, ◌∙◌, arith, [], ◌∷◌}
 use Rattle.event_loop.specs.declared.place.Place.{Place}
-use Rattle.event_loop.specs.Calls as call
-use Rattle.event_loop.specs.Calls.{Call, CallKind, Keeping, IsDone, waits, done_since}
-use Rattle.event_loop.specs.LoopStates.{Promises, LoopState}
 use Rattle.event_loop.specs.Closing.{Closes, leaves}
-use Rattle.event_loop.specs.Goes.{DoneAfter}
+use Rattle.std.proofs.lemmas.Option.{same_Some}
+use Rattle.event_loop.specs.LoopStates.{Promises, LoopState}
+use Rattle.event_loop.specs.Calls.{Call, CallKind, Keeping, IsDone, done_since, waits}
+use Rattle.event_loop.specs.Served.{Served}
+use Rattle.event_loop.specs.Goes.{DoneAfter, LeadsOn, Running, Standing, standing, state_of}
+use Rattle.event_loop.specs.Calls as call
 
 -- nothing
 pub none_more : (calls : List Call) → DoneAfter calls calls
@@ -15,25 +17,13 @@ none_more calls = record { waits = refl; grows = omega arith; keeps = λ kind t.
 pub one_more : (earlier later : List Call) → waits later ≡ waits earlier → done_since later ≡ suc (done_since earlier) → ((kind : CallKind) → IsDone kind earlier → IsDone kind later) → DoneAfter earlier later
 one_more earlier later same more keeps = record { waits = same; grows = omega (arith, more); keeps = keeps }
 
--- what was kept is one more for no connection
-pub kept_more : (calls : List Call) → DoneAfter calls (call.Kept ∷ calls)
-kept_more calls = record { waits = refl; grows = omega arith; keeps = λ kind t. inr t }
-
 pub done_then : (a b c : List Call) → DoneAfter a b → DoneAfter b c → DoneAfter a c
 done_then a b c one two = record { waits = two.waits ∙ one.waits; grows = omega (arith, one.grows, two.grows); keeps = λ kind t. two.keeps kind (one.keeps kind t) }
 
-some_is : (a b : CallKind) → Some a ≡ Some b → a ≡ b
-some_is a b e = cc
-
 -- a call of one kind is of no other
 pub not_another : (kind other : CallKind) (calls : List Call) → other ≢ kind → ¬ (IsDone other calls) → ¬ ((Some kind ≡ Some other) ⊎ IsDone other calls)
-not_another kind other calls differs not (inl is) = differs (sym (some_is kind other is))
+not_another kind other calls differs not (inl is) = differs (sym (same_Some kind other is))
 not_another kind other calls differs not (inr is) = not is
-
--- a call of no kind is of none
-pub not_more : (other : CallKind) (calls : List Call) → ¬ (IsDone other calls) → ¬ ((None ≡ Some other) ⊎ IsDone other calls)
-not_more other calls not (inl is) = absurd (cc)
-not_more other calls not (inr is) = not is
 
 -- where a call was made of a kind that is no keeping, something was done
 pub done_some : (kind : CallKind) (calls : List Call) → Keeping ≢ kind → IsDone kind calls → 0 < done_since calls
@@ -45,7 +35,7 @@ done_some kind (call.Tried j came ∷ earlier) differs t = omega arith
 done_some kind (call.Read j room came ∷ earlier) differs t = omega arith
 done_some kind (call.Wrote j room took ∷ earlier) differs t = omega arith
 done_some kind (call.Closed j ∷ earlier) differs t = omega arith
-done_some kind (call.Kept ∷ earlier) differs (inl is) = absurd (differs (some_is Keeping kind is))
+done_some kind (call.Kept ∷ earlier) differs (inl is) = absurd (differs (same_Some Keeping kind is))
 done_some kind (call.Kept ∷ earlier) differs (inr t) = done_some kind earlier differs t
 
 module _ {N C J K H : Type 0} (p : Promises N C J K H) where
@@ -59,4 +49,13 @@ module _ {N C J K H : Type 0} (p : Promises N C J K H) where
 
   -- and it is of no kind
   pub closes_alone : (k : ℕ) (place : Place) (s s' : LoopState N C J K H) → Closes p k place s s' → (other : CallKind) → ¬ (IsDone other s.calls) → ¬ (IsDone other s'.calls)
-  closes_alone k place s s' (leaves n e on noted done noting) other not = not_more other s.calls not
+  closes_alone k place s s' (leaves n e on noted done noting) other not (inl is) = absurd (cc)
+  closes_alone k place s s' (leaves n e on noted done noting) other not (inr is) = not is
+
+  -- steps lead on, one part after another
+  abbrev pub on_then : (first : LoopState N C J K H) (before : Standing N C J K H) (mid after : Running N C J K H) (x : LeadsOn p first before mid) → LeadsOn p first (standing mid before.found x.next) after → LeadsOn p first before after
+  on_then first before mid after x y = record { next = y.next; served = y.served; done = done_then _ _ _ x.done y.done; within = λ was. y.within (x.within was) }
+
+  -- nothing was done
+  abbrev pub on_still : (first : LoopState N C J K H) (before : Standing N C J K H) → Served p first (state_of before.now before.found before.past) → LeadsOn p first before before.now
+  on_still first before served = record { next = before.past; served = served; done = none_more before.past.calls; within = λ was. was }

@@ -1,32 +1,39 @@
 -- Each crash leaves what stands for what was kept at some state.
-use Rattle.std.proofs.Common.{◌≡◌, ◌⊎◌, inl, inr, ℕ, suc, max, List, [], ◌∷◌, Some, length, refl, sym, ap, subst, ◌∙◌, arith}
-use Rattle.hook_host.specs.declared.host.HookHost.{Ghosts as Hosting}
+use Rattle.std.proofs.Common.{◌≡◌, ◌≢◌, ◌⊎◌, inl, inr, ℕ, suc, List, [], ◌∷◌, Option, Some, length, refl, sym, ap, subst, ◌∙◌, arith}
 use Rattle.consent.specs.History.{Event}
-use Rattle.std.proofs.lemmas.Bool.Decides.{leb_tells}
-use Rattle.heads.specs.Message.{Message}
-use Rattle.http_edge.specs.Schedule.{World, IsServerStill, moment_after, PieceComes, PiecePasses, TakesOutput, TakesNothing, AnsweredPiece, Piece, piece_of}
-use Rattle.endpoints.specs.Server.{Outset}
-use Rattle.http_edge.specs.Reached.{Journey}
-use Rattle.event_loop.specs.declared.fault.LoopFault.{LoopFault}
+use Rattle.change_codec.specs.Keeping.{IsFrontOf, Holds, Keeps, KeepsBasis, Leaves, TellsBasis}
 use Rattle.event_loop.specs.declared.place.Place.{Place}
-use Rattle.change_codec.specs.Keeping.{IsFrontOf, Holds, Keeps, KeepsBasis, Leaves}
-use Rattle.event_loop.specs.Progress.{Progress}
-use Rattle.event_loop.specs.Calls.{Call, waits as waits_done}
-use Rattle.event_loop.specs.Giving.{GivesPieces, nothing, gives}
-use Rattle.event_loop.specs.LoopStates.{Promises, LoopState, IsUnkept}
-use Rattle.event_loop.specs.Coming.{AcceptsOne, opens, denies, finds_nobody, fails, asks}
-use Rattle.event_loop.specs.Reading as reading
-use Rattle.event_loop.specs.Reading.{ReadsPlace}
-use Rattle.event_loop.specs.Writing as writing
-use Rattle.event_loop.specs.Writing.{WritesPlace}
 use Rattle.event_loop.specs.Closing.{Closes, leaves}
-use Rattle.event_loop.specs.Served.{LoopStep, Served, Shuts, TellsLast, tells_nothing, waits, hears_of_listener, hears_of, hears_of_none, comes, tries_again, reads, writes, closes, reports, keeps, puts_image, no_image, begins, goes, stops, shuts, reports_last}
-use Rattle.event_loop.specs.DurableLaws.{front_then, same_front, served_on}
+use Rattle.std.proofs.lemmas.Option.{same_Some}
+use Rattle.std.proofs.lemmas.Bool.Decides.{leb_tells}
+use Rattle.http_edge.specs.Schedule.{World, IsServerStill, moment_after, PieceComes, PiecePasses, TakesOutput, TakesNothing, AnsweredPiece, Piece, piece_of}
+use Rattle.http_edge.specs.Reached.{Journey}
+use Rattle.event_loop.specs.Progress.{Progress, IsReached, led}
+use Rattle.event_loop.specs.Giving.{GivesPieces, nothing, gives}
+use Rattle.heads.specs.Message.{Message}
+use Rattle.endpoints.specs.Server.{Outset}
+use Rattle.event_loop.specs.LoopStates.{Promises, LoopState, IsAllKept, IsUnkept, with_call}
+use Rattle.event_loop.specs.declared.sockets.Ready.{Ready}
+use Rattle.event_loop.specs.Calls.{Call, Transfer, Wrote, waits as waits_done}
+use Rattle.event_loop.specs.Coming.{opens, denies, finds_nobody, asks, fails}
+use Rattle.event_loop.specs.Served.{LoopStep, Served, Shuts, TellsLast, tells_nothing, hears_of_listener, hears_of, hears_of_none, comes, tries_again, reads, writes, closes, reports, keeps, puts_image, no_image, begins, goes, stops, shuts, reports_last, waits}
+use Rattle.event_loop.specs.declared.fault.LoopFault.{LoopFault}
 use Rattle.event_loop.specs.Durable.{Carries, Onward, stays, onward, KeeperHolds, StandsBetween, IsWriteKept, MomentIsHeld}
 use Rattle.event_loop.specs.Ends.{CannotGoOn, no_wait, no_time, no_moment, not_kept, not_imaged, no_more}
+use Rattle.event_loop.specs.declared.queue.Queue.{Queue}
+use Rattle.event_loop.specs.declared.report.LastTold.{LastTold}
+use Rattle.event_loop.specs.Noting.{Noted}
+use Rattle.event_loop.specs.Reading.{ReadsPlace}
+use Rattle.event_loop.specs.Writing.{WritesPlace}
+use Rattle.hook_host.specs.declared.host.HookHost.{Ghosts as Hosting}
+use Rattle.event_loop.specs.Done as deed
+use Rattle.event_loop.specs.Done.{HaveDone}
+use Rattle.event_loop.specs.Reading as reading
+use Rattle.event_loop.specs.Writing as writing
+use Rattle.event_loop.specs.DurableLaws.{front_then, same_front, served_on}
 use Rattle.event_loop.proofs.Answering.{served_answered}
-use Rattle.event_loop.proofs.Lasting.{leaves_either, leaves_now, leaves_same}
-use Rattle.event_loop.proofs.Kept.{reached_front, kept_history, kept_last}
+use Rattle.event_loop.proofs.Lasting.{keeps_same, leaves_either, leaves_now, leaves_same}
+use Rattle.event_loop.proofs.Kept.{front_noted, kept_history, kept_last}
 
 -- the history grows, what was kept last is as it was, and the greatest moment too, or it is this one
 pub record Grows (m : ℕ) (old new : World) : Type 0 where
@@ -58,16 +65,13 @@ grows_then m a b c one two = record {
   ];
 }
 
-max_either : (a b : ℕ) → (max a b ≡ a) ⊎ (max a b ≡ b)
-max_either a b = elim (leb_tells a b) [
-  | inl le ↦ (let within = le.1 in inr (omega (arith, within)))
-  | inr gt ↦ (let over = gt.1 in inl (omega (arith, over)))
-]
-
 -- only requests move the greatest moment
 moved_to : (greatest m : ℕ) (messages : List Message) → (moment_after greatest m messages ≡ greatest) ⊎ (moment_after greatest m messages ≡ m)
 moved_to greatest m [] = inl refl
-moved_to greatest m (message ∷ messages) = max_either greatest m
+moved_to greatest m (message ∷ messages) = elim (leb_tells greatest m) [
+  | inl le ↦ (let within = le.1 in inr (omega (arith, within)))
+  | inr gt ↦ (let over = gt.1 in inl (omega (arith, over)))
+]
 
 came_grows : {H : Type 0} (hosting : Hosting H) (outset : Outset H) (old new : World) (came : AnsweredPiece) →
     PieceComes hosting outset old came new ⊎ PiecePasses old came new → Grows came.piece.moment old new
@@ -117,96 +121,118 @@ pub data Moves {N C J K H : Type 0} (p : Promises N C J K H) (s s' : LoopState N
   keeps_still : KeepsLast p s s'.keeper → s'.progress.journey ≡ s.progress.journey → KeepsBasis p.keeping.crashes s.keeper s'.keeper →
       IsSameTime s s' ⊎ (MomentIsHeld p s' × (waits_done s'.calls ≡ suc (waits_done s.calls))) → Moves p s s'
 
+-- what a step does: to the keeper, and to what happened; to the sockets; and where it is a write, all was kept
+pub record Does {N C J K H : Type 0} (p : Promises N C J K H) (s s' : LoopState N C J K H) : Type 0 where
+  pub moves : Moves p s s'
+  pub did : (first : N) → HaveDone p.sockets first s.calls s.sockets → HaveDone p.sockets first s'.calls s'.sockets
+  pub kept : IsWriteKept s s'
+
+-- what a failure does: to the sockets, and to the keeper alone
+pub record FailDoes {N C J K H : Type 0} (p : Promises N C J K H) (s s' : LoopState N C J K H) : Type 0 where
+  pub did : (first : N) → HaveDone p.sockets first s.calls s.sockets → HaveDone p.sockets first s'.calls s'.sockets
+  pub reached : IsReached p.hosting s.progress → IsReached p.hosting s'.progress
+  pub tells : TellsBasis p.keeping.crashes s.keeper s'.keeper
+
 module _ {N C J K H : Type 0} (p : Promises N C J K H) where
-  comes_moves : (s s' : LoopState N C J K H) → AcceptsOne p s s' → Moves p s s'
-  comes_moves s s' (opens j n e on within free done) = goes_on (refl, (refl, refl), refl) (grows_still s.times.moment s.progress.journey.world on.world on.happens.still)
-  comes_moves s s' (denies j n n' fault noted within free done refused closed noting) = goes_on (refl, (refl, refl), refl) (grows_not s.times.moment _ _ refl)
-  comes_moves s s' (finds_nobody j n done) = goes_on (refl, (refl, refl), refl) (grows_not s.times.moment _ _ refl)
-  comes_moves s s' (fails j n noted done noting) = goes_on (refl, (refl, refl), refl) (grows_not s.times.moment _ _ refl)
-  comes_moves s s' (asks n taken done) = goes_on (refl, (refl, refl), refl) (grows_not s.times.moment _ _ refl)
-
-  reads_moves : (j : ℕ) (place : Place) (s s' : LoopState N C J K H) → ReadsPlace p j place s s' → Moves p s s'
-  reads_moves j place s s' (reading.hears bytes n progress place' some few done heard is) =
-      goes_on (refl, (refl, refl), gives_outset p.hosting _ s.progress heard.given progress heard.gives) (gives_grows p.hosting (piece_of j bytes s.times.moment) s.progress heard.given progress heard.gives)
-  reads_moves j place s s' (reading.refuses bytes n fault progress some few done unheard) =
-      goes_on (refl, (refl, refl), gives_outset p.hosting _ s.progress unheard.given progress unheard.gives) (gives_grows p.hosting (piece_of j bytes s.times.moment) s.progress unheard.given progress unheard.gives)
-  reads_moves j place s s' (reading.ends n e on done) = goes_on (refl, (refl, refl), refl) (grows_still s.times.moment s.progress.journey.world on.world on.happens.still)
-  reads_moves j place s s' (reading.ends_nothing n fault done refused) = goes_on (refl, (refl, refl), refl) (grows_not s.times.moment _ _ refl)
-  reads_moves j place s s' (reading.finds_nothing n done) = goes_on (refl, (refl, refl), refl) (grows_not s.times.moment _ _ refl)
-  reads_moves j place s s' (reading.fails n done) = goes_on (refl, (refl, refl), refl) (grows_not s.times.moment _ _ refl)
-
-  writes_moves : (j : ℕ) (place : Place) (s s' : LoopState N C J K H) → WritesPlace p j place s s' → Moves p s s'
-  writes_moves j place s s' (writing.sends count front n e on some is_front done) = goes_on (refl, (refl, refl), refl) (takes_grows s.times.moment s.progress.journey.world on.world j count on.happens)
-  writes_moves j place s s' (writing.finds_no_room n done) = goes_on (refl, (refl, refl), refl) (grows_not s.times.moment _ _ refl)
-  writes_moves j place s s' (writing.fails n done) = goes_on (refl, (refl, refl), refl) (grows_not s.times.moment _ _ refl)
-
-  closes_moves : (j : ℕ) (place : Place) (s s' : LoopState N C J K H) → Closes p j place s s' → Moves p s s'
-  closes_moves j place s s' (leaves n e on noted done noting) = goes_on (refl, (refl, refl), refl) (grows_still s.times.moment s.progress.journey.world on.world on.happens.still)
-
-  pub step_moves : (s s' : LoopState N C J K H) → LoopStep p s s' → Moves p s s'
-  step_moves s s' (waits limit room found n times c keeper may done told kept) = keeps_still (λ last is. kept.holds last) refl kept.basis (inr (kept.told, refl))
-  step_moves s s' (hears_of_listener more is) = goes_on (refl, (refl, refl), refl) (grows_not s.times.moment _ _ refl)
-  step_moves s s' (hears_of j readable writable hung more place place' is here told) = goes_on (refl, (refl, refl), refl) (grows_not s.times.moment _ _ refl)
-  step_moves s s' (hears_of_none j readable writable hung more is none) = goes_on (refl, (refl, refl), refl) (grows_not s.times.moment _ _ refl)
-  step_moves s s' (comes s'' told coming) = comes_moves s s'' coming
-  step_moves s s' (tries_again since barred later) = goes_on (refl, (refl, refl), refl) (grows_not s.times.moment _ _ refl)
-  step_moves s s' (reads j place s'' here readable unread may reading) = reads_moves j place s s'' reading
-  step_moves s s' (writes j place s'' here writable unwritten kept may writing) = writes_moves j place s s'' writing
-  step_moves s s' (closes j place s'' here taken cause closing) = closes_moves j place s s'' closing
-  step_moves s s' (reports notice told journal due done) = goes_on (refl, (refl, refl), refl) (grows_not s.times.moment _ _ refl)
-  step_moves s s' (puts_image keeper all kept basis short) =
-      keeps_still (λ last is. subst (λ (h : List Event). Keeps p.keeping.crashes h h s.keeper keeper) (sym (all last is)) kept) refl basis (inl (refl, refl))
-  step_moves s s' (no_image journal all long ago told) = goes_on (refl, (refl, refl), refl) (grows_not s.times.moment _ _ refl)
-  step_moves s s' (keeps keeper e unkept on undone kept basis) =
-      keeps_all unkept kept (kept_last s.progress.journey.world on.world on.happens) (kept_history s.progress.journey.world on.world on.happens) basis ((refl, refl), ap (λ (w : World). w.greatest) on.happens.kept, refl)
-
-  -- nothing but a write writes, and that only where all is kept
   not_longer : (calls : List Call) (call : Call) → calls ≡ call ∷ calls → ⊥
   not_longer calls call is = let more = ap length is in omega (arith, more)
 
-  comes_writes : (s s' : LoopState N C J K H) → AcceptsOne p s s' → IsWriteKept s s'
-  comes_writes s s' (opens j n e on within free done) = λ k room took is. absurd (cc)
-  comes_writes s s' (denies j n n' fault noted within free done refused closed noting) = λ k room took is. absurd (cc)
-  comes_writes s s' (finds_nobody j n done) = λ k room took is. absurd (cc)
-  comes_writes s s' (fails j n noted done noting) = λ k room took is. absurd (cc)
-  comes_writes s s' (asks n taken done) = λ k room took is. absurd (cc)
+  -- no call is made, and the server's side is as it was
+  quiet : (s : LoopState N C J K H) {found : List Ready} {queue : Queue} {places : List Place} {told : LastTold} {refused : Option ℕ} {noted : Noted J} →
+      Does p s (record s { found = found; queue = queue; places = places; told = told; refused = refused; noted = noted })
+  quiet s = record {
+    moves = goes_on (refl, (refl, refl), refl) (grows_not s.times.moment _ _ refl);
+    did = λ first before. before;
+    kept = λ k room took is. absurd (not_longer s.calls _ is);
+  }
 
-  reads_writes : (j : ℕ) (place : Place) (s s' : LoopState N C J K H) → ReadsPlace p j place s s' → IsWriteKept s s'
-  reads_writes j place s s' (reading.hears bytes n progress place' some few done heard is) = λ k room took is. absurd (cc)
-  reads_writes j place s s' (reading.refuses bytes n fault progress some few done unheard) = λ k room took is. absurd (cc)
-  reads_writes j place s s' (reading.ends n e on done) = λ k room took is. absurd (cc)
-  reads_writes j place s s' (reading.ends_nothing n fault done refused) = λ k room took is. absurd (cc)
-  reads_writes j place s s' (reading.finds_nothing n done) = λ k room took is. absurd (cc)
-  reads_writes j place s s' (reading.fails n done) = λ k room took is. absurd (cc)
+  -- one call is made, which is no wait and no write
+  calls_on : (s : LoopState N C J K H) (call : Call) (n : N) (progress : Progress H) {places : List Place} {queue : Queue} {noted : Noted J} {accepted : ℕ} → p.sockets.does s.sockets call n →
+      waits_done (call ∷ s.calls) ≡ waits_done s.calls → ((k room : ℕ) (took : Transfer) → call ≢ Wrote k room took) → progress.journey.outset ≡ s.progress.journey.outset →
+      Grows s.times.moment s.progress.journey.world progress.journey.world →
+      Does p s (record (with_call s call n) { progress = progress; places = places; queue = queue; noted = noted; accepted = accepted })
+  calls_on s call n progress done not_wait not_write outset grows = record {
+    moves = goes_on (refl, (refl, not_wait), outset) grows;
+    did = λ first before. deed.did call n before done;
+    kept = λ k room took is. absurd (not_write k room took (let same : call ≡ Wrote k room took = cc in same));
+  }
 
-  closes_writes : (j : ℕ) (place : Place) (s s' : LoopState N C J K H) → Closes p j place s s' → IsWriteKept s s'
-  closes_writes j place s s' (leaves n e on noted done noting) = λ k room took is. absurd (cc)
+  reads_does : (j : ℕ) (place : Place) (s s' : LoopState N C J K H) → ReadsPlace p j place s s' → Does p s s'
+  reads_does j place s s' (reading.hears bytes n progress place' some few done heard is) =
+      calls_on s _ n progress done refl (λ k room took is. absurd (cc)) (gives_outset p.hosting _ s.progress heard.given progress heard.gives) (gives_grows p.hosting (piece_of j bytes s.times.moment) s.progress heard.given progress heard.gives)
+  reads_does j place s s' (reading.refuses bytes n fault progress some few done unheard) =
+      calls_on s _ n progress done refl (λ k room took is. absurd (cc)) (gives_outset p.hosting _ s.progress unheard.given progress unheard.gives) (gives_grows p.hosting (piece_of j bytes s.times.moment) s.progress unheard.given progress unheard.gives)
+  reads_does j place s s' (reading.ends n e on done) = calls_on s _ n (led s.progress on) done refl (λ k room took is. absurd (cc)) refl (grows_still s.times.moment s.progress.journey.world on.world on.happens.still)
+  reads_does j place s s' (reading.ends_nothing n fault done refused) = calls_on s _ n s.progress done refl (λ k room took is. absurd (cc)) refl (grows_not s.times.moment _ _ refl)
+  reads_does j place s s' (reading.finds_nothing n done) = calls_on s _ n s.progress done refl (λ k room took is. absurd (cc)) refl (grows_not s.times.moment _ _ refl)
+  reads_does j place s s' (reading.fails n done) = calls_on s _ n s.progress done refl (λ k room took is. absurd (cc)) refl (grows_not s.times.moment _ _ refl)
 
-  pub step_writes : (s s' : LoopState N C J K H) → LoopStep p s s' → IsWriteKept s s'
-  step_writes s s' (waits limit room found n times c keeper may done told kept) = λ k r took is. absurd (cc)
-  step_writes s s' (hears_of_listener more heard) = λ k room took is. absurd (not_longer s.calls _ is)
-  step_writes s s' (hears_of j readable writable hung more place place' heard here told) = λ k room took is. absurd (not_longer s.calls _ is)
-  step_writes s s' (hears_of_none j readable writable hung more heard none) = λ k room took is. absurd (not_longer s.calls _ is)
-  step_writes s s' (comes s'' told coming) = comes_writes s s'' coming
-  step_writes s s' (tries_again since barred later) = λ k room took is. absurd (not_longer s.calls _ is)
-  step_writes s s' (reads j place s'' here readable unread may reading) = reads_writes j place s s'' reading
-  step_writes s s' (writes j place s'' here writable unwritten kept may writing) = λ k room took is. kept
-  step_writes s s' (closes j place s'' here taken cause closing) = closes_writes j place s s'' closing
-  step_writes s s' (reports notice told journal due done) = λ k room took is. absurd (not_longer s.calls _ is)
-  step_writes s s' (puts_image keeper all kept basis short) = λ k room took is. absurd (not_longer s.calls _ is)
-  step_writes s s' (no_image journal all long ago told) = λ k room took is. absurd (not_longer s.calls _ is)
-  step_writes s s' (keeps keeper e unkept on undone kept basis) = λ k room took is. absurd (cc)
+  writes_does : (j : ℕ) (place : Place) (s s' : LoopState N C J K H) → IsAllKept s.progress.journey.world → WritesPlace p j place s s' → Does p s s'
+  writes_does j place s s' all (writing.sends count front n e on some is_front done) = record {
+    moves = goes_on (refl, (refl, refl), refl) (takes_grows s.times.moment s.progress.journey.world on.world j count on.happens);
+    did = λ first before. deed.did _ n before done;
+    kept = λ k room took is. all;
+  }
+  writes_does j place s s' all (writing.finds_no_room n done) = record { moves = goes_on (refl, (refl, refl), refl) (grows_not s.times.moment _ _ refl); did = λ first before. deed.did _ n before done; kept = λ k room took is. all }
+  writes_does j place s s' all (writing.fails n done) = record { moves = goes_on (refl, (refl, refl), refl) (grows_not s.times.moment _ _ refl); did = λ first before. deed.did _ n before done; kept = λ k room took is. all }
+
+  closes_does : (j : ℕ) (place : Place) (s s' : LoopState N C J K H) → Closes p j place s s' → Does p s s'
+  closes_does j place s s' (leaves n e on noted done noting) = calls_on s _ n (led s.progress on) done refl (λ k room took is. absurd (cc)) refl (grows_still s.times.moment s.progress.journey.world on.world on.happens.still)
+
+  pub step_does : (s s' : LoopState N C J K H) → LoopStep p s s' → Does p s s'
+  step_does s s' (waits limit room found n times c keeper may done told kept) = record {
+    moves = keeps_still (λ last is. kept.holds last) refl kept.basis (inr (kept.told, refl));
+    did = λ first before. deed.did _ n before done;
+    kept = λ k r took is. absurd (cc);
+  }
+  step_does s s' (hears_of_listener more is) = quiet s
+  step_does s s' (hears_of j readable writable hung more place place' is here told) = quiet s
+  step_does s s' (hears_of_none j readable writable hung more is none) = quiet s
+  step_does s s' (comes s'' told (opens j n e on within free done)) = calls_on s _ n (led s.progress on) done refl (λ k room took is. absurd (cc)) refl (grows_still s.times.moment s.progress.journey.world on.world on.happens.still)
+  step_does s s' (comes s'' told (denies j n n' fault noted within free done refused closed noting)) = record {
+    moves = goes_on (refl, (refl, refl), refl) (grows_not s.times.moment _ _ refl);
+    did = λ first before. deed.did _ n' (deed.did _ n before done) closed;
+    kept = λ k room took is. absurd (cc);
+  }
+  step_does s s' (comes s'' told (finds_nobody j n done)) = calls_on s _ n s.progress done refl (λ k room took is. absurd (cc)) refl (grows_not s.times.moment _ _ refl)
+  step_does s s' (comes s'' told (fails j n noted done noting)) = calls_on s _ n s.progress done refl (λ k room took is. absurd (cc)) refl (grows_not s.times.moment _ _ refl)
+  step_does s s' (comes s'' told (asks n taken done)) = calls_on s _ n s.progress done refl (λ k room took is. absurd (cc)) refl (grows_not s.times.moment _ _ refl)
+  step_does s s' (tries_again since barred later) = quiet s
+  step_does s s' (reads j place s'' here readable unread may reading) = reads_does j place s s'' reading
+  step_does s s' (writes j place s'' here writable unwritten all may writing) = writes_does j place s s'' all writing
+  step_does s s' (closes j place s'' here taken cause closing) = closes_does j place s s'' closing
+  step_does s s' (reports notice told journal due done) = quiet s
+  step_does s s' (puts_image keeper all kept basis short) = record {
+    moves = keeps_still (λ last is. subst (λ (h : List Event). Keeps p.keeping.crashes h h s.keeper keeper) (sym (all last is)) kept) refl basis (inl (refl, refl));
+    did = λ first before. before;
+    kept = λ k room took is. absurd (not_longer s.calls _ is);
+  }
+  step_does s s' (no_image journal all long ago told) = quiet s
+  step_does s s' (keeps keeper e unkept on undone kept basis) = record {
+    moves = keeps_all unkept kept (kept_last s.progress.journey.world on.world on.happens) (kept_history s.progress.journey.world on.world on.happens) basis ((refl, refl), ap (λ (w : World). w.greatest) on.happens.kept, refl);
+    did = λ first before. deed.kept before;
+    kept = λ k room took is. absurd (cc);
+  }
+
+  pub step_moves : (s s' : LoopState N C J K H) → LoopStep p s s' → Moves p s s'
+  step_moves s s' step = (step_does s s' step).moves
+
+  pub fails_does : (s s' : LoopState N C J K H) (fault : LoopFault) → CannotGoOn p s fault s' → FailDoes p s s'
+  fails_does s s' fault (no_wait limit room n may done) = record { did = λ first before. deed.did _ n before done; reached = λ was. was; tells = (keeps_same p.keeping.crashes s.keeper s.keeper refl).meanwhile }
+  fails_does s s' fault (no_time limit room found n c may done told) = record { did = λ first before. deed.did _ n before done; reached = λ was. was; tells = (keeps_same p.keeping.crashes s.keeper s.keeper refl).meanwhile }
+  fails_does s s' fault (no_moment limit room found n times c keeper may done told lost basis) = record { did = λ first before. deed.did _ n before done; reached = λ was. was; tells = basis }
+  fails_does s s' fault (not_kept keeper unkept undone lost basis) = record { did = λ first before. before; reached = λ was. was; tells = basis }
+  fails_does s s' fault (not_imaged keeper all lost basis) = record { did = λ first before. before; reached = λ was. was; tells = basis }
+  fails_does s s' fault (no_more many) = record { did = λ first before. before; reached = λ was. was; tells = (keeps_same p.keeping.crashes s.keeper s.keeper refl).meanwhile }
 
   -- what was kept is a front of what happened, wherever steps lead to
   served_front : (first s : LoopState N C J K H) → Served p first s → (kept : List Event) → s.progress.journey.world.kept ≡ Some kept → IsFrontOf kept s.progress.journey.world.history
-  served_front first s served kept is = reached_front p.hosting s.progress.edge s.progress.journey (served_answered p first s served).reached kept is
+  served_front first s served kept is = front_noted s.progress.edge.server.unkept s.progress.journey.world.kept s.progress.journey.world.history (served_answered p first s served).reached.notes kept is
 
   moves_held : (s s' : LoopState N C J K H) → Moves p s s' → KeeperHolds p s → KeeperHolds p s'
   moves_held s s' (goes_on same grows) held = λ kept is c left. held kept (sym grows.kept ∙ is) c (subst (λ k. p.keeping.crashes.may_leave k c) same.0 left)
   moves_held s s' (keeps_all unkept kept last history basis still) held = λ now is c left.
-      let same : Some s.progress.journey.world.history ≡ Some now = sym last ∙ is in
-      let e : s.progress.journey.world.history ≡ now = cc in
-      subst (p.keeping.crashes.stands_for c) e (kept.holds (held unkept.kept unkept.here) c left)
+      subst (p.keeping.crashes.stands_for c) (same_Some s.progress.journey.world.history now (sym last ∙ is)) (kept.holds (held unkept.kept unkept.here) c left)
   moves_held s s' (keeps_still last same basis still) held = λ now is c left.
       let before : s.progress.journey.world.kept ≡ Some now = ap (λ (j : Journey H). j.world.kept) (sym same) ∙ is in
       (last now before).holds (held now before) c left
@@ -241,8 +267,6 @@ module _ {N C J K H : Type 0} (p : Promises N C J K H) where
       (kept : List Event) → s'.progress.journey.world.kept ≡ Some kept → (c : List ℕ) → p.keeping.crashes.stands_for c kept → StandsBetween p s before s' c
   kept_between first s before s' served at_s on kept is c stands =
       let then = (onward_carries first s s' served on).kept before at_s in
-      let same : Some then.0 ≡ Some kept = sym then.1 ∙ is in
-      let e : then.0 ≡ kept = cc in
       record {
         at = s';
         since = on;
@@ -250,7 +274,7 @@ module _ {N C J K H : Type 0} (p : Promises N C J K H) where
         kept = kept;
         kept_there = is;
         stands = stands;
-        from = subst (IsFrontOf before) e then.2;
+        from = subst (IsFrontOf before) (same_Some then.0 kept (sym then.1 ∙ is)) then.2;
         to = served_front first s' (served_on p first s s' served on) kept is;
       }
 
@@ -272,13 +296,31 @@ module _ {N C J K H : Type 0} (p : Promises N C J K H) where
   closes_keeper : (k : ℕ) (place : Place) (s s' : LoopState N C J K H) → Closes p k place s s' → s'.keeper ≡ s.keeper
   closes_keeper k place s s' (leaves n e on noted done noting) = refl
 
-  pub shuts_keeper : (s s' : LoopState N C J K H) → Shuts p s s' → s'.keeper ≡ s.keeper
+  shuts_keeper : (s s' : LoopState N C J K H) → Shuts p s s' → s'.keeper ≡ s.keeper
   shuts_keeper s s' stops = refl
   shuts_keeper s s' (shuts {s = before} k place shut here taken closing) = closes_keeper k place before s' closing ∙ shuts_keeper s before shut
 
-  pub last_keeper : (s s' : LoopState N C J K H) → TellsLast p s s' → s'.keeper ≡ s.keeper
-  last_keeper s s' (reports_last report journal wanted tells done) = refl
-  last_keeper s s' (tells_nothing unwanted) = refl
+  pub end_keeper : (failed emptied end : LoopState N C J K H) → Shuts p failed emptied → TellsLast p emptied end → end.keeper ≡ failed.keeper
+  end_keeper failed emptied end shut (reports_last report journal wanted tells done) = shuts_keeper failed emptied shut
+  end_keeper failed emptied end shut (tells_nothing unwanted) = shuts_keeper failed emptied shut
+
+  -- what the sockets did, from the first state on
+  served_did : (first s : LoopState N C J K H) → Served p first s → HaveDone p.sockets first.sockets s.calls s.sockets
+  served_did first s (begins is) = subst (λ (calls : List Call). HaveDone p.sockets first.sockets calls s.sockets) (sym is.calls) deed.nothing
+  served_did first s (goes {s = before} served next) = (step_does before s next).did first.sockets (served_did first before served)
+
+  shuts_did : (first : N) (s s' : LoopState N C J K H) → Shuts p s s' → HaveDone p.sockets first s.calls s.sockets → HaveDone p.sockets first s'.calls s'.sockets
+  shuts_did first s s' stops before = before
+  shuts_did first s s' (shuts {s = middle} k place shut here taken closing) before = (closes_does k place middle s' closing).did first (shuts_did first s middle shut before)
+
+  emptied_did : (first last failed emptied : LoopState N C J K H) (fault : LoopFault) → Served p first last → CannotGoOn p last fault failed → Shuts p failed emptied → HaveDone p.sockets first.sockets emptied.calls emptied.sockets
+  emptied_did first last failed emptied fault served failing shut = shuts_did first.sockets failed emptied shut ((fails_does last failed fault failing).did first.sockets (served_did first last served))
+
+  -- and up to the end
+  pub end_did : (first last failed emptied end : LoopState N C J K H) (fault : LoopFault) → Served p first last → CannotGoOn p last fault failed →
+      Shuts p failed emptied → TellsLast p emptied end → HaveDone p.sockets first.sockets end.calls end.sockets
+  end_did first last failed emptied end fault served failing shut (reports_last report journal wanted tells done) = emptied_did first last failed emptied fault served failing shut
+  end_did first last failed emptied end fault served failing shut (tells_nothing none) = emptied_did first last failed emptied fault served failing shut
 
   module _ (only_now : (keeper : K) (c : List ℕ) → p.keeping.crashes.left_since keeper (p.keeping.crashes.moment keeper) c → p.keeping.crashes.may_leave keeper c) (first : LoopState N C J K H) (at_first : KeeperHolds p first)
       (s : LoopState N C J K H) (before : List Event) (served : Served p first s) (is : s.progress.journey.world.kept ≡ Some before) where
@@ -329,4 +371,4 @@ module _ {N C J K H : Type 0} (p : Promises N C J K H) where
     pub leaves_to_end : (last failed emptied end : LoopState N C J K H) (fault : LoopFault) → Onward p s last → CannotGoOn p last fault failed → Shuts p failed emptied → TellsLast p emptied end →
         Leaves p.keeping.crashes s.keeper end.keeper (λ c. StandsBetween p s before last c ⊎ p.keeping.crashes.stands_for c last.progress.journey.world.history)
     leaves_to_end last failed emptied end fault on failing shut told =
-        leaves_same p.keeping.crashes s.keeper failed.keeper end.keeper _ _ (fails_leave last failed fault on failing) (last_keeper emptied end told ∙ shuts_keeper failed emptied shut) (λ c stands. stands)
+        leaves_same p.keeping.crashes s.keeper failed.keeper end.keeper _ _ (fails_leave last failed fault on failing) (end_keeper failed emptied end shut told) (λ c stands. stands)

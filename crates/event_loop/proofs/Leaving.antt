@@ -1,29 +1,24 @@
 -- A connection is closed in the progress of the loop.
-use Rattle.std.proofs.Common.{◌≡◌, ◌≢◌, ◌⊎◌, inl, inr, ◌<◌, ◌≤◌, ℕ, List, Option, Some, [], length, refl, sym, ap, subst, arith}
-use Rattle.std.proofs.lemmas.Option.{slice_get_within}
-use Rattle.std.specs.Prelude.{slice_get, slice_set}
+use Rattle.std.proofs.Common.{◌≡◌, ◌≢◌, ◌⊎◌, inl, inr, ◌<◌, ◌≤◌, ℕ, List, Option, Some, [], length, refl, sym, ap, subst, ◌∙◌, arith, slice_get, slice_set}
 use Rattle.event_loop.specs.declared.place.Place.{Place}
+use Rattle.event_loop.specs.Places.{IsOccupied}
+use Rattle.event_loop.specs.Closing.{AreWithin, Cause}
+use Rattle.std.proofs.lemmas.Option.{slice_get_within}
+use Rattle.event_loop.specs.LoopStates.{Promises, LoopState}
 use Rattle.event_loop.specs.declared.place.Stage.TheVariants.{Free}
-use Rattle.event_loop.specs.declared.queue.Queue.{Queue}
-use Rattle.event_loop.specs.declared.queue.Queue.TheVariants.{Told, Empty, Barred, Asked, Waits}
 use Rattle.event_loop.specs.declared.service.Service.{Service}
 use Rattle.event_loop.specs.declared.sockets.Ready.{Ready}
 use Rattle.event_loop.specs.declared.tools.Tools.{Tools}
-use Rattle.event_loop.specs.declared.fault.LoopFault.{LoopFault}
-use Rattle.event_loop.specs.Progress.{IsReached}
-use Rattle.event_loop.specs.Calls.{Accepting, done_since}
-use Rattle.event_loop.specs.Places.{IsOccupied}
-use Rattle.event_loop.specs.LoopStates.{Promises, LoopState}
-use Rattle.event_loop.specs.Closing.{AreWithin, Cause}
+use Rattle.event_loop.specs.Calls.{Accepting}
+use Rattle.event_loop.specs.Served.{IsIdle, IsPatient, MayWait, Served, goes, closes}
+use Rattle.event_loop.specs.Goes.{Past, IsQuick, IsReported, IsTried, NobodyIsSilent, OnlyTells, IsLimit, IsReadyToWait, LeadsAway, LeadsToShort, SettlesAll, AreAllSettled, MayRest, running, state_of}
+use Rattle.event_loop.specs.declared.queue.Queue.TheVariants.{Told, Empty, Barred, Asked, Waits}
+use Rattle.event_loop.specs.declared.queue.Queue.{Queue}
 use Rattle.event_loop.specs.Served as served
-use Rattle.event_loop.specs.Served.{IsIdle, IsPatient, MayWait, goes, closes}
-use Rattle.event_loop.specs.Ends.{CannotGoOn, no_wait, no_time, no_moment, not_kept, not_imaged, no_more}
 use Rattle.event_loop.specs.Goes as limited
-use Rattle.event_loop.specs.Goes.{Past, IsQuick, IsReported, IsTried, NobodyIsSilent, OnlyTells, FreesPlace, IsBusy, IsLimit, IsReadyToWait, IsKeptShort, LeadsAway, SettlesAll, AreAllSettled, MayRest, running, state_of}
 use Rattle.event_loop.proofs.Doing.{closes_done, closes_some, done_some, none_more}
 use Rattle.event_loop.proofs.Answering.{served_answered}
 use Rattle.event_loop.proofs.Leading.{closes_other}
-use Rattle.event_loop.proofs.Putting.{put_within}
 use Rattle.event_loop.proofs.Resting.{put_others, put_settled, free_rests, all_settled, settled_then}
 
 is_idle : {N C J K H : Type 0} (service : Service) (tools : Tools N C J K H) (past : Past H) → length service.places ≡ 64 → AreAllSettled service past → MayRest service → IsIdle (state_of (running service tools) [] past)
@@ -31,11 +26,6 @@ is_idle service tools past size settled rest = record { places = λ k place here
   where
     below : (k : ℕ) (place : Place) → slice_get service.places k ≡ Some place → k < 64
     below k place here = let within = slice_get_within service.places k place here in omega (arith, size, within)
-
--- where a place is freed, nobody is silent for longer
-pub frees_within : (k : ℕ) (place : Place) (service service' : Service) → FreesPlace k place service service' → NobodyIsSilent service → NobodyIsSilent service'
-frees_within k place service service' frees all =
-    subst NobodyIsSilent (sym frees) (put_within service.limits.idle service.times service.places k (record place { stage = Free }) (λ taken. absurd taken) all)
 
 module _ {N C J K H : Type 0} (p : Promises N C J K H) where
   pub leaves_to : (k : _) (place : Place) (service : Service) (tools : Tools N C J K H) (service' : Service) (tools' : Tools N C J K H) → slice_get service.places k ≡ Some place → IsOccupied place.stage →
@@ -55,39 +45,16 @@ module _ {N C J K H : Type 0} (p : Promises N C J K H) where
         done = closes_done p k place _ _ away.closes;
       }
 
-  pub fails_reached : (s s' : LoopState N C J K H) (fault : LoopFault) → CannotGoOn p s fault s' → IsReached p.hosting s.progress → IsReached p.hosting s'.progress
-  fails_reached s s' fault (no_wait limit room n may done) reached = reached
-  fails_reached s s' fault (no_time limit room found n c may done told) reached = reached
-  fails_reached s s' fault (no_moment limit room found n times c keeper may done told lost moments) reached = reached
-  fails_reached s s' fault (not_kept keeper unkept undone lost moments) reached = reached
-  fails_reached s s' fault (not_imaged keeper all lost moments) reached = reached
-  fails_reached s s' fault (no_more many) reached = reached
-
 -- where something is noted to be due, something was done
-busy_some : {H : Type 0} (service : Service) (past : Past H) → IsReadyToWait service past → IsBusy service → 0 < done_since past.calls
-busy_some service past ready (inl due) = (ready.settled due.k due.within).active due.here
-busy_some service past ready (inr told) = elim ready.queue [ inl not ↦ absurd (not told) | inr tried ↦ done_some Accepting past.calls (λ e. absurd (cc)) tried ]
-
 is_patient : {N C J K H : Type 0} (service : Service) (tools : Tools N C J K H) (past : Past H) (limit : Option ℕ) → length service.places ≡ 64 → IsReadyToWait service past → IsLimit service limit →
     IsPatient (state_of (running service tools) [] past) limit
-is_patient service tools past limit size ready (limited.looks busy) = served.looks (busy_some service past ready busy)
+is_patient service tools past limit size ready (limited.looks (inl due)) = served.looks ((ready.settled due.k due.within).active due.here)
+is_patient service tools past limit size ready (limited.looks (inr told)) = served.looks (elim ready.queue [ inl not ↦ absurd (not told) | inr tried ↦ done_some Accepting past.calls (λ e. absurd (cc)) tried ])
 is_patient service tools past limit size ready (limited.rests rest) = served.rests (is_idle service tools past size ready.settled rest)
 is_patient service tools past limit size ready (limited.sleeps rest free unbarred) = served.sleeps (is_idle service tools past size ready.settled rest) free unbarred
 
--- it may wait
-pub may_wait : {N C J K H : Type 0} (p : Promises N C J K H) (service : Service) (tools : Tools N C J K H) (past : Past H) (limit : Option ℕ) (room : ℕ) → length service.places ≡ 64 → IsReadyToWait service past → IsLimit service limit → 65 ≤ room → IsKeptShort p (running service tools) past.journey.world →
-    MayWait p (state_of (running service tools) [] past) limit room
-may_wait p service tools past limit room size ready is_limit roomy short = record {
-  patient = is_patient service tools past limit size ready is_limit;
-  fair = record { places = λ k place here. (let within = slice_get_within service.places k place here in (ready.settled k (omega (arith, size, within))).turned place here); queue = ready.queue };
-  prompt = record { idle = ready.quick.idle; crowded = ready.quick.crowded; tried = ready.quick.tried; reported = ready.quick.reported };
-  heard = refl;
-  roomy = roomy;
-  short = short;
-}
-
 -- where an image was put, or was refused, all is as ready
-pub ready_still : {H : Type 0} (service : Service) (past : Past H) (service' : Service) → service' ≡ record service { refused = service'.refused } → IsReadyToWait service past → IsReadyToWait service' past
+ready_still : {H : Type 0} (service : Service) (past : Past H) (service' : Service) → service' ≡ record service { refused = service'.refused } → IsReadyToWait service past → IsReadyToWait service' past
 ready_still service past service' same ready =
     let still : Service = record service { refused = service'.refused } in
     subst (λ (s : Service). IsReadyToWait s past) (sym same) (record {
@@ -95,6 +62,28 @@ ready_still service past service' same ready =
       queue = ready.queue;
       quick = record { idle = ready.quick.idle; crowded = ready.quick.crowded; tried = ready.quick.tried; reported = ready.quick.reported };
     })
+
+-- and it may wait
+pub may_wait : {N C J K H : Type 0} (p : Promises N C J K H) (a b : Service) (s t : Tools N C J K H) (limit : Option ℕ) (room : ℕ) → length a.places ≡ 64 → b ≡ record a { refused = b.refused } → IsLimit b limit → 65 ≤ room →
+    LeadsToShort p (running a s) (running b t) → (first : LoopState N C J K H) (past : Past H) → Served p first (state_of (running a s) [] past) → IsReadyToWait a past →
+    Served p first (state_of (running b t) [] past) × (IsReadyToWait b past × MayWait p (state_of (running b t) [] past) limit room)
+may_wait p a b s t limit room before same is_limit roomy put first past begun was =
+    let now = put first [] past begun in
+    let ready = ready_still a past b same was in
+    let size : length b.places ≡ 64 = ap (λ (s : Service). length s.places) same ∙ before in (
+      now.0,
+      (
+        ready,
+        record {
+          patient = is_patient b t past limit size ready is_limit;
+          fair = record { places = λ k place here. (let within = slice_get_within b.places k place here in (ready.settled k (omega (arith, size, within))).turned place here); queue = ready.queue };
+          prompt = record { idle = ready.quick.idle; crowded = ready.quick.crowded; tried = ready.quick.tried; reported = ready.quick.reported };
+          heard = refl;
+          roomy = roomy;
+          short = now.1;
+        },
+      ),
+    )
 
 -- where what is told alone became other, all else is as quick
 pub quick_told : (service service' : Service) → OnlyTells service service' → NobodyIsSilent service → (service.queue ≡ Waits → AreWithin service.limits.crowded service.times service.places) → IsTried service → IsReported service' →

@@ -3,9 +3,9 @@ pub mod Others
 pub mod Telling
 pub mod Answering
 pub mod Doing
-pub mod Done
 pub mod Resting
 pub mod Leading
+pub mod Acting
 pub mod Cutting
 pub mod Kept
 pub mod Lasting

@@ -1,21 +1,21 @@
 -- The keeper tells the moment that the clocks told last, and each crash the moments by which requests were answered.
 use Rattle.std.proofs.Common.{◌≡◌, ◌≢◌, ◌⊎◌, inl, inr, ◌<◌, ◌≤◌, ℕ, List, [], refl, sym, ap, subst, ◌∙◌, arith}
-use Rattle.std.proofs.lemmas.Bool.Decides.{eqb_tells}
 use Rattle.change_codec.specs.Keeping.{Until, HoldsBasis, KeepsBasis, TellsBasis}
 use Rattle.event_loop.specs.declared.clocks.Times.{Times}
-use Rattle.http_edge.specs.Reached.{Journey}
-use Rattle.http_edge.specs.Schedule.{World}
-use Rattle.event_loop.specs.declared.queue.Queue.TheVariants.{Empty}
-use Rattle.event_loop.specs.declared.fault.LoopFault.{LoopFault}
-use Rattle.event_loop.specs.Calls.{waits}
-use Rattle.event_loop.specs.Durable.{Onward, stays, onward, MomentIsHeld, MomentStays}
-use Rattle.event_loop.specs.Ends.{CannotGoOn, no_wait, no_time, no_moment, not_kept, not_imaged, no_more}
 use Rattle.event_loop.specs.Places.{AllFree, IsInService, IsOccupied}
+use Rattle.std.proofs.lemmas.Bool.Decides.{eqb_tells}
+use Rattle.http_edge.specs.Schedule.{World}
+use Rattle.http_edge.specs.Reached.{Journey}
 use Rattle.event_loop.specs.LoopStates.{Promises, LoopState}
-use Rattle.event_loop.specs.Served as step
 use Rattle.event_loop.specs.Served.{LoopStep, Served, Shuts, TellsLast, begins, goes}
+use Rattle.event_loop.specs.declared.fault.LoopFault.{LoopFault}
+use Rattle.event_loop.specs.declared.queue.Queue.TheVariants.{Empty}
+use Rattle.event_loop.specs.Durable.{Onward, stays, onward, MomentIsHeld, MomentStays}
+use Rattle.event_loop.specs.Ends.{CannotGoOn}
+use Rattle.event_loop.specs.Calls.{waits}
+use Rattle.event_loop.specs.Served as step
 use Rattle.event_loop.proofs.Lasting.{keeps_same, keeps_then, leaves_told, tells_then}
-use Rattle.event_loop.proofs.Fronts.{Moves, IsSameTime, goes_on, keeps_all, keeps_still, step_moves, shuts_keeper, last_keeper}
+use Rattle.event_loop.proofs.Fronts.{Moves, IsSameTime, goes_on, keeps_all, keeps_still, step_moves, fails_does, end_keeper}
 
 module _ {N C J K H : Type 0} (p : Promises N C J K H) where
   -- what was told is told behind each step
@@ -111,20 +111,12 @@ module _ {N C J K H : Type 0} (p : Promises N C J K H) where
             (keeps.holds (Until before.times.moment) (served_moment first before served now.1))
       ]
 
-  fails_tells : (last failed : LoopState N C J K H) (fault : LoopFault) → CannotGoOn p last fault failed → TellsBasis p.keeping.crashes last.keeper failed.keeper
-  fails_tells last failed fault (no_wait limit room n may done) = (keeps_same p.keeping.crashes last.keeper last.keeper refl).meanwhile
-  fails_tells last failed fault (no_time limit room found n c may done told) = (keeps_same p.keeping.crashes last.keeper last.keeper refl).meanwhile
-  fails_tells last failed fault (no_moment limit room found n times c keeper may done told lost basis) = basis
-  fails_tells last failed fault (not_kept keeper unkept undone lost basis) = basis
-  fails_tells last failed fault (not_imaged keeper all lost basis) = basis
-  fails_tells last failed fault (no_more many) = (keeps_same p.keeping.crashes last.keeper last.keeper refl).meanwhile
-
   -- so it is told up to the end
   pub basis_to_end : (s last failed emptied end : LoopState N C J K H) (fault : LoopFault) → Onward p s last → CannotGoOn p last fault failed → Shuts p failed emptied →
       TellsLast p emptied end → TellsBasis p.keeping.crashes s.keeper end.keeper
   basis_to_end s last failed emptied end fault on failing shut told =
-      subst (TellsBasis p.keeping.crashes s.keeper) (sym (last_keeper p emptied end told ∙ shuts_keeper p failed emptied shut))
-      (tells_then p.keeping.crashes s.keeper last.keeper failed.keeper (onward_basis s last on) (fails_tells last failed fault failing))
+      subst (TellsBasis p.keeping.crashes s.keeper) (sym (end_keeper p failed emptied end shut told))
+      (tells_then p.keeping.crashes s.keeper last.keeper failed.keeper (onward_basis s last on) (fails_does p last failed fault failing).tells)
 
   module _ (only_now : (keeper : K) (c : List ℕ) → p.keeping.crashes.left_since keeper (p.keeping.crashes.moment keeper) c → p.keeping.crashes.may_leave keeper c) (first : LoopState N C J K H) where
     -- each crash tells it

@@ -1,49 +1,36 @@
 -- Where nothing is to be done.
-use Rattle.std.proofs.Common.{◌≡◌, ◌≢◌, inl, inr, ◌<◌, ℕ, suc, List, [], Bool, true, false, Option, Some, length, refl, sym, ap, subst, ◌∙◌, arith, ◌-◌, ◌==◌}
-use Rattle.std.specs.Prelude.{slice_get, slice_set}
-use Rattle.std.proofs.lemmas.Bool.{false≢true}
+use Rattle.std.proofs.Common.{◌≡◌, ◌≢◌, inl, inr, ◌<◌, ℕ, suc, List, [], ◌∷◌, Bool, true, false, Option, Some, length, refl, sym, ap, subst, ◌∙◌, arith, ◌-◌, ◌==◌, slice_get, slice_set}
+use Rattle.event_loop.specs.declared.clocks.Times.{Times}
+use Rattle.event_loop.specs.declared.place.Place.{Place}
+use Rattle.event_loop.specs.Places.{IsOccupied, IsInService, MayRead, MayWrite, NeedsNoRead, IsOver, IsPlaceAtRest, broken, dismissed, ended}
+use Rattle.std.proofs.lemmas.Option.{same_Some}
 use Rattle.std.proofs.lemmas.Bool.Decides.{eqb_tells}
 use Rattle.http_edge.specs.Schedule.{World, Connection, connection_at, untaken}
 use Rattle.http_edge.specs.Reached.{is_closing}
-use Rattle.event_loop.specs.declared.clocks.Times.{Times}
-use Rattle.event_loop.specs.declared.place.Place.{Place}
-use Rattle.event_loop.specs.declared.place.Stage.{Stage}
-use Rattle.event_loop.specs.declared.place.Stage.TheVariants.{Free, Open, Ended, Broken}
+use Rattle.std.proofs.lemmas.Bool.{false≢true, eqb-true}
+use Rattle.event_loop.specs.LoopStates.{Promises, LoopState}
+use Rattle.event_loop.specs.declared.place.Stage.TheVariants.{Free}
 use Rattle.event_loop.specs.declared.service.Service.{Service}
 use Rattle.event_loop.specs.declared.sockets.Ready.{Ready}
 use Rattle.event_loop.specs.declared.tools.Tools.{Tools}
 use Rattle.event_loop.specs.Calls.{Call, Reading, Writing, done_since}
-use Rattle.event_loop.specs.Places.{IsOccupied, IsInService, MayRead, MayWrite, NeedsNoRead, NeedsNoWrite, IsOver, IsPlaceAtRest, broken, ended, dismissed}
-use Rattle.event_loop.specs.LoopStates.{Promises, LoopState}
 use Rattle.event_loop.specs.Coming.{fresh_place}
 use Rattle.event_loop.specs.Served.{HadTurn, Served}
-use Rattle.event_loop.specs.Goes.{Past, IsToldAs, DoneAfter, HoldsAt, IsHeardAt, IsSettledAt, AreAllSettled, StaysIdle, IsWorkLeft, a_read, a_write, IsLeftAt, LeavesOthers, IsRestedAt, IsRested, TidiesAt, running, standing, state_of, to_read, to_write}
-use Rattle.event_loop.proofs.Putting.{set_other, set_same, same_some}
+use Rattle.event_loop.specs.Goes.{Past, Duty, IsToldAs, DoneAfter, HoldsAt, IsHeardAt, IsSettledAt, AreAllSettled, StaysIdle, IsWorkLeft, a_read, a_write, IsLeftAt, LeavesOthers, IsRestedAt, IsRested, TidiesAt, running, standing, state_of, to_write}
+use Rattle.event_loop.proofs.Putting.{set_other, set_same}
 use Rattle.event_loop.proofs.Doing.{none_more}
 
 -- what is not empty has some
 pub some_there : (empty : Bool) (bytes : List ℕ) → empty ≡ (length bytes == 0) → empty ≡ false → 0 < length bytes
-some_there empty bytes is not = elim (eqb_tells (length bytes) 0) [
-  | inl none ↦ absurd (false≢true (sym not ∙ is ∙ none.0))
-  | inr some ↦ (let other = some.1 in omega (arith, other))
-]
+some_there empty [] is not = absurd (false≢true (sym not ∙ is))
+some_there empty (b ∷ bytes) is not = omega arith
 
 pub none_there : (empty : Bool) (bytes : List ℕ) → empty ≡ (length bytes == 0) → empty ≡ true → ¬ (0 < length bytes)
-none_there empty bytes is has_none some = elim (eqb_tells (length bytes) 0) [
-  | inl none ↦ (let zero = none.1 in absurd (omega (arith, zero, some)))
-  | inr other ↦ false≢true (sym other.0 ∙ sym is ∙ has_none)
-]
+none_there empty bytes is has_none some = (let none = eqb-true (length bytes) 0 (sym is ∙ has_none) in absurd (omega (arith, none, some)))
 
 -- what the edge tells of a connection
 pub told_as : (output : ℕ) (closing : Bool) (bytes : List ℕ) (connection : Option Connection) → output ≡ length bytes → bytes ≡ untaken connection → closing ≡ is_closing connection → IsToldAs output closing connection
 told_as output closing bytes connection size is_output closes = (sym (size ∙ ap length is_output), sym closes)
-
--- where a connection is served, one is there
-pub served_taken : (stage : Stage) → IsInService stage → IsOccupied stage
-served_taken Free served = absurd served
-served_taken Open served = tt
-served_taken Ended served = tt
-served_taken (Broken fault) served = tt
 
 -- at a free place nothing is to be done
 pub free_rests : (p : Place) (o : Option Connection) → p.stage ≡ Free → IsPlaceAtRest p o
@@ -71,19 +58,9 @@ fresh_rests now k none stays = record {
     not_over (ended is empty) = absurd (cc)
     not_over (dismissed is closing empty) = false≢true (sym stays ∙ closing)
 
--- where nothing changed, there is still nothing to be done
-pub unwritten_still : (k : ℕ) (b c : Service) (v u : World) → StaysIdle (to_write k) b v c u → HoldsAt k c u NeedsNoWrite
-unwritten_still k b c v u still =
-    subst (λ s. HoldsAt k s u NeedsNoWrite) (sym still.service_is) (subst (λ w. HoldsAt k b w NeedsNoWrite) (sym still.world_is) still.rests)
-
-pub unread_still : (k : ℕ) (b c : Service) (v u : World) → HoldsAt k b v NeedsNoRead → StaysIdle (to_write k) b v c u → HoldsAt k c u NeedsNoRead
-unread_still k b c v u unread still =
-    subst (λ s. HoldsAt k s u NeedsNoRead) (sym still.service_is) (subst (λ x. HoldsAt k b x NeedsNoRead) (sym still.world_is) unread)
-
--- where nothing was to be read, nothing is
-pub still_unread : (k : ℕ) (a b : Service) (w v : World) → StaysIdle (to_read k) a w b v → HoldsAt k b v NeedsNoRead
-still_unread k a b w v still =
-    subst (λ s. HoldsAt k s v NeedsNoRead) (sym still.service_is) (subst (λ x. HoldsAt k a x NeedsNoRead) (sym still.world_is) still.rests)
+-- where nothing changed, it holds still
+pub still_holds : (duty : Duty) (k : ℕ) (b c : Service) (v u : World) (P : Place → Option Connection → Type 0) → StaysIdle duty b v c u → HoldsAt k b v P → HoldsAt k c u P
+still_holds duty k b c v u P still holds = subst (λ s. HoldsAt k s u P) (sym still.service_is) (subst (λ w. HoldsAt k b w P) (sym still.world_is) holds)
 
 -- what rests needs no turn
 pub rests_turned : (k : ℕ) (place : Place) (o : Option Connection) (calls : List Call) → IsPlaceAtRest place o → HadTurn k place o calls
@@ -112,10 +89,6 @@ others_then k a w b v c u one two = record {
   due = λ j other. two.due j other ∙ one.due j other;
   connections = λ j other. two.connections j other ∙ one.connections j other;
 }
-
--- nothing changed
-pub no_others : (k : ℕ) (a : Service) (w : World) → LeavesOthers k a w a w
-no_others k a w = record { places = λ j other. refl; due = λ j other. refl; connections = λ j other. refl }
 
 -- where neither a read nor a write was to be done and nothing changed, none is left
 pub none_left : (k : ℕ) (b c : Service) (v u : World) → HoldsAt k b v NeedsNoRead → StaysIdle (to_write k) b v c u → IsLeftAt k c u → ⊥
@@ -146,17 +119,9 @@ settled_other k j service past service' past' others done other settled = record
   active = λ e. (let some = settled.active (sym (others.due j other) ∙ e) in omega (arith, some, done.grows));
 }
 
--- keeping leaves all places at rest, and what was heard there
-others_kept : (j : ℕ) (service : Service) (world world' : World) → world'.connections ≡ world.connections → LeavesOthers (suc j) service world service world'
+-- keeping leaves all places as they are
+pub others_kept : (j : ℕ) (service : Service) (world world' : World) → world'.connections ≡ world.connections → LeavesOthers (suc j) service world service world'
 others_kept j service world world' same = record { places = λ i other. refl; due = λ i other. refl; connections = λ i other. ap (λ ks. connection_at ks i) same }
-
-pub rested_kept : (service : Service) (world world' : World) → world'.connections ≡ world.connections → IsRested service world → IsRested service world'
-rested_kept service world world' same rested j less =
-    rested_other (suc j) j service world service world' (others_kept j service world world' same) (λ is. absurd (omega (arith, is))) (rested j less)
-
-pub heard_kept : {H : Type 0} (service : Service) (past past' : Past H) → past'.journey.world.connections ≡ past.journey.world.connections → DoneAfter past.calls past'.calls → (j : ℕ) → IsHeardAt j service past → IsHeardAt j service past'
-heard_kept service past past' same done j heard =
-    heard_other (suc j) j service past service past' (others_kept j service past.journey.world past'.journey.world same) done (λ is. absurd (omega (arith, is))) heard
 
 -- where one place is settled and the others are, all are
 pub all_settled : {H : Type 0} (k : ℕ) (service : Service) (past : Past H) (service' : Service) (past' : Past H) → LeavesOthers k service past.journey.world service' past'.journey.world → DoneAfter past.calls past'.calls →
@@ -207,18 +172,16 @@ pub stays_tidy : {N C J K H : Type 0} (p : Promises N C J K H) (first : LoopStat
     Served p first (state_of (running service tools) found past) → TidiesAt p first k (standing (running service tools) found past) (running (record service { due = due }) tools)
 stays_tidy p first found k service tools past place due here goes_on others rests left h = record {
   goes = record {
-    next = past;
-    served = h;
-    done = none_more past.calls;
+    on = record { next = past; served = h; done = none_more past.calls; within = λ was. was };
     others = record { places = λ j other. refl; due = others; connections = λ j other. refl };
     alone = λ other differs not. not;
     ready = λ was. was;
   };
-  rested = λ none place' here'. subst (λ q. IsPlaceAtRest q (connection_at past.journey.world.connections k)) (same_some place place' (sym here ∙ here')) (rests none);
+  rested = λ none place' here'. subst (λ q. IsPlaceAtRest q (connection_at past.journey.world.connections k)) (same_Some place place' (sym here ∙ here')) (rests none);
   turned = λ unread unwritten place' here'. record {
     read = elim unread [ inl none ↦ inl (none place' here') | inr tended ↦ inr tended ];
     written = elim unwritten [ inl none ↦ inl (none place' here') | inr done ↦ inr done ];
-    goes_on = subst (λ q. ¬ (IsOver q (connection_at past.journey.world.connections k))) (same_some place place' (sym here ∙ here')) goes_on;
+    goes_on = subst (λ q. ¬ (IsOver q (connection_at past.journey.world.connections k))) (same_Some place place' (sym here ∙ here')) goes_on;
   };
   left = λ e. record { place = place; here = here; left = left e };
 }

@@ -22,6 +22,9 @@ use Rattle.event_loop.specs.Closing.{IsSilentLongest, AreWithin, Closes, freed_q
 use Rattle.event_loop.specs.Reporting.{Tells, is_long_ago}
 use Rattle.event_loop.specs.Served.{HadTurn, Served, Shuts, TellsLast}
 use Rattle.event_loop.specs.Ends.{CannotGoOn}
+-- what each clause of a part names
+pub use Rattle.endpoints.specs.Keeping.{keeping}
+pub use Rattle.event_loop.specs.LoopStates.{promises}
 
 -- it holds of the connection, wherever the edge was reached
 abbrev pub WhereKnown : {H : Type 0} → Hosting H → SeenEdge H → ℕ → (Option Connection → Type 0) → Type 0
@@ -97,13 +100,19 @@ pub data IsLimit (service : Service) : Option ℕ → Type 0 where
   rests : MayRest service → IsLimit service (Some 1000)
   sleeps : MayRest service → AllFree service.places → ((since : ℕ) → service.queue ≢ Barred since) → IsLimit service None
 
+-- as the clocks told last, a connection at the place is not silent for too long
+abbrev pub IsInTime : Service → ℕ → Type 0
+IsInTime service k = (place : Place) → slice_get service.places k ≡ Some place → IsOccupied place.stage → service.times.steady - place.since ≤ service.limits.idle
+
+-- nobody is
+abbrev pub NobodyIsSilent : Service → Type 0
+NobodyIsSilent service = AreWithin service.limits.idle service.times service.places
+
 -- calls were made after others, none of them a wait
 pub record DoneAfter (earlier later : List Call) : Type 0 where
   pub waits : waits later ≡ waits earlier
   pub grows : done_since earlier ≤ done_since later
   pub keeps : (kind : CallKind) → IsDone kind earlier → IsDone kind later
-
--- AT ONE PLACE
 
 -- a connection is there, and none took no byte of a reply for longer
 pub record IsLongestAt (places : List Place) (k : ℕ) : Type 0 where
@@ -135,16 +144,6 @@ to_read k = record { k = k; kind = Reading k; rests = NeedsNoRead }
 abbrev pub to_write : ℕ → Duty
 to_write k = record { k = k; kind = Writing k; rests = NeedsNoWrite }
 
--- steps lead on, which touch one place alone, and make calls of one kind alone; what was ready for it stays ready
-pub record GoesAt {N C J K H : Type 0} (p : Promises N C J K H) (first : LoopState N C J K H) (duty : Duty) (before : Standing N C J K H)
-    (after : Running N C J K H) : Type 0 where
-  pub next : Past H
-  pub served : Served p first (state_of after before.found next)
-  pub done : DoneAfter before.past.calls next.calls
-  pub others : LeavesOthers duty.k before.now.service before.past.journey.world after.service next.journey.world
-  pub ready : IsReadyFor duty.kind before.past.journey.world → IsReadyFor duty.kind next.journey.world
-  pub alone : (other : CallKind) → other ≢ duty.kind → ¬ (IsDone other before.past.calls) → ¬ (IsDone other next.calls)
-
 -- it holds of what is known of the place, and of its connection
 abbrev pub HoldsAt : ℕ → Service → World → (Place → Option Connection → Type 0) → Type 0
 HoldsAt k service world P = (place : Place) → slice_get service.places k ≡ Some place → P place (connection_at world.connections k)
@@ -154,19 +153,6 @@ pub record StaysIdle (duty : Duty) (service : Service) (world : World) (service'
   pub service_is : service' ≡ service
   pub world_is : world' ≡ world
   pub rests : HoldsAt duty.k service world duty.rests
-
--- a call of the kind is made at one place, or nothing changed, since it is not to be made
-pub record ActsAt {N C J K H : Type 0} (p : Promises N C J K H) (first : LoopState N C J K H) (duty : Duty) (before : Standing N C J K H)
-    (after : Running N C J K H) : Type 0 where
-  pub goes : GoesAt p first duty before after
-  pub due : after.service.due ≡ before.now.service.due
-  pub acts : StaysIdle duty before.now.service before.past.journey.world after.service goes.next.journey.world ⊎ IsDone duty.kind goes.next.calls
-
--- so it is where it was not done since the last wait, and may be done
-abbrev pub LeadsToActs : {N C J K H : Type 0} → Promises N C J K H → Duty → Running N C J K H → Running N C J K H → Type 0
-LeadsToActs {N} {C} {J} {K} {H} p duty before after =
-    (first : LoopState N C J K H) (found : List Ready) (past : Past H) → ¬ (IsDone duty.kind past.calls) → IsReadyFor duty.kind past.journey.world →
-    Served p first (state_of before found past) → ActsAt p first duty (standing before found past) after
 
 -- a read or a write is to be done
 pub data IsWorkLeft (place : Place) (connection : Option Connection) : Type 0 where
@@ -183,7 +169,7 @@ IsDueFor place Close connection = IsOver place connection
 IsDueFor place Work connection = IsWorkLeft place connection × ¬ (IsOver place connection)
 IsDueFor place Rest connection = IsPlaceAtRest place connection
 
--- so it is at the place
+-- a read or a write is to be done at the place
 pub record IsLeftAt (k : ℕ) (service : Service) (world : World) : Type 0 where
   pub place : Place
   pub here : slice_get service.places k ≡ Some place
@@ -203,44 +189,7 @@ pub record IsSettledAt {H : Type 0} (k : ℕ) (service : Service) (past : Past H
   pub turned : HoldsAt k service past.journey.world (λ place connection. HadTurn k place connection past.calls)
   pub active : slice_get service.due k ≡ Some true → 0 < done_since past.calls
 
--- steps lead on, which touch one place alone, and it is settled
-pub record SettlesAt {N C J K H : Type 0} (p : Promises N C J K H) (first : LoopState N C J K H) (k : ℕ) (before : Standing N C J K H)
-    (after : Running N C J K H) : Type 0 where
-  pub goes : GoesAt p first (to_write k) before after
-  pub settled : IsSettledAt k after.service goes.next
-
--- it is closed where it is over, and else it is noted whether something is due there
-pub record TidiesAt {N C J K H : Type 0} (p : Promises N C J K H) (first : LoopState N C J K H) (k : ℕ) (before : Standing N C J K H)
-    (after : Running N C J K H) : Type 0 where
-  pub goes : GoesAt p first (to_write k) before after
-  pub rested : IsRestedAt k after.service goes.next.journey.world
-  pub turned : HoldsAt k before.now.service before.past.journey.world NeedsNoRead ⊎
-      (IsDone (Reading k) before.past.calls ⊎ IsDone (Writing k) before.past.calls) →
-      HoldsAt k before.now.service before.past.journey.world NeedsNoWrite ⊎ IsDone (Writing k) before.past.calls →
-      HoldsAt k after.service goes.next.journey.world (λ place connection. HadTurn k place connection goes.next.calls)
-  pub left : slice_get after.service.due k ≡ Some true → IsLeftAt k before.now.service before.past.journey.world
-
-abbrev pub LeadsToTidy : {N C J K H : Type 0} → Promises N C J K H → ℕ → Running N C J K H → Running N C J K H → Type 0
-LeadsToTidy {N} {C} {J} {K} {H} p k before after =
-    (first : LoopState N C J K H) (found : List Ready) (past : Past H) → Served p first (state_of before found past) →
-    TidiesAt p first k (standing before found past) after
-
-abbrev pub LeadsToRest : {N C J K H : Type 0} → Promises N C J K H → ℕ → Running N C J K H → Running N C J K H → Type 0
-LeadsToRest {N} {C} {J} {K} {H} p k before after =
-    (first : LoopState N C J K H) (found : List Ready) (past : Past H) → IsHeardAt k before.service past → ¬ (IsDone (Writing k) past.calls) →
-    IsAllKept past.journey.world → Served p first (state_of before found past) → SettlesAt p first k (standing before found past) after
-
--- a connection is closed, wherever the edge was reached
-pub record GoesAway {N C J K H : Type 0} (p : Promises N C J K H) (k : ℕ) (place : Place) (before : Standing N C J K H)
-    (after : Running N C J K H) : Type 0 where
-  pub next : Past H
-  pub closes : Closes p k place (state_of before.now before.found before.past) (state_of after before.found next)
-
-abbrev pub LeadsAway : {N C J K H : Type 0} → Promises N C J K H → ℕ → Place → Running N C J K H → Running N C J K H → Type 0
-LeadsAway {N} {C} {J} {K} {H} p k place before after =
-    (found : List Ready) (past : Past H) → Reached p.hosting before.tools.edge past.journey → GoesAway p k place (standing before found past) after
-
--- and this is left of what the loop knows: its place is free
+-- where a connection is closed, this is left of what the loop knows: its place is free
 abbrev pub FreesPlace : ℕ → Place → Service → Service → Type 0
 FreesPlace k place service service' = service' ≡ record service {
   noted = service'.noted;
@@ -248,132 +197,15 @@ FreesPlace k place service service' = service' ≡ record service {
   queue = freed_queue service.queue;
 }
 
--- AT ALL PLACES
-
 abbrev pub IsRested : Service → World → Type 0
 IsRested service world = (k : ℕ) → k < 64 → IsRestedAt k service world
 
 abbrev pub AreAllSettled : {H : Type 0} → Service → Past H → Type 0
 AreAllSettled service past = (k : ℕ) → k < 64 → IsSettledAt k service past
 
--- steps lead on, and all places are settled
-pub record GoesSettled {N C J K H : Type 0} (p : Promises N C J K H) (first : LoopState N C J K H) (found : List Ready) (past : Past H)
-    (after : Running N C J K H) : Type 0 where
-  pub next : Past H
-  pub served : Served p first (state_of after found next)
-  pub settled : AreAllSettled after.service next
-  pub done : DoneAfter past.calls next.calls
-
-abbrev pub LeadsToSettled : {N C J K H : Type 0} → Promises N C J K H → List Ready → Running N C J K H → List Ready → Running N C J K H → Type 0
-LeadsToSettled {N} {C} {J} {K} {H} p found before found' after =
-    (first : LoopState N C J K H) (past : Past H) → Served p first (state_of before found past) → AreAllSettled before.service past →
-    GoesSettled p first found' past after
-
--- so they do whatever the last wait found and was not looked at yet
-abbrev pub SettlesAll : {N C J K H : Type 0} → Promises N C J K H → Running N C J K H → Running N C J K H → Type 0
-SettlesAll p before after = (found : List Ready) → LeadsToSettled p found before found after
-
--- so they do, and where it is so then, it was tried to accept since the last wait
-pub record GoesAccepting {N C J K H : Type 0} (p : Promises N C J K H) (first : LoopState N C J K H) (before : Standing N C J K H) (P : Type 0)
-    (after : Running N C J K H) : Type 0 where
-  pub goes : GoesSettled p first before.found before.past after
-  pub tried : P → IsDone Accepting goes.next.calls
-
-abbrev pub LeadsToAccepts : {N C J K H : Type 0} → Promises N C J K H → Type 0 → Running N C J K H → Running N C J K H → Type 0
-LeadsToAccepts {N} {C} {J} {K} {H} p P before after =
-    (found : List Ready) (first : LoopState N C J K H) (past : Past H) → Served p first (state_of before found past) → AreAllSettled before.service past →
-    GoesAccepting p first (standing before found past) P after
-
--- what was found ready is noted at its place
-abbrev pub LeadsToHearing : {N C J K H : Type 0} → Promises N C J K H → List Ready → Running N C J K H → List Ready → Running N C J K H → Type 0
-LeadsToHearing {N} {C} {J} {K} {H} p found before found' after =
-    (first : LoopState N C J K H) (past : Past H) → Served p first (state_of before found past) → IsRested before.service past.journey.world →
-    Served p first (state_of after found' past) × IsRested after.service past.journey.world
-
--- so is the first of it
-abbrev pub HearsOf : {N C J K H : Type 0} → Promises N C J K H → Ready → Running N C J K H → Running N C J K H → Type 0
-HearsOf p ready before after = (more : List Ready) → LeadsToHearing p (ready ∷ more) before more after
-
--- each place below i was read, where it may be; those from i on were not, none was written to, and nothing was kept
-pub record GoesReading {N C J K H : Type 0} (p : Promises N C J K H) (first : LoopState N C J K H) (i : ℕ) (before : Standing N C J K H)
-    (after : Running N C J K H) : Type 0 where
-  pub next : Past H
-  pub served : Served p first (state_of after before.found next)
-  pub rested : IsRested after.service next.journey.world
-  pub heard : (j : ℕ) → j < i → IsHeardAt j after.service next
-  pub unread : (j : ℕ) → i ≤ j → ¬ (IsDone (Reading j) next.calls)
-  pub unwritten : (j : ℕ) → ¬ (IsDone (Writing j) next.calls)
-  pub not_kept : ¬ (IsDone Keeping next.calls)
-  pub done : DoneAfter before.past.calls next.calls
-
-abbrev pub LeadsReading : {N C J K H : Type 0} → Promises N C J K H → ℕ → Running N C J K H → Running N C J K H → Type 0
-LeadsReading {N} {C} {J} {K} {H} p i before after =
-    (first : LoopState N C J K H) (found : List Ready) (past : Past H) → ((kind : CallKind) → ¬ (IsDone kind past.calls)) → IsRested before.service past.journey.world →
-    Served p first (state_of before found past) → GoesReading p first i (standing before found past) after
-
--- nothing is unkept, and all else is as it was
-pub record GoesKept {N C J K H : Type 0} (p : Promises N C J K H) (first : LoopState N C J K H) (before : Standing N C J K H)
-    (tools' : Tools N C J K H) : Type 0 where
-  pub next : Past H
-  pub served : Served p first (state_of (running before.now.service tools') before.found next)
-  pub kept : IsAllKept next.journey.world
-  pub connections : next.journey.world.connections ≡ before.past.journey.world.connections
-  pub done : DoneAfter before.past.calls next.calls
-  pub alone : (other : CallKind) → other ≢ Keeping → ¬ (IsDone other before.past.calls) → ¬ (IsDone other next.calls)
-
-abbrev pub LeadsToKept : {N C J K H : Type 0} → Promises N C J K H → Tools N C J K H → Tools N C J K H → Type 0
-LeadsToKept {N} {C} {J} {K} {H} p tools tools' =
-    (first : LoopState N C J K H) (found : List Ready) (service : Service) (past : Past H) → ¬ (IsDone Keeping past.calls) →
-    Served p first (state_of (running service tools) found past) → GoesKept p first (standing (running service tools) found past) tools'
-
--- or keeping failed
-abbrev pub LeadsToLoss : {N C J K H : Type 0} → Promises N C J K H → Tools N C J K H → LoopFault → Tools N C J K H → Type 0
-LeadsToLoss {N} {C} {J} {K} {H} p tools fault tools' =
-    (first : LoopState N C J K H) (found : List Ready) (service : Service) (past : Past H) → ¬ (IsDone Keeping past.calls) →
-    Served p first (state_of (running service tools) found past) →
-    CannotGoOn p (state_of (running service tools) found past) fault (state_of (running service tools') found past)
-
--- where nothing is unkept, no more is kept than may be beside an image, or an image was refused less than a minute ago
-abbrev pub IsKeptShort : {N C J K H : Type 0} → Promises N C J K H → Running N C J K H → World → Type 0
-IsKeptShort p now world = IsAllKept world → p.keeping.is_long now.tools.keeper → is_long_ago now.service.refused now.service.times.steady 60 ≡ false
-
--- wherever steps lead to, they lead on, and it is so
-abbrev pub LeadsToShort : {N C J K H : Type 0} → Promises N C J K H → Running N C J K H → Running N C J K H → Type 0
-LeadsToShort {N} {C} {J} {K} {H} p before after =
-    (first : LoopState N C J K H) (found : List Ready) (past : Past H) → Served p first (state_of before found past) →
-    Served p first (state_of after found past) × IsKeptShort p after past.journey.world
-
--- or the image could not be put
-abbrev pub LeadsToNoImage : {N C J K H : Type 0} → Promises N C J K H → Running N C J K H → LoopFault → Running N C J K H → Type 0
-LeadsToNoImage {N} {C} {J} {K} {H} p before fault after =
-    (first : LoopState N C J K H) (found : List Ready) (past : Past H) → Served p first (state_of before found past) →
-    CannotGoOn p (state_of before found past) fault (state_of after found past)
-
--- each place below i is settled; those from i on were heard, and not written to; and nothing is unkept
-pub record GoesWriting {N C J K H : Type 0} (p : Promises N C J K H) (first : LoopState N C J K H) (i : ℕ) (before : Standing N C J K H)
-    (after : Running N C J K H) : Type 0 where
-  pub next : Past H
-  pub served : Served p first (state_of after before.found next)
-  pub below : (j : ℕ) → j < i → IsSettledAt j after.service next
-  pub rested : (j : ℕ) → i ≤ j → j < 64 → IsRestedAt j after.service next.journey.world
-  pub heard : (j : ℕ) → i ≤ j → j < 64 → IsHeardAt j after.service next
-  pub unwritten : (j : ℕ) → i ≤ j → ¬ (IsDone (Writing j) next.calls)
-  pub kept : IsAllKept next.journey.world
-  pub done : DoneAfter before.past.calls next.calls
-
-abbrev pub LeadsWriting : {N C J K H : Type 0} → Promises N C J K H → ℕ → Running N C J K H → Running N C J K H → Type 0
-LeadsWriting {N} {C} {J} {K} {H} p i before after =
-    (first : LoopState N C J K H) (found : List Ready) (past : Past H) → IsRested before.service past.journey.world →
-    ((j : ℕ) → j < 64 → IsHeardAt j before.service past) → ((j : ℕ) → ¬ (IsDone (Writing j) past.calls)) → IsAllKept past.journey.world →
-    Served p first (state_of before found past) → GoesWriting p first i (standing before found past) after
-
 -- where an accept failed and was not tried again, it failed in this second
 abbrev pub IsTried : Service → Type 0
 IsTried service = (since : ℕ) → service.queue ≡ Barred since → since ≡ service.times.steady
-
--- as the clocks told last, nobody is silent for too long
-abbrev pub NobodyIsSilent : Service → Type 0
-NobodyIsSilent service = AreWithin service.limits.idle service.times service.places
 
 -- where reports are wanted, one was told in this second, or less than so many seconds ago
 abbrev pub IsReported : Service → Type 0
@@ -397,47 +229,206 @@ pub record IsReadyToWait {H : Type 0} (service : Service) (past : Past H) : Type
   pub queue : service.queue ≢ Told ⊎ IsDone Accepting past.calls
   pub quick : IsQuick service
 
--- steps lead through so many waits
-pub record GoesRound {N C J K H : Type 0} (p : Promises N C J K H) (first : LoopState N C J K H) (count : ℕ) (past : Past H)
-    (after : Running N C J K H) : Type 0 where
-  pub next : Past H
-  pub served : Served p first (state_of after [] next)
-  pub ready : IsReadyToWait after.service next
-  pub waits_are : waits next.calls ≡ waits past.calls + count
+-- HOW THE PARTS LEAD ON
 
-abbrev pub LeadsRound : {N C J K H : Type 0} → Promises N C J K H → ℕ → Running N C J K H → Running N C J K H → Type 0
-LeadsRound {N} {C} {J} {K} {H} p count before after =
-    (first : LoopState N C J K H) (past : Past H) → Served p first (state_of before [] past) → IsReadyToWait before.service past →
-    GoesRound p first count past after
+module _ {N C J K H : Type 0} (p : Promises N C J K H) where
+  -- steps lead on, and nobody becomes silent for longer
+  pub record LeadsOn (first : LoopState N C J K H) (before : Standing N C J K H) (after : Running N C J K H) : Type 0 where
+    pub next : Past H
+    pub served : Served p first (state_of after before.found next)
+    pub done : DoneAfter before.past.calls next.calls
+    pub within : NobodyIsSilent before.now.service → NobodyIsSilent after.service
 
--- steps lead to a state where something fails
-pub record GoesWrong {N C J K H : Type 0} (p : Promises N C J K H) (first : LoopState N C J K H) (fault : LoopFault) (after : Running N C J K H) : Type 0 where
-  pub last : LoopState N C J K H
-  pub served : Served p first last
-  pub found : List Ready
-  pub next : Past H
-  pub fails : CannotGoOn p last fault (state_of after found next)
+  -- so they do, touch one place alone, and make calls of one kind alone; what was ready for it stays ready
+  pub record GoesAt (first : LoopState N C J K H) (duty : Duty) (before : Standing N C J K H) (after : Running N C J K H) : Type 0 where
+    pub on : LeadsOn first before after
+    pub others : LeavesOthers duty.k before.now.service before.past.journey.world after.service on.next.journey.world
+    pub ready : IsReadyFor duty.kind before.past.journey.world → IsReadyFor duty.kind on.next.journey.world
+    pub alone : (other : CallKind) → other ≢ duty.kind → ¬ (IsDone other before.past.calls) → ¬ (IsDone other on.next.calls)
 
-abbrev pub LeadsWrong : {N C J K H : Type 0} → Promises N C J K H → LoopFault → Running N C J K H → Running N C J K H → Type 0
-LeadsWrong {N} {C} {J} {K} {H} p fault before after =
-    (first : LoopState N C J K H) (past : Past H) → Served p first (state_of before [] past) → IsReadyToWait before.service past →
-    GoesWrong p first fault after
+  -- a call of the kind is made at one place, or nothing changed, since it is not to be made
+  pub record ActsAt (first : LoopState N C J K H) (duty : Duty) (before : Standing N C J K H) (after : Running N C J K H) : Type 0 where
+    pub goes : GoesAt first duty before after
+    pub due : after.service.due ≡ before.now.service.due
+    pub acts : StaysIdle duty before.now.service before.past.journey.world after.service goes.on.next.journey.world ⊎ IsDone duty.kind goes.on.next.calls
 
--- a report tells what is so now
-abbrev pub TellsNow : {N C J K H : Type 0} → Promises N C J K H → Running N C J K H → Report → Type 0
-TellsNow {N} {C} {J} {K} {H} p now report = (found : List Ready) (past : Past H) → Tells p (state_of now found past) report
+  -- so it is where it was not done since the last wait, and may be done
+  abbrev pub LeadsToActs : Duty → Running N C J K H → Running N C J K H → Type 0
+  LeadsToActs duty before after =
+      (first : LoopState N C J K H) (found : List Ready) (past : Past H) → ¬ (IsDone duty.kind past.calls) → IsReadyFor duty.kind past.journey.world →
+      Served p first (state_of before found past) → ActsAt first duty (standing before found past) after
 
--- where reports are wanted, there is one more
-abbrev pub LeadsLast : {N C J K H : Type 0} → Promises N C J K H → Running N C J K H → Running N C J K H → Type 0
-LeadsLast {N} {C} {J} {K} {H} p before after = (found : List Ready) (past : Past H) → TellsLast p (state_of before found past) (state_of after found past)
+  -- steps lead on, which touch one place alone, and it is settled
+  pub record SettlesAt (first : LoopState N C J K H) (k : ℕ) (before : Standing N C J K H) (after : Running N C J K H) : Type 0 where
+    pub goes : GoesAt first (to_write k) before after
+    pub settled : IsSettledAt k after.service goes.on.next
 
--- connections that are left are closed
-pub record GoesShut {N C J K H : Type 0} (p : Promises N C J K H) (first : LoopState N C J K H) (found : List Ready) (after : Running N C J K H) : Type 0 where
-  pub next : Past H
-  pub shuts : Shuts p first (state_of after found next)
-  pub reached : Reached p.hosting after.tools.edge next.journey
+  -- it is closed where it is over, and else it is noted whether something is due there
+  pub record TidiesAt (first : LoopState N C J K H) (k : ℕ) (before : Standing N C J K H) (after : Running N C J K H) : Type 0 where
+    pub goes : GoesAt first (to_write k) before after
+    pub rested : IsRestedAt k after.service goes.on.next.journey.world
+    pub turned : HoldsAt k before.now.service before.past.journey.world NeedsNoRead ⊎
+        (IsDone (Reading k) before.past.calls ⊎ IsDone (Writing k) before.past.calls) →
+        HoldsAt k before.now.service before.past.journey.world NeedsNoWrite ⊎ IsDone (Writing k) before.past.calls →
+        HoldsAt k after.service goes.on.next.journey.world (λ place connection. HadTurn k place connection goes.on.next.calls)
+    pub left : slice_get after.service.due k ≡ Some true → IsLeftAt k before.now.service before.past.journey.world
 
-abbrev pub LeadsShut : {N C J K H : Type 0} → Promises N C J K H → Running N C J K H → Running N C J K H → Type 0
-LeadsShut {N} {C} {J} {K} {H} p before after =
-    (first : LoopState N C J K H) (found : List Ready) (past : Past H) → Shuts p first (state_of before found past) →
-    Reached p.hosting before.tools.edge past.journey → GoesShut p first found after
+  abbrev pub LeadsToTidy : ℕ → Running N C J K H → Running N C J K H → Type 0
+  LeadsToTidy k before after =
+      (first : LoopState N C J K H) (found : List Ready) (past : Past H) → Served p first (state_of before found past) →
+      TidiesAt first k (standing before found past) after
+
+  -- a connection is closed, wherever the edge was reached
+  pub record GoesAway (k : ℕ) (place : Place) (before : Standing N C J K H) (after : Running N C J K H) : Type 0 where
+    pub next : Past H
+    pub closes : Closes p k place (state_of before.now before.found before.past) (state_of after before.found next)
+
+  abbrev pub LeadsAway : ℕ → Place → Running N C J K H → Running N C J K H → Type 0
+  LeadsAway k place before after =
+      (found : List Ready) (past : Past H) → Reached p.hosting before.tools.edge past.journey → GoesAway k place (standing before found past) after
+
+  -- steps lead on, and all places are settled
+  pub record GoesSettled (first : LoopState N C J K H) (found : List Ready) (past : Past H) (after : Running N C J K H) : Type 0 where
+    pub next : Past H
+    pub served : Served p first (state_of after found next)
+    pub settled : AreAllSettled after.service next
+    pub done : DoneAfter past.calls next.calls
+
+  abbrev pub LeadsToSettled : List Ready → Running N C J K H → List Ready → Running N C J K H → Type 0
+  LeadsToSettled found before found' after =
+      (first : LoopState N C J K H) (past : Past H) → Served p first (state_of before found past) → AreAllSettled before.service past →
+      GoesSettled first found' past after
+
+  -- so they do whatever the last wait found and was not looked at yet
+  abbrev pub SettlesAll : Running N C J K H → Running N C J K H → Type 0
+  SettlesAll before after = (found : List Ready) → LeadsToSettled found before found after
+
+  -- so they do, and where it is so then, it was tried to accept since the last wait
+  pub record GoesAccepting (first : LoopState N C J K H) (before : Standing N C J K H) (P : Type 0) (after : Running N C J K H) : Type 0 where
+    pub goes : GoesSettled first before.found before.past after
+    pub tried : P → IsDone Accepting goes.next.calls
+
+  abbrev pub LeadsToAccepts : Type 0 → Running N C J K H → Running N C J K H → Type 0
+  LeadsToAccepts P before after =
+      (found : List Ready) (first : LoopState N C J K H) (past : Past H) → Served p first (state_of before found past) → AreAllSettled before.service past →
+      GoesAccepting first (standing before found past) P after
+
+  -- what was found ready is noted at its place
+  abbrev pub LeadsToHearing : List Ready → Running N C J K H → List Ready → Running N C J K H → Type 0
+  LeadsToHearing found before found' after =
+      (first : LoopState N C J K H) (past : Past H) → Served p first (state_of before found past) → IsRested before.service past.journey.world →
+      Served p first (state_of after found' past) × IsRested after.service past.journey.world
+
+  -- so is the first of it
+  abbrev pub HearsOf : Ready → Running N C J K H → Running N C J K H → Type 0
+  HearsOf ready before after = (more : List Ready) → LeadsToHearing (ready ∷ more) before more after
+
+  -- each place below i was read, where it may be; those from i on were not, none was written to, and nothing was kept
+  pub record GoesReading (first : LoopState N C J K H) (i : ℕ) (before : Standing N C J K H) (after : Running N C J K H) : Type 0 where
+    pub on : LeadsOn first before after
+    pub rested : IsRested after.service on.next.journey.world
+    pub heard : (j : ℕ) → j < i → IsHeardAt j after.service on.next
+    pub unread : (j : ℕ) → i ≤ j → ¬ (IsDone (Reading j) on.next.calls)
+    pub unwritten : (j : ℕ) → ¬ (IsDone (Writing j) on.next.calls)
+    pub not_kept : ¬ (IsDone Keeping on.next.calls)
+
+  abbrev pub LeadsReading : ℕ → Running N C J K H → Running N C J K H → Type 0
+  LeadsReading i before after =
+      (first : LoopState N C J K H) (found : List Ready) (past : Past H) → ((kind : CallKind) → ¬ (IsDone kind past.calls)) → IsRested before.service past.journey.world →
+      Served p first (state_of before found past) → GoesReading first i (standing before found past) after
+
+  -- nothing is unkept, and all else is as it was
+  pub record GoesKept (first : LoopState N C J K H) (before : Standing N C J K H) (tools' : Tools N C J K H) : Type 0 where
+    pub next : Past H
+    pub served : Served p first (state_of (running before.now.service tools') before.found next)
+    pub kept : IsAllKept next.journey.world
+    pub connections : next.journey.world.connections ≡ before.past.journey.world.connections
+    pub done : DoneAfter before.past.calls next.calls
+    pub alone : (other : CallKind) → other ≢ Keeping → ¬ (IsDone other before.past.calls) → ¬ (IsDone other next.calls)
+
+  abbrev pub LeadsToKept : Tools N C J K H → Tools N C J K H → Type 0
+  LeadsToKept tools tools' =
+      (first : LoopState N C J K H) (found : List Ready) (service : Service) (past : Past H) → ¬ (IsDone Keeping past.calls) →
+      Served p first (state_of (running service tools) found past) → GoesKept first (standing (running service tools) found past) tools'
+
+  -- or keeping failed
+  abbrev pub LeadsToLoss : Tools N C J K H → LoopFault → Tools N C J K H → Type 0
+  LeadsToLoss tools fault tools' =
+      (first : LoopState N C J K H) (found : List Ready) (service : Service) (past : Past H) → ¬ (IsDone Keeping past.calls) →
+      Served p first (state_of (running service tools) found past) →
+      CannotGoOn p (state_of (running service tools) found past) fault (state_of (running service tools') found past)
+
+  -- where nothing is unkept, no more is kept than may be beside an image, or an image was refused less than a minute ago
+  abbrev pub IsKeptShort : Running N C J K H → World → Type 0
+  IsKeptShort now world = IsAllKept world → p.keeping.is_long now.tools.keeper → is_long_ago now.service.refused now.service.times.steady 60 ≡ false
+
+  -- wherever steps lead to, they lead on, and it is so
+  abbrev pub LeadsToShort : Running N C J K H → Running N C J K H → Type 0
+  LeadsToShort before after =
+      (first : LoopState N C J K H) (found : List Ready) (past : Past H) → Served p first (state_of before found past) →
+      Served p first (state_of after found past) × IsKeptShort after past.journey.world
+
+  -- or the image could not be put
+  abbrev pub LeadsToNoImage : Running N C J K H → LoopFault → Running N C J K H → Type 0
+  LeadsToNoImage before fault after =
+      (first : LoopState N C J K H) (found : List Ready) (past : Past H) → Served p first (state_of before found past) →
+      CannotGoOn p (state_of before found past) fault (state_of after found past)
+
+  -- each place below i is settled; those from i on were heard, and not written to; and nothing is unkept
+  pub record GoesWriting (first : LoopState N C J K H) (i : ℕ) (before : Standing N C J K H) (after : Running N C J K H) : Type 0 where
+    pub on : LeadsOn first before after
+    pub below : (j : ℕ) → j < i → IsSettledAt j after.service on.next
+    pub rested : (j : ℕ) → i ≤ j → j < 64 → IsRestedAt j after.service on.next.journey.world
+    pub heard : (j : ℕ) → i ≤ j → j < 64 → IsHeardAt j after.service on.next
+    pub unwritten : (j : ℕ) → i ≤ j → ¬ (IsDone (Writing j) on.next.calls)
+    pub kept : IsAllKept on.next.journey.world
+
+  abbrev pub LeadsWriting : ℕ → Running N C J K H → Running N C J K H → Type 0
+  LeadsWriting i before after =
+      (first : LoopState N C J K H) (found : List Ready) (past : Past H) → IsRested before.service past.journey.world →
+      ((j : ℕ) → j < 64 → IsHeardAt j before.service past) → ((j : ℕ) → ¬ (IsDone (Writing j) past.calls)) → IsAllKept past.journey.world →
+      Served p first (state_of before found past) → GoesWriting first i (standing before found past) after
+
+  -- steps lead through so many waits
+  pub record GoesRound (first : LoopState N C J K H) (count : ℕ) (past : Past H) (after : Running N C J K H) : Type 0 where
+    pub next : Past H
+    pub served : Served p first (state_of after [] next)
+    pub ready : IsReadyToWait after.service next
+    pub waits_are : waits next.calls ≡ waits past.calls + count
+
+  abbrev pub LeadsRound : ℕ → Running N C J K H → Running N C J K H → Type 0
+  LeadsRound count before after =
+      (first : LoopState N C J K H) (past : Past H) → Served p first (state_of before [] past) → IsReadyToWait before.service past →
+      GoesRound first count past after
+
+  -- steps lead to a state where something fails
+  pub record GoesWrong (first : LoopState N C J K H) (fault : LoopFault) (after : Running N C J K H) : Type 0 where
+    pub last : LoopState N C J K H
+    pub served : Served p first last
+    pub found : List Ready
+    pub next : Past H
+    pub fails : CannotGoOn p last fault (state_of after found next)
+
+  abbrev pub LeadsWrong : LoopFault → Running N C J K H → Running N C J K H → Type 0
+  LeadsWrong fault before after =
+      (first : LoopState N C J K H) (past : Past H) → Served p first (state_of before [] past) → IsReadyToWait before.service past →
+      GoesWrong first fault after
+
+  -- a report tells what is so now
+  abbrev pub TellsNow : Running N C J K H → Report → Type 0
+  TellsNow now report = (found : List Ready) (past : Past H) → Tells p (state_of now found past) report
+
+  -- where reports are wanted, there is one more
+  abbrev pub LeadsLast : Running N C J K H → Running N C J K H → Type 0
+  LeadsLast before after = (found : List Ready) (past : Past H) → TellsLast p (state_of before found past) (state_of after found past)
+
+  -- connections that are left are closed
+  pub record GoesShut (first : LoopState N C J K H) (found : List Ready) (after : Running N C J K H) : Type 0 where
+    pub next : Past H
+    pub shuts : Shuts p first (state_of after found next)
+    pub reached : Reached p.hosting after.tools.edge next.journey
+
+  abbrev pub LeadsShut : Running N C J K H → Running N C J K H → Type 0
+  LeadsShut before after =
+      (first : LoopState N C J K H) (found : List Ready) (past : Past H) → Shuts p first (state_of before found past) →
+      Reached p.hosting before.tools.edge past.journey → GoesShut first found after

@@ -3,9 +3,7 @@ ghost use Rattle.std.specs.Prelude.{◌≡◌, ◌≢◌, ◌<◌, ℕ, ⊤, Som
 ghost use Rattle.event_loop.specs.declared.queue.Queue.TheVariants.{Told, Waits};
 ghost use Rattle.event_loop.specs.Places.{IsFreeAt, AllTaken};
 ghost use Rattle.event_loop.specs.Closing.{AreWithin};
-ghost use Rattle.event_loop.specs.Goes.{IsTried, LeadsToAccepts, running};
-ghost use Rattle.event_loop.specs.LoopStates.{promises};
-ghost use Rattle.endpoints.specs.Keeping.{keeping};
+ghost use Rattle.event_loop.specs.Goes.{IsTried, LeadsToAccepts, running, keeping, promises};
 
 use crate::fault::ConnectionFault;
 use crate::limits::PLACES;
@@ -14,9 +12,7 @@ use crate::place::{Place, Stage};
 use crate::queue::Queue;
 use crate::service::Service;
 use crate::sockets::{Accepted, Sockets};
-use crate::tools::{Clocks, Journal, Tools};
-use endpoints::ImageKeeper;
-use hook_host::HookHost;
+use crate::tools::{Clocks, HookHost, ImageKeeper, Journal, Tools};
 use http_edge::{ConnectionNo, Event};
 
 impl Service {
@@ -85,27 +81,7 @@ impl Service {
         }
     }
 
-    // Accepts a connection, if one waits. Where all places are taken, the listener is asked whether one waits.
-    fn admit_next<N: Sockets, C: Clocks, J: Journal, K: ImageKeeper, H: HookHost>(
-        &mut self,
-        tools: &mut Tools<N, C, J, K, H>,
-    )
-        requires told { self.old.queue ≡ Told }
-        ensures leads { LeadsToAccepts (promises N.Sockets C.Clocks J.Journal (keeping K.Keeper K.ImageKeeper.own) H.HookHost) ⊤ (running self.old tools.old) (running self.new tools.new) }
-        ensures within { (limit : ℕ) → AreWithin limit self.old.times self.old.places → AreWithin limit self.new.times self.new.places }
-        ensures waits { self.new.queue ≢ Waits }
-        ensures tried { IsTried self.new }
-        ensures limits { self.new.limits ≡ self.old.limits }
-    {
-        let Some(k) = self.free_place() else {
-            tools.sockets.ask();
-            self.queue = Queue::Asked;
-            return;
-        };
-        self.admit(tools, k);
-    }
-
-    /// Accepts connections while one may wait.
+    /// Accepts connections while one may wait. Where all places are taken, the listener is asked whether one waits.
     pub(crate) fn admit_all<N: Sockets, C: Clocks, J: Journal, K: ImageKeeper, H: HookHost>(
         &mut self,
         tools: &mut Tools<N, C, J, K, H>,
@@ -120,7 +96,12 @@ impl Service {
             let Queue::Told = self.queue else {
                 return;
             };
-            self.admit_next(tools);
+            let Some(k) = self.free_place() else {
+                tools.sockets.ask();
+                self.queue = Queue::Asked;
+                return;
+            };
+            self.admit(tools, k);
         }
     }
 }

@@ -2,18 +2,16 @@
 ghost use Rattle.std.specs.Prelude.{◌≡◌, true, false, Some, OnOk, IfErr};
 ghost use Rattle.event_loop.specs.Reporting.{TellsRefusal};
 ghost use Rattle.http_edge.specs.Reached.{InEach};
-ghost use Rattle.event_loop.specs.Goes.{LeadsToNoImage, LeadsToShort, running};
-ghost use Rattle.event_loop.specs.LoopStates.{promises, IsAllKept, IsUnkept};
-ghost use Rattle.endpoints.specs.Keeping.{keeping};
+ghost use Rattle.event_loop.specs.Goes.{LeadsToNoImage, LeadsToShort, running, keeping, promises};
+ghost use Rattle.event_loop.specs.LoopStates.{IsAllKept, IsUnkept};
 
 use crate::fault::LoopFault;
 use crate::limits::MINUTE;
 use crate::report::Notice;
 use crate::service::Service;
 use crate::tell::is_long_ago;
-use crate::tools::{Clocks, Journal, Sockets, Tools};
+use crate::tools::{Clocks, HookHost, Journal, Sockets, Tools};
 use endpoints::{ImageFault, ImageKeeper};
-use hook_host::HookHost;
 use http_edge::Edge;
 
 // Whether nothing is unkept.

@@ -1,14 +1,10 @@
 //! Keeping what changed.
 ghost use Rattle.std.specs.Prelude.{OnOk, IfErr};
-ghost use Rattle.event_loop.specs.Goes.{LeadsToKept, LeadsToLoss};
-ghost use Rattle.event_loop.specs.LoopStates.{promises};
-ghost use Rattle.endpoints.specs.Keeping.{keeping};
+ghost use Rattle.event_loop.specs.Goes.{LeadsToKept, LeadsToLoss, keeping, promises};
 
 use crate::fault::LoopFault;
-use crate::tools::{Clocks, Journal, Sockets, Tools};
+use crate::tools::{Clocks, HookHost, ImageKeeper, Journal, Sockets, Tools};
 use change_codec::Keeper;
-use endpoints::ImageKeeper;
-use hook_host::HookHost;
 
 /// What is unkept is kept, all at once.
 pub(crate) fn keep_all<N: Sockets, C: Clocks, J: Journal, K: ImageKeeper, H: HookHost>(

@@ -1,13 +1,11 @@
 //! Closing connections.
-ghost use Rattle.std.specs.Prelude.{◌≡◌, ◌≢◌, ◌<◌, ◌≤◌, ◌-◌, ℕ, Some, IfSome, IfNone, slice_get, length};
+ghost use Rattle.std.specs.Prelude.{◌≡◌, ◌≢◌, ◌<◌, ℕ, IfSome, IfNone, slice_get};
 ghost use Rattle.event_loop.specs.declared.clocks.Second.TheVariants.{Same};
 ghost use Rattle.event_loop.specs.declared.place.Stage.TheVariants.{Free};
-ghost use Rattle.event_loop.specs.Places.{AllFree, IsFreeAt, IsOccupied};
+ghost use Rattle.event_loop.specs.Places.{AllFree};
 ghost use Rattle.event_loop.specs.Closing.{AreWithin};
 ghost use Rattle.event_loop.specs.declared.queue.Queue.TheVariants.{Waits};
-ghost use Rattle.event_loop.specs.Goes.{NobodyIsSilent, IsLongestAt, IsTried, LeadsAway, LeadsShut, LeadsToTidy, running, SettlesAll, FreesPlace};
-ghost use Rattle.event_loop.specs.LoopStates.{promises};
-ghost use Rattle.endpoints.specs.Keeping.{keeping};
+ghost use Rattle.event_loop.specs.Goes.{NobodyIsSilent, IsLongestAt, IsTried, LeadsAway, LeadsShut, LeadsToTidy, running, SettlesAll, FreesPlace, keeping, promises};
 
 use crate::clocks::{Clocks, Second};
 use crate::due::Due;
@@ -16,9 +14,7 @@ use crate::noting::note_end;
 use crate::place::{Place, Stage};
 use crate::queue::Queue;
 use crate::service::Service;
-use crate::tools::{Journal, Sockets, Tools};
-use endpoints::ImageKeeper;
-use hook_host::HookHost;
+use crate::tools::{HookHost, ImageKeeper, Journal, Sockets, Tools};
 use http_edge::ConnectionNo;
 
 impl Service {
@@ -55,7 +51,6 @@ impl Service {
         requires bound { k < 64 }
         ensures tidies { LeadsToTidy (promises N.Sockets C.Clocks J.Journal (keeping K.Keeper K.ImageKeeper.own) H.HookHost) k (running self.old tools.old) (running self.new tools.new) }
         ensures due { (j : ℕ) → j ≢ k → slice_get self.new.due j ≡ slice_get self.old.due j }
-        ensures within { NobodyIsSilent self.old → NobodyIsSilent self.new }
     {
         let place = self.place_at(k);
         let connection = ConnectionNo::new(k);
@@ -71,31 +66,7 @@ impl Service {
         }
     }
 
-    // Closes a connection that took no byte of a reply for too long.
-    fn leave_silent<N: Sockets, C: Clocks, J: Journal, K: ImageKeeper, H: HookHost>(
-        &mut self,
-        tools: &mut Tools<N, C, J, K, H>,
-        k: u32,
-    )
-        requires bound { k < 64 }
-        ensures leads { SettlesAll (promises N.Sockets C.Clocks J.Journal (keeping K.Keeper K.ImageKeeper.own) H.HookHost) (running self.old tools.old) (running self.new tools.new) }
-        ensures within { (place : Place) → slice_get self.new.places k ≡ Some place → IsOccupied place.stage → self.old.times.steady - place.since ≤ self.old.limits.idle }
-        ensures others { (j : ℕ) → j ≢ k → slice_get self.new.places j ≡ slice_get self.old.places j }
-        ensures size { length self.new.places ≡ length self.old.places }
-        ensures times { self.new.times ≡ self.old.times }
-        ensures limits { self.new.limits ≡ self.old.limits }
-    {
-        let place = self.place_at(k);
-        if !place.stage.is_taken() {
-            return;
-        }
-        if self.times.steady.saturating_sub(place.since) <= self.limits.idle {
-            return;
-        }
-        self.leave(tools, k, place);
-    }
-
-    // Closes each such connection. In the second of the round before, nobody can have become one.
+    // Closes each connection that took no byte of a reply for too long. In the second of the round before, nobody can have become one.
     fn sweep<N: Sockets, C: Clocks, J: Journal, K: ImageKeeper, H: HookHost>(
         &mut self,
         tools: &mut Tools<N, C, J, K, H>,
@@ -108,7 +79,14 @@ impl Service {
             return;
         }
         for k in 0..PLACES {
-            self.leave_silent(tools, k);
+            let place = self.place_at(k);
+            if !place.stage.is_taken() {
+                continue;
+            }
+            if self.times.steady.saturating_sub(place.since) <= self.limits.idle {
+                continue;
+            }
+            self.leave(tools, k, place);
         }
     }
 
@@ -175,25 +153,6 @@ impl Service {
         self.leave(tools, k, place);
     }
 
-    // Closes the connection at a place, if there is one.
-    fn leave_any<N: Sockets, C: Clocks, J: Journal, K: ImageKeeper, H: HookHost>(
-        &mut self,
-        tools: &mut Tools<N, C, J, K, H>,
-        k: u32,
-    )
-        requires bound { k < 64 }
-        ensures shut { LeadsShut (promises N.Sockets C.Clocks J.Journal (keeping K.Keeper K.ImageKeeper.own) H.HookHost) (running self.old tools.old) (running self.new tools.new) }
-        ensures free { IsFreeAt self.new.places k }
-        ensures size { length self.new.places ≡ length self.old.places }
-        ensures others { (j : ℕ) → j ≢ k → slice_get self.new.places j ≡ slice_get self.old.places j }
-    {
-        let place = self.place_at(k);
-        if !place.stage.is_taken() {
-            return;
-        }
-        self.leave(tools, k, place);
-    }
-
     /// Closes each connection that is left.
     pub(crate) fn leave_all<N: Sockets, C: Clocks, J: Journal, K: ImageKeeper, H: HookHost>(
         &mut self,
@@ -203,7 +162,11 @@ impl Service {
         ensures free { AllFree self.new.places }
     {
         for k in 0..PLACES {
-            self.leave_any(tools, k);
+            let place = self.place_at(k);
+            if !place.stage.is_taken() {
+                continue;
+            }
+            self.leave(tools, k, place);
         }
     }
 }

@@ -1,31 +1,26 @@
 //! Reading connections.
-ghost use Rattle.std.specs.Prelude.{◌≡◌, ◌<◌, true, false, Some, OnOk, IfErr, slice_get};
+ghost use Rattle.std.specs.Prelude.{◌≡◌, ◌<◌, true, false, OnOk, IfErr};
 ghost use Rattle.http_edge.specs.Pieces.{supplied};
 ghost use Rattle.http_edge.specs.Reached.{is_closing};
 ghost use Rattle.http_edge.specs.Schedule.{piece_of};
-ghost use Rattle.event_loop.specs.GivingParts.{LeadsToGiving, LeadsToRefusal};
-ghost use Rattle.event_loop.specs.Calls.{Reading};
-ghost use Rattle.event_loop.specs.Places.{IsOccupied, MayRead};
-ghost use Rattle.event_loop.specs.Goes.{NobodyIsSilent, WhereKnown, LeadsToActs, running, to_read};
-ghost use Rattle.event_loop.specs.LoopStates.{promises};
-ghost use Rattle.endpoints.specs.Keeping.{keeping};
+ghost use Rattle.event_loop.specs.Giving.{AreBytesHeard, IsUnheard};
+ghost use Rattle.event_loop.specs.GivingParts.{LeadsToGiving};
+ghost use Rattle.event_loop.specs.Places.{MayRead};
+ghost use Rattle.event_loop.specs.Goes.{WhereKnown, LeadsToActs, running, to_read, keeping, promises};
 
 use crate::fault::ConnectionFault;
 use crate::limits::{BACKLOG_LIMIT, CUT_LIMIT};
 use crate::place::{Place, Stage};
 use crate::service::Service;
 use crate::sockets::{Received, Sockets};
-use crate::tools::{Clocks, Journal, Tools};
+use crate::tools::{Clocks, HookHost, ImageKeeper, Journal, Tools};
 use consent::Moment;
-use endpoints::ImageKeeper;
-use hook_host::HookHost;
 use http_edge::{ConnectionNo, Edge, EdgeFault, Event};
 use rand_chacha::ChaCha20Rng;
 
 /// Whether a connection may be read.
 pub(crate) fn may_read<H: HookHost>(edge: &Edge<H>, place: Place, k: u32) -> bool
     ensures readable { result ≡ true → place.readable ≡ true }
-    ensures taken { result ≡ true → IsOccupied place.stage }
     ensures may { result ≡ true → WhereKnown H.HookHost edge.now k (MayRead place) }
     ensures rests { result ≡ false → place.readable ≡ true → WhereKnown H.HookHost edge.now k (λ connection. ¬ (MayRead place connection)) }
 {
@@ -50,8 +45,8 @@ fn give_cuts<H: HookHost>(
     bytes: &[u8],
     moment: Moment,
 ) -> Result<(), EdgeFault>
-    ensures heard { OnOk result (LeadsToGiving H.HookHost (piece_of k bytes.now moment) (supplied edge.old generator.old) (supplied edge.new generator.new)) }
-    ensures unheard { IfErr result (λ fault. LeadsToRefusal H.HookHost (piece_of k bytes.now moment) fault (supplied edge.old generator.old) (supplied edge.new generator.new)) }
+    ensures heard { OnOk result (LeadsToGiving H.HookHost (AreBytesHeard H.HookHost (piece_of k bytes.now moment)) (supplied edge.old generator.old) (supplied edge.new generator.new)) }
+    ensures unheard { IfErr result (λ fault. LeadsToGiving H.HookHost (IsUnheard H.HookHost (piece_of k bytes.now moment) fault) (supplied edge.old generator.old) (supplied edge.new generator.new)) }
 {
     let mut start = 0;
     'cuts: while start < bytes.len() {
@@ -77,8 +72,8 @@ fn give_all<H: HookHost>(
     moment: Moment,
 ) -> Result<(), EdgeFault>
     requires stays { WhereKnown H.HookHost edge.old k (λ connection. is_closing connection ≡ false) }
-    ensures heard { OnOk result (LeadsToGiving H.HookHost (piece_of k bytes.now moment) (supplied edge.old generator.old) (supplied edge.new generator.new)) }
-    ensures unheard { IfErr result (λ fault. LeadsToRefusal H.HookHost (piece_of k bytes.now moment) fault (supplied edge.old generator.old) (supplied edge.new generator.new)) }
+    ensures heard { OnOk result (LeadsToGiving H.HookHost (AreBytesHeard H.HookHost (piece_of k bytes.now moment)) (supplied edge.old generator.old) (supplied edge.new generator.new)) }
+    ensures unheard { IfErr result (λ fault. LeadsToGiving H.HookHost (IsUnheard H.HookHost (piece_of k bytes.now moment) fault) (supplied edge.old generator.old) (supplied edge.new generator.new)) }
 {
     let Err(fault) = edge.hear(k, bytes, moment, generator) else {
         return Ok(());
@@ -93,22 +88,20 @@ fn give_all<H: HookHost>(
 }
 
 impl Service {
-    // Reads a connection once, and gives what came to the edge.
-    fn read_once<N: Sockets, C: Clocks, J: Journal, K: ImageKeeper, H: HookHost>(
+    /// Reads a connection once, where it may be read, and gives what came to the edge.
+    pub(crate) fn read<N: Sockets, C: Clocks, J: Journal, K: ImageKeeper, H: HookHost>(
         &mut self,
         tools: &mut Tools<N, C, J, K, H>,
         k: u32,
-        place: Place,
     )
         requires bound { k < 64 }
-        requires here { slice_get self.old.places k ≡ Some place }
-        requires readable { place.readable ≡ true }
-        requires taken { IsOccupied place.stage }
-        requires may { WhereKnown H.HookHost tools.old.edge k (MayRead place) }
         ensures acts { LeadsToActs (promises N.Sockets C.Clocks J.Journal (keeping K.Keeper K.ImageKeeper.own) H.HookHost) (to_read k) (running self.old tools.old) (running self.new tools.new) }
         ensures due { self.new.due ≡ self.old.due }
-        ensures within { NobodyIsSilent self.old → NobodyIsSilent self.new }
     {
+        let place = self.place_at(k);
+        if !may_read(&tools.edge, place, k) {
+            return;
+        }
         let i = k as usize;
         let connection = ConnectionNo::new(k);
         match tools.sockets.read(k, &mut self.buffer) {
@@ -146,23 +139,6 @@ impl Service {
                 let stage = Stage::Broken(ConnectionFault::Read);
                 self.places[i] = Place { stage, ..place };
             }
-        }
-    }
-
-    /// Reads a connection once, where it may be read.
-    pub(crate) fn read<N: Sockets, C: Clocks, J: Journal, K: ImageKeeper, H: HookHost>(
-        &mut self,
-        tools: &mut Tools<N, C, J, K, H>,
-        k: u32,
-    )
-        requires bound { k < 64 }
-        ensures acts { LeadsToActs (promises N.Sockets C.Clocks J.Journal (keeping K.Keeper K.ImageKeeper.own) H.HookHost) (to_read k) (running self.old tools.old) (running self.new tools.new) }
-        ensures due { self.new.due ≡ self.old.due }
-        ensures within { NobodyIsSilent self.old → NobodyIsSilent self.new }
-    {
-        let place = self.place_at(k);
-        if may_read(&tools.edge, place, k) {
-            self.read_once(tools, k, place);
         }
     }
 }

@@ -1,6 +1,4 @@
 //! What is told of a server while it runs.
-ghost use Rattle.std.specs.Prelude.{◌≡◌, None};
-
 use consent::Moment;
 use endpoints::Tally;
 
@@ -51,16 +49,4 @@ pub struct LastTold {
     pub(crate) report: u64,
     /// That the store was full.
     pub(crate) full: Option<u64>,
-}
-
-impl LastTold {
-    /// Nothing was told yet, since this steady second.
-    pub(crate) fn nothing(began: u64) -> LastTold
-        ensures { result ≡ record { report = began; full = None } }
-    {
-        LastTold {
-            report: began,
-            full: None,
-        }
-    }
 }

@@ -1,9 +1,7 @@
 //! Rounds.
 ghost use Rattle.std.specs.Prelude.{◌≡◌, ◌≤◌, length, true, false, OnOk, IfErr};
 ghost use Rattle.event_loop.specs.Places.{AllFree};
-ghost use Rattle.event_loop.specs.Goes.{IsBusy, IsLimit, MayRest, LeadsRound, LeadsWrong, running};
-ghost use Rattle.event_loop.specs.LoopStates.{promises};
-ghost use Rattle.endpoints.specs.Keeping.{keeping};
+ghost use Rattle.event_loop.specs.Goes.{IsBusy, IsLimit, MayRest, LeadsRound, LeadsWrong, running, keeping, promises};
 
 use crate::clocks::{Clocks, Second};
 use crate::fault::LoopFault;
@@ -12,10 +10,8 @@ use crate::limits::PLACES;
 use crate::queue::Queue;
 use crate::service::Service;
 use crate::sockets::{Ready, Sockets};
-use crate::tools::{Journal, Tools};
+use crate::tools::{HookHost, ImageKeeper, Journal, Tools};
 use change_codec::Keeper;
-use endpoints::ImageKeeper;
-use hook_host::HookHost;
 
 // In milliseconds.
 const SECOND: u64 = 1000;

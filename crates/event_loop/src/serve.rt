@@ -1,16 +1,12 @@
 //! Serving connections.
 ghost use Rattle.event_loop.specs.Ends.{RunEnds};
-ghost use Rattle.event_loop.specs.Goes.{LeadsWrong, running};
-ghost use Rattle.event_loop.specs.LoopStates.{promises};
-ghost use Rattle.endpoints.specs.Keeping.{keeping};
+ghost use Rattle.event_loop.specs.Goes.{LeadsWrong, running, keeping, promises};
 
 use crate::fault::LoopFault;
 use crate::limits::Limits;
 use crate::service::Service;
 use crate::sockets::{Ready, Sockets};
-use crate::tools::{Clocks, Journal, Tools};
-use endpoints::ImageKeeper;
-use hook_host::HookHost;
+use crate::tools::{Clocks, HookHost, ImageKeeper, Journal, Tools};
 
 impl Service {
     // Makes round after round.

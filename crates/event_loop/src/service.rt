@@ -64,7 +64,10 @@ impl Service {
             began: steady,
             accepted: 0,
             full: 0,
-            told: LastTold::nothing(steady),
+            told: LastTold {
+                report: steady,
+                full: None,
+            },
             refused: None,
         }
     }

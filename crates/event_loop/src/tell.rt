@@ -1,18 +1,14 @@
 //! Telling what the server does.
 ghost use Rattle.std.specs.Prelude.{◌≡◌, Some, IsSome};
-ghost use Rattle.event_loop.specs.Goes.{IsReported, LeadsLast, OnlyTells, running, SettlesAll, TellsNow};
+ghost use Rattle.event_loop.specs.Goes.{IsReported, LeadsLast, OnlyTells, running, SettlesAll, TellsNow, keeping, promises};
 ghost use Rattle.event_loop.specs.Places.{open_count};
 ghost use Rattle.event_loop.specs.Reporting.{is_long_ago};
-ghost use Rattle.event_loop.specs.LoopStates.{promises};
-ghost use Rattle.endpoints.specs.Keeping.{keeping};
 
 use crate::limits::{MINUTE, PLACES};
 use crate::report::{Notice, Report};
 use crate::service::Service;
-use crate::tools::{Clocks, Journal, Sockets, Tools};
+use crate::tools::{Clocks, HookHost, ImageKeeper, Journal, Sockets, Tools};
 use change_codec::Keeper;
-use endpoints::ImageKeeper;
-use hook_host::HookHost;
 
 /// Whether that was never, or so many seconds ago.
 pub(crate) fn is_long_ago(last: Option<u64>, now: u64, seconds: u64) -> bool

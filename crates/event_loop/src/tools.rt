@@ -2,6 +2,8 @@
 pub use crate::clocks::Clocks;
 pub use crate::journal::Journal;
 pub use crate::sockets::Sockets;
+pub use endpoints::ImageKeeper;
+pub use hook_host::HookHost;
 use http_edge::Edge;
 use rand_chacha::ChaCha20Rng;
 

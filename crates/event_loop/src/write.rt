@@ -1,17 +1,12 @@
 //! Writing output.
 ghost use Rattle.std.specs.Prelude.{◌≡◌, ◌<◌};
-ghost use Rattle.event_loop.specs.Calls.{Writing};
-ghost use Rattle.event_loop.specs.Goes.{NobodyIsSilent, LeadsToActs, running, to_write};
-ghost use Rattle.event_loop.specs.LoopStates.{promises};
-ghost use Rattle.endpoints.specs.Keeping.{keeping};
+ghost use Rattle.event_loop.specs.Goes.{LeadsToActs, running, to_write, keeping, promises};
 
 use crate::fault::ConnectionFault;
 use crate::place::{Place, Stage};
 use crate::service::Service;
 use crate::sockets::{Sent, Sockets};
-use crate::tools::{Clocks, Journal, Tools};
-use endpoints::ImageKeeper;
-use hook_host::HookHost;
+use crate::tools::{Clocks, HookHost, ImageKeeper, Journal, Tools};
 use http_edge::ConnectionNo;
 
 impl Service {
@@ -24,7 +19,6 @@ impl Service {
         requires bound { k < 64 }
         ensures acts { LeadsToActs (promises N.Sockets C.Clocks J.Journal (keeping K.Keeper K.ImageKeeper.own) H.HookHost) (to_write k) (running self.old tools.old) (running self.new tools.new) }
         ensures due { self.new.due ≡ self.old.due }
-        ensures within { NobodyIsSilent self.old → NobodyIsSilent self.new }
     {
         let i = k as usize;
         let place = self.place_at(k);

@@ -1,14 +1,14 @@
-use Rattle.std.proofs.Common.{◌∷◌, [], refl}
-use Rattle.event_loop.specs.Calls as call
+use Rattle.std.proofs.Common.{arith, inr, ◌∷◌, [], refl}
 use Rattle.http_edge.specs.Schedule.{Kept}
 use Rattle.http_edge.specs.Reached.{led_on}
+use Rattle.event_loop.specs.LoopStates.{promises}
 use Rattle.event_loop.specs.Served.{goes, keeps}
 use Rattle.event_loop.specs.Ends.{not_kept}
-use Rattle.event_loop.specs.LoopStates.{promises}
 use Rattle.endpoints.specs.Keeping.{keeping}
+use Rattle.event_loop.specs.Calls as call
 use Rattle.event_loop.proofs.Answering.{served_answered}
-use Rattle.event_loop.proofs.Doing.{none_more, kept_more, not_another}
-use Rattle.event_loop.proofs.Kept.{none_unkept, nothing_unkept, something_unkept, unkept_happened, kept_connections, all_kept_now, not_empty}
+use Rattle.event_loop.proofs.Doing.{none_more, not_another}
+use Rattle.event_loop.proofs.Kept.{none_unkept, nothing_unkept, something_unkept, kept_connections, all_kept_now, not_empty}
 use Rattle.event_loop.proofs.keep.keep_all.Goals as goal
 
 pub returns-in_default-clause-kept : goal.returns-in_default-clause-kept
@@ -17,7 +17,7 @@ returns-in_default-clause-kept g c = λ first found service past undone h.
     record {
       next = past;
       served = h;
-      kept = none_unkept past.journey.world (c.in_default.ensures.unkept past.journey reached);
+      kept = none_unkept past.journey.world.kept past.journey.world.history (c.in_default.ensures.unkept past.journey reached);
       connections = refl;
       done = none_more past.calls;
       alone = λ other differs not. not;
@@ -30,7 +30,7 @@ returns-then-is_empty-clause-kept g c = λ first found service past undone h.
     record {
       next = past;
       served = h;
-      kept = nothing_unkept past.journey.world batch.facts (c.is_empty.ensures.0 c.if-is_empty.true) (c.in-Some.ensures.unkept past.journey reached);
+      kept = nothing_unkept batch.facts past.journey.world.kept past.journey.world.history (c.is_empty.ensures.0 c.if-is_empty.true) (c.in-Some.ensures.unkept past.journey reached);
       connections = refl;
       done = none_more past.calls;
       alone = λ other differs not. not;
@@ -43,7 +43,7 @@ returns-in_default-keep-clause-lost g c = λ first found service past undone h.
     let some = not_empty _ facts c.is_empty.ensures c.if-is_empty.false in
     let noted = c.in-Some.ensures.unkept past.journey reached in
     let unkept = something_unkept past.journey.world facts some noted in
-    not_kept c.keep.new.self unkept undone (c.in_default-keep.ensures.lost unkept.kept past.journey.world.history (unkept_happened past.journey.world facts some noted)) c.keep.ensures.meanwhile
+    not_kept c.keep.new.self unkept.0 undone (c.in_default-keep.ensures.lost unkept.0.kept past.journey.world.history unkept.1) c.keep.ensures.meanwhile
 
 pub returns-clause-kept : goal.returns-clause-kept
 returns-clause-kept g c = λ first found service past undone h.
@@ -55,9 +55,9 @@ returns-clause-kept g c = λ first found service past undone h.
     let on = c.forget_unkept.ensures.kept past.journey reached in
     record {
       next = record { calls = call.Kept ∷ past.calls; journey = led_on past.journey (Kept ∷ []) on.world };
-      served = goes h (keeps c.keep.new.self c.forget_unkept.new.self unkept on undone (c.in-Ok.ensures.kept unkept.kept past.journey.world.history (unkept_happened past.journey.world facts some noted)) c.in-Ok.ensures.basis);
+      served = goes h (keeps c.keep.new.self c.forget_unkept.new.self unkept.0 on undone (c.in-Ok.ensures.kept unkept.0.kept past.journey.world.history unkept.1) c.in-Ok.ensures.basis);
       kept = all_kept_now past.journey.world on.world on.happens;
       connections = kept_connections past.journey.world on.world on.happens;
-      done = kept_more past.calls;
+      done = record { waits = refl; grows = omega arith; keeps = λ kind t. inr t };
       alone = λ other differs not. not_another call.Keeping other past.calls differs not;
     }

@@ -1,21 +1,19 @@
 use Rattle.std.proofs.Common.{[], None, Some, ap, inl, inr, refl, sym, subst, ◌∙◌, ℕ, ◌≡◌}
+use Rattle.change_codec.specs.Keeping.{TellsBasis}
 use Rattle.event_loop.specs.declared.clocks.Times.{Times}
-use Rattle.event_loop.specs.declared.report.LastTold.{LastTold}
-use Rattle.event_loop.specs.declared.queue.Queue.TheVariants.{Told, Empty, Barred}
 use Rattle.event_loop.specs.Places.{IsOccupied}
 use Rattle.event_loop.specs.Closing.{AreWithin}
 use Rattle.event_loop.specs.LoopStates.{LoopState, promises}
-use Rattle.endpoints.specs.Keeping.{keeping}
 use Rattle.event_loop.specs.Served.{IsFirst, begins, stops}
-use Rattle.event_loop.specs.Durable.{Onward}
-use Rattle.change_codec.specs.Keeping.{TellsBasis}
 use Rattle.event_loop.specs.Goes.{Past, IsReadyToWait, running, state_of}
+use Rattle.event_loop.specs.declared.queue.Queue.TheVariants.{Told, Empty, Barred}
+use Rattle.event_loop.specs.Durable.{Onward}
+use Rattle.event_loop.specs.declared.report.LastTold.{LastTold}
+use Rattle.endpoints.specs.Keeping.{keeping}
 use Rattle.event_loop.proofs.Answering.{served_answered}
-use Rattle.event_loop.proofs.Done.{done_to_end}
 use Rattle.event_loop.proofs.Resting.{free_rests}
 use Rattle.event_loop.proofs.Leading.{rested_settled}
-use Rattle.event_loop.proofs.Fronts.{leaves_between, leaves_to_end, onward_carries, step_writes}
-use Rattle.event_loop.proofs.Leaving.{fails_reached}
+use Rattle.event_loop.proofs.Fronts.{end_did, fails_does, leaves_between, leaves_to_end, onward_carries, step_does}
 use Rattle.event_loop.proofs.Moments.{basis_to_end, moment_stays, onward_basis, served_moment}
 use Rattle.event_loop.proofs.serve.serve_all.Goals as goal
 
@@ -38,7 +36,7 @@ returns g c = λ journey reached.
     let wrong = c.rounds-fault.ensures first past (begins is_first) ready in
     let failed = state_of (running c.rounds-fault.new.self c.rounds-fault.new.tools) wrong.found wrong.next in
     let last_reached = (served_answered p first wrong.last wrong.served).reached in
-    let shut = c.leave_all.ensures.shut failed wrong.found wrong.next stops (fails_reached p wrong.last failed _ wrong.fails last_reached) in
+    let shut = c.leave_all.ensures.shut failed wrong.found wrong.next stops ((fails_does p wrong.last failed _ wrong.fails).reached last_reached) in
     let told = c.tell_last.ensures wrong.found shut.next in
     let emptied : LoopState g.row.N.Denot g.row.C.Denot g.row.J.Denot g.row.K.Denot g.row.H.Denot = state_of (running c.leave_all.new.self c.leave_all.new.tools) wrong.found shut.next in
     let end : LoopState g.row.N.Denot g.row.C.Denot g.row.J.Denot g.row.K.Denot g.row.H.Denot = state_of (running c.leave_all.new.self c.tell_last.new.tools) wrong.found shut.next in
@@ -54,7 +52,7 @@ returns g c = λ journey reached.
       last = wrong.last;
       served = wrong.served;
       answered = λ s. served_answered p first s;
-      kept = λ s s' served. step_writes p s s';
+      kept = λ s s' served step. (step_does p s s' step).kept;
       durable = λ held s s' served on before is. leaves_between p g.met.K.Keeper.only_now first held s before served is s' on;
       carries = λ s s'. onward_carries p first s s';
       basis = λ s s' served. onward_basis p s s';
@@ -66,7 +64,7 @@ returns g c = λ journey reached.
       shuts = shut.shuts;
       end = end;
       tells_last = told;
-      done = done_to_end p first wrong.last failed emptied end c.rounds-fault.result wrong.served wrong.fails shut.shuts told;
+      done = end_did p first wrong.last failed emptied end c.rounds-fault.result wrong.served wrong.fails shut.shuts told;
       durable_then = λ held s served on before is. leaves_to_end p g.met.K.Keeper.only_now first held s before served is wrong.last failed emptied end c.rounds-fault.result on wrong.fails shut.shuts told;
       basis_then = λ s served. to_end s;
       moment_stays_then = λ s served on. moment_stays p g.met.K.Keeper.only_now first s end served (to_end s on);

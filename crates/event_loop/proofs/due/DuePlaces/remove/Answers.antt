@@ -1,7 +1,6 @@
-use Rattle.std.proofs.Common.{◌≡◌, ◌<◌, ◌-◌, arith, false, inl, inr, length, refl, rules, subst, sym, Some, ap, ◌∙◌}
-use Rattle.std.proofs.lemmas.Bool.Decides.{eqb_tells}
+use Rattle.std.proofs.Common.{◌≡◌, ◌<◌, ◌-◌, arith, false, inl, inr, length, refl, rules, subst, sym, Some, ap, ◌∙◌, slice_get}
 use Rattle.std.proofs.lemmas.Option.{slice_get-get_or}
-use Rattle.std.specs.Prelude.{slice_get}
+use Rattle.std.proofs.lemmas.Bool.Decides.{eqb_tells}
 use Rattle.event_loop.proofs.Putting.{put_more}
 use Rattle.event_loop.proofs.due.DuePlaces.remove.Goals as goal
 

@@ -1,5 +1,4 @@
-use Rattle.std.proofs.Common.{◌≡◌, ◌≤◌, ◌<◌, ℕ, false, Some}
-use Rattle.std.specs.Prelude.{slice_get}
+use Rattle.std.proofs.Common.{◌≡◌, ◌≤◌, ◌<◌, ℕ, false, Some, slice_get}
 use Rattle.event_loop.proofs.due.DuePlaces.remove.Given as goal
 
 abbrev pub invariant-loop-self : goal.invariant-loop-self

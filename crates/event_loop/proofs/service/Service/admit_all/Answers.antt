@@ -1,7 +1,12 @@
-use Rattle.std.proofs.Common.{◌∙◌, refl, arith}
+use Rattle.std.proofs.Common.{◌∙◌, ◌∷◌, inl, inr, refl, arith}
 use Rattle.event_loop.specs.LoopStates.{promises}
+use Rattle.event_loop.specs.Coming.{asks}
+use Rattle.event_loop.specs.Served.{goes, comes}
 use Rattle.endpoints.specs.Keeping.{keeping}
+use Rattle.event_loop.specs.Calls as call
+use Rattle.event_loop.proofs.Doing.{done_then, one_more}
 use Rattle.event_loop.proofs.Leading.{nowhere, accepts_then}
+use Rattle.event_loop.proofs.Resting.{settled_then}
 use Rattle.event_loop.proofs.service.Service.admit_all.Goals as goal
 
 pub loop-nth-init : goal.loop-nth-init
@@ -19,11 +24,11 @@ loop-nth-init g c = record {
 pub loop-nth-preserved : goal.loop-nth-preserved
 loop-nth-preserved g c = record {
   leads = λ found first past h settled.
-      accepts_then (promises g.N.Sockets g.C.Clocks g.J.Journal (keeping g.K.Keeper g.K.ImageKeeper) g.H.HookHost) _ _ _ _ _ _ c.loop-nth.invariant.leads c.admit_next.ensures.leads found first past h settled;
-  within = λ limit all. c.admit_next.ensures.within limit (c.loop-nth.invariant.within limit all);
-  waits = λ waits. absurd (c.admit_next.ensures.waits waits);
-  tried = λ tried. c.admit_next.ensures.tried;
-  limits = c.admit_next.ensures.limits ∙ c.loop-nth.invariant.limits;
+      accepts_then (promises g.N.Sockets g.C.Clocks g.J.Journal (keeping g.K.Keeper g.K.ImageKeeper) g.H.HookHost) _ _ _ _ _ _ c.loop-nth.invariant.leads c.admit.ensures.leads found first past h settled;
+  within = λ limit all. c.admit.ensures.within limit (c.loop-nth.invariant.within limit all);
+  waits = λ waits. absurd (c.admit.ensures.waits waits);
+  tried = λ tried. c.admit.ensures.tried;
+  limits = c.admit.ensures.limits ∙ c.loop-nth.invariant.limits;
 }
 
 pub returns-clause-leads : goal.returns-clause-leads
@@ -36,3 +41,16 @@ pub returns-in_default-clause-leads : goal.returns-in_default-clause-leads
 returns-in_default-clause-leads g c = λ found first past h settled.
     let all = c.loop-nth.invariant.leads found first past h settled in
     record { goes = all.goes; tried = λ told. elim (c.in_default.not-Told told) [ ] }
+
+pub returns-in_default-free_place-clause-leads : goal.returns-in_default-free_place-clause-leads
+returns-in_default-free_place-clause-leads g c = λ found first past h settled.
+    let all = c.loop-nth.invariant.leads found first past h settled in
+    record {
+      goes = record {
+        next = record all.goes.next { calls = call.Asked ∷ all.goes.next.calls };
+        served = goes all.goes.served (comes _ c.in-Told.is (asks c.ask.new.self c.in_default-free_place.ensures.none c.ask.ensures));
+        settled = settled_then c.loop-nth.self all.goes.next _ _ refl refl refl (one_more _ _ refl refl (λ kind t. inr t)) all.goes.settled;
+        done = done_then _ _ _ all.goes.done (one_more _ _ refl refl (λ kind t. inr t));
+      };
+      tried = λ told. inl refl;
+    }

@@ -1,8 +1,8 @@
 use Rattle.std.proofs.Common.{ℕ, ◌<◌, ◌≡◌}
-use Rattle.event_loop.specs.declared.queue.Queue.TheVariants.{Waits}
 use Rattle.event_loop.specs.Closing.{AreWithin}
-use Rattle.event_loop.specs.Goes.{IsTried, LeadsToAccepts, running}
 use Rattle.event_loop.specs.LoopStates.{promises}
+use Rattle.event_loop.specs.Goes.{IsTried, LeadsToAccepts, running}
+use Rattle.event_loop.specs.declared.queue.Queue.TheVariants.{Waits}
 use Rattle.endpoints.specs.Keeping.{keeping}
 use Rattle.event_loop.proofs.service.Service.admit_all.Given as goal
 

@@ -1,8 +1,8 @@
 use Rattle.std.proofs.Common.{◌+◌, arith, subst, drop, add-one, drop-cons, ◌∷◌, ◌≡◌, List}
 use Rattle.std.proofs.lemmas.List.{drop_all}
+use Rattle.event_loop.specs.LoopStates.{promises}
 use Rattle.event_loop.specs.declared.sockets.Ready.{Ready}
 use Rattle.event_loop.specs.Goes.{LeadsToHearing, running}
-use Rattle.event_loop.specs.LoopStates.{promises}
 use Rattle.endpoints.specs.Keeping.{keeping}
 use Rattle.event_loop.proofs.service.Service.hear_all.Goals as goal
 

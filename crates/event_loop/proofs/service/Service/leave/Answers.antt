@@ -1,9 +1,9 @@
 use Rattle.std.proofs.Common.{◌∷◌, []}
+use Rattle.event_loop.specs.Closing.{leaves}
 use Rattle.http_edge.specs.Schedule.{Forgotten}
-use Rattle.event_loop.specs.Calls as call
 use Rattle.http_edge.specs.Reached.{led_on}
 use Rattle.event_loop.specs.Goes.{noted_in}
-use Rattle.event_loop.specs.Closing.{leaves}
+use Rattle.event_loop.specs.Calls as call
 use Rattle.event_loop.proofs.service.Service.leave.Goals as goal
 
 pub returns-clause-away : goal.returns-clause-away

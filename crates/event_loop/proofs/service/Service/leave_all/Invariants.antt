@@ -1,7 +1,7 @@
 use Rattle.std.proofs.Common.{ℕ, ◌<◌, ◌≡◌, length}
 use Rattle.event_loop.specs.Places.{IsFreeAt}
-use Rattle.event_loop.specs.Goes.{LeadsShut, running}
 use Rattle.event_loop.specs.LoopStates.{promises}
+use Rattle.event_loop.specs.Goes.{LeadsShut, running}
 use Rattle.endpoints.specs.Keeping.{keeping}
 use Rattle.event_loop.proofs.service.Service.leave_all.Given as goal
 

@@ -1,22 +1,22 @@
 use Rattle.std.proofs.Common.{◌≡◌, ◌-◌, ap, sym, subst, ◌∙◌, arith, ◌<◌}
 use Rattle.event_loop.specs.declared.place.Place.{Place}
-use Rattle.event_loop.specs.declared.service.Service.{Service}
 use Rattle.event_loop.specs.Places.{IsOccupied}
-use Rattle.std.specs.Prelude.{slice_set}
-use Rattle.event_loop.specs.declared.place.Stage.TheVariants.{Free}
-use Rattle.event_loop.specs.declared.queue.Queue.TheVariants.{Told, Waits}
 use Rattle.event_loop.specs.Closing.{AreWithin, IsSilentLongest, gives_way, freed_queue}
+use Rattle.std.proofs.lemmas.Option.{same_Some}
 use Rattle.event_loop.specs.LoopStates.{promises}
+use Rattle.event_loop.specs.declared.place.Stage.TheVariants.{Free}
+use Rattle.event_loop.specs.declared.service.Service.{Service}
+use Rattle.event_loop.specs.declared.queue.Queue.TheVariants.{Told, Waits}
 use Rattle.endpoints.specs.Keeping.{keeping}
 use Rattle.event_loop.proofs.Leaving.{leaves_to}
-use Rattle.event_loop.proofs.Putting.{same_some, put_within}
+use Rattle.event_loop.proofs.Putting.{put_within}
 use Rattle.event_loop.proofs.service.Service.make_room.Goals as goal
 
 pub returns-clause-leads : goal.returns-clause-leads
 returns-clause-leads g c =
     let place = c.place_at-place.result in
     let longest = c.in-Some.ensures.longest.1 in
-    let same : longest.place ≡ place = same_some longest.place place (sym longest.here ∙ c.place_at-place.ensures) in
+    let same : longest.place ≡ place = same_Some longest.place place (sym longest.here ∙ c.place_at-place.ensures) in
     let taken : IsOccupied place.stage = subst (λ (q : Place). IsOccupied q.stage) same longest.taken in
     let is_longest : IsSilentLongest c.args.self.now.places place = subst (λ q. IsSilentLongest c.args.self.now.places q) same longest.longest in
     let long : c.args.self.now.limits.crowded < c.args.self.now.times.steady - place.since = omega (arith, c.saturating_sub.ensures, c.if-saturating_sub-self.false) in
@@ -26,7 +26,7 @@ returns-clause-leads g c =
 pub returns-then-saturating_sub-self-clause-crowded : goal.returns-then-saturating_sub-self-clause-crowded
 returns-then-saturating_sub-self-clause-crowded g c = λ waits j other here taken.
     let longest = c.in-Some.ensures.longest.1 in
-    let same : longest.place ≡ c.place_at-place.result = same_some longest.place c.place_at-place.result (sym longest.here ∙ c.place_at-place.ensures) in
+    let same : longest.place ≡ c.place_at-place.result = same_Some longest.place c.place_at-place.result (sym longest.here ∙ c.place_at-place.ensures) in
     let is_longest : IsSilentLongest c.args.self.now.places c.place_at-place.result = subst (λ q. IsSilentLongest c.args.self.now.places q) same longest.longest in
     let least = is_longest j other here taken in
     omega (arith, least, c.saturating_sub.ensures, c.if-saturating_sub-self.true)
@@ -39,10 +39,8 @@ returns-in_default-silent_longest-clause-crowded g c = λ waits. c.in_default-si
 
 pub returns-clause-within : goal.returns-clause-within
 returns-clause-within g c = λ limit all.
-    let put : c.leave.new.self.places ≡ slice_set c.args.self.now.places c.in-Some.k (record c.place_at-place.result { stage = Free }) = ap (λ (s : Service). s.places) c.leave.ensures.rest in
-    let times : c.leave.new.self.times ≡ c.args.self.now.times = ap (λ (s : Service). s.times) c.leave.ensures.rest in
-    let within = put_within limit c.args.self.now.times c.args.self.now.places c.in-Some.k (record c.place_at-place.result { stage = Free }) (λ taken. absurd taken) all in
-    subst (λ t. AreWithin limit t c.leave.new.self.places) (sym times) (subst (λ places. AreWithin limit c.args.self.now.times places) (sym put) within)
+    subst (λ (s : Service). AreWithin limit s.times s.places) (sym c.leave.ensures.rest)
+    (put_within limit c.args.self.now.times c.args.self.now.places c.in-Some.k (record c.place_at-place.result { stage = Free }) (λ taken. absurd taken) all)
 
 pub returns-clause-crowded : goal.returns-clause-crowded
 returns-clause-crowded g c = λ waits.

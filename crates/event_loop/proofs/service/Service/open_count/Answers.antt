@@ -1,5 +1,4 @@
-use Rattle.std.proofs.Common.{rules, ap, refl, arith, length, ◌≡◌, ◌+◌, ◌∙◌, sym}
-use Rattle.std.proofs.lemmas.List.{take_all}
+use Rattle.std.proofs.Common.{rules, ap, refl, arith, length, ◌≡◌, ◌+◌, ◌∙◌, sym, take_all}
 use Rattle.event_loop.specs.Places.{open_count}
 use Rattle.event_loop.proofs.Putting.{none_open, one_open}
 use Rattle.event_loop.proofs.service.Service.open_count.Goals as goal

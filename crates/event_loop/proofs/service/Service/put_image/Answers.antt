@@ -1,14 +1,12 @@
-use Rattle.std.proofs.Common.{rules, arith, ◌≡◌, ◌-◌, ◌∙◌, ℕ, true, false, Err, Some, sym, ap, subst}
-use Rattle.std.specs.Prelude.{nat_le}
-use Rattle.endpoints.specs.declared.image_keeper.ImageFault.{ImageFault}
-use Rattle.endpoints.specs.Server.{SeenServer, FitsServer}
+use Rattle.std.proofs.Common.{rules, arith, ◌≡◌, ◌-◌, ◌∙◌, ℕ, true, false, Err, Some, sym, ap, subst, nat_le}
+use Rattle.event_loop.specs.LoopStates.{promises}
 use Rattle.event_loop.specs.declared.service.Service.{Service}
-use Rattle.event_loop.specs.Ends.{not_imaged}
-use Rattle.event_loop.specs.Reporting.{is_long_ago}
-use Rattle.event_loop.specs.Goes.{running, state_of}
-use Rattle.event_loop.specs.LoopStates.{promises, IsAllKept}
 use Rattle.event_loop.specs.Served.{Served, goes, no_image, puts_image}
+use Rattle.event_loop.specs.Goes.{running, state_of}
+use Rattle.event_loop.specs.Ends.{not_imaged}
 use Rattle.endpoints.specs.Keeping.{keeping}
+use Rattle.event_loop.specs.Reporting.{is_long_ago}
+use Rattle.endpoints.specs.declared.image_keeper.ImageFault.{ImageFault}
 use Rattle.event_loop.proofs.Answering.{served_answered}
 use Rattle.event_loop.proofs.service.Service.put_image.Goals as goal
 
@@ -19,34 +17,26 @@ just_now n = ap (nat_le 60) (let none : n - n ≡ 0 = omega arith in none)
 pub returns-then-not-is_all_kept-clause-put : goal.returns-then-not-is_all_kept-clause-put
 returns-then-not-is_all_kept-clause-put g c = λ first found past h.
     let reached = (served_answered (promises g.N.Sockets g.C.Clocks g.J.Journal (keeping g.K.Keeper g.K.ImageKeeper) g.H.HookHost) first _ h).reached in
-    let none : c.is_all_kept.result ≡ false = search rules in
-    let unkept = c.is_all_kept.ensures.unkept none past.journey reached in
+    let unkept = c.is_all_kept.ensures.unkept (search rules) past.journey reached in
     (h, λ all long. absurd (unkept.more (all unkept.kept unkept.here)))
 
 pub returns-in_default-clause-put : goal.returns-in_default-clause-put
 returns-in_default-clause-put g c = λ first found past h.
     let reached = (served_answered (promises g.N.Sockets g.C.Clocks g.J.Journal (keeping g.K.Keeper g.K.ImageKeeper) g.H.HookHost) first _ h).reached in
-    let kept : c.is_all_kept.result ≡ true = search rules in
-    let all : IsAllKept past.journey.world = c.is_all_kept.ensures.kept kept past.journey reached in
-    let fits : FitsServer g.H.HookHost c.server.result.now past.journey.outset past.journey.world.history past.journey.world.greatest =
-    subst (λ (s : SeenServer g.row.H.Denot). FitsServer g.H.HookHost s past.journey.outset past.journey.world.history past.journey.world.greatest) (sym c.server.ensures) reached.server in
-    (goes h (puts_image c.put_image.new.self all (c.in_default.ensures.kept past.journey.outset past.journey.world.history past.journey.world.greatest fits) c.in_default.ensures.basis c.in_default.ensures.short), λ still long. absurd (c.in_default.ensures.short long))
+    let all = c.is_all_kept.ensures.kept (search rules) past.journey reached in
+    (goes h (puts_image c.put_image.new.self all (c.in_default.ensures.kept past.journey.outset past.journey.world.history past.journey.world.greatest (rw c.server.ensures reached.server)) c.in_default.ensures.basis c.in_default.ensures.short), λ still long. absurd (c.in_default.ensures.short long))
 
 pub returns-in-Failed-clause-failed : goal.returns-in-Failed-clause-failed
 returns-in-Failed-clause-failed g c = λ first found past h.
     let reached = (served_answered (promises g.N.Sockets g.C.Clocks g.J.Journal (keeping g.K.Keeper g.K.ImageKeeper) g.H.HookHost) first _ h).reached in
-    let kept : c.is_all_kept.result ≡ true = search rules in
-    let all : IsAllKept past.journey.world = c.is_all_kept.ensures.kept kept past.journey reached in
-    let fits : FitsServer g.H.HookHost c.server.result.now past.journey.outset past.journey.world.history past.journey.world.greatest =
-    subst (λ (s : SeenServer g.row.H.Denot). FitsServer g.H.HookHost s past.journey.outset past.journey.world.history past.journey.world.greatest) (sym c.server.ensures) reached.server in
-    not_imaged c.put_image.new.self all (c.in-Err.ensures.failed (ap (λ (fault : ImageFault). Err fault) c.in-Failed.is) past.journey.outset past.journey.world.history past.journey.world.greatest fits) c.put_image.ensures.meanwhile
+    let all = c.is_all_kept.ensures.kept (search rules) past.journey reached in
+    not_imaged c.put_image.new.self all (c.in-Err.ensures.failed (ap (λ (fault : ImageFault). Err fault) c.in-Failed.is) past.journey.outset past.journey.world.history past.journey.world.greatest (rw c.server.ensures reached.server)) c.put_image.ensures.meanwhile
 
 pub returns-in_default-fault-clause-put : goal.returns-in_default-fault-clause-put
 returns-in_default-fault-clause-put g c = λ first found past h.
     let p = promises g.N.Sockets g.C.Clocks g.J.Journal (keeping g.K.Keeper g.K.ImageKeeper) g.H.HookHost in
     let reached = (served_answered p first _ h).reached in
-    let kept : c.is_all_kept.result ≡ true = search rules in
-    let all : IsAllKept past.journey.world = c.is_all_kept.ensures.kept kept past.journey reached in
+    let all = c.is_all_kept.ensures.kept (search rules) past.journey reached in
     let ago : is_long_ago c.args.self.now.refused c.args.self.now.times.steady 60 ≡ true = sym c.is_long_ago.ensures ∙ c.if-not-is_long_ago.false in
     let long = c.in-Err.ensures.refused c.in_default-fault.not-Failed in
     let same = c.in-Err.ensures.same c.in_default-fault.not-Failed in

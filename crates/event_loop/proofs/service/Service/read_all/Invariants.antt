@@ -1,6 +1,6 @@
 use Rattle.std.proofs.Common.{◌≡◌}
-use Rattle.event_loop.specs.Goes.{NobodyIsSilent, LeadsReading, running}
 use Rattle.event_loop.specs.LoopStates.{promises}
+use Rattle.event_loop.specs.Goes.{LeadsReading, running}
 use Rattle.endpoints.specs.Keeping.{keeping}
 use Rattle.event_loop.proofs.service.Service.read_all.Given as goal
 
@@ -8,5 +8,4 @@ abbrev pub invariant-loop-k : goal.invariant-loop-k
 invariant-loop-k g l = record {
   due : l.self.due ≡ l.initial.self.due;
   reads : LeadsReading (promises g.N.Sockets g.C.Clocks g.J.Journal (keeping g.K.Keeper g.K.ImageKeeper) g.H.HookHost) l.k (running l.initial.self l.initial.tools) (running l.self l.tools);
-  within : NobodyIsSilent l.initial.self → NobodyIsSilent l.self;
 }

@@ -1,115 +1,94 @@
-use Rattle.std.proofs.Common.{rules, add-one, ap, ◌≤◌, ◌∷◌, take, arith, length, ◌≡◌, subst, sym, ◌∙◌, []}
-use Rattle.event_loop.specs.declared.limits.Limits.{Limits}
-use Rattle.event_loop.specs.declared.service.Service.{Service}
+use Rattle.std.proofs.Common.{rules, add-one, ap, ◌≤◌, ◌-◌, ◌∷◌, take, arith, length, ◌≡◌, subst, sym, ◌∙◌, []}
 use Rattle.event_loop.specs.Closing.{AreWithin}
-use Rattle.event_loop.specs.Calls as call
+use Rattle.event_loop.specs.LoopStates.{promises}
+use Rattle.event_loop.specs.declared.service.Service.{Service}
 use Rattle.event_loop.specs.Calls.{Accepting, IsDone}
 use Rattle.event_loop.specs.Served.{goes, waits}
-use Rattle.event_loop.specs.Ends.{no_wait, no_time, no_moment}
 use Rattle.event_loop.specs.Goes.{Past, running, state_of}
-use Rattle.event_loop.specs.LoopStates.{promises}
+use Rattle.event_loop.specs.Ends.{no_wait, no_time, no_moment}
 use Rattle.endpoints.specs.Keeping.{keeping}
+use Rattle.event_loop.specs.declared.limits.Limits.{Limits}
+use Rattle.event_loop.specs.Calls as call
 use Rattle.event_loop.proofs.Leading.{to_then, kept_then}
-use Rattle.event_loop.proofs.Leaving.{may_wait, quick_told, ready_still, told_or_not}
-use Rattle.event_loop.proofs.Putting.{steady_within}
+use Rattle.event_loop.proofs.Leaving.{may_wait, quick_told, told_or_not}
 use Rattle.event_loop.proofs.service.Service.round.Goals as goal
 
 pub returns-in_default-wait-clause-wrong : goal.returns-in_default-wait-clause-wrong
 returns-in_default-wait-clause-wrong g c = λ first past begun was_ready.
-    let put = c.in_default.ensures.put first [] past begun in
-    let h = put.0 in
-    let ready = ready_still c.args.self.now past c.put_image.new.self c.in_default.ensures.same was_ready in
-    let before : length c.args.self.now.places ≡ 64 = search rules in
-    let size : length c.put_image.new.self.places ≡ 64 = ap (λ (s : Service). length s.places) c.in_default.ensures.same ∙ before in
+    let size : length c.args.self.now.places ≡ 64 = search rules in
     let room : 65 ≤ length c.wait.new.found = search (rules, arith, c.requires.room) in
+    let may = may_wait (promises g.N.Sockets g.C.Clocks g.J.Journal (keeping g.K.Keeper g.K.ImageKeeper) g.H.HookHost) c.args.self.now c.put_image.new.self c.args.tools.now c.put_image.new.tools c.wait_limit-limit.result (length c.wait.new.found) size c.in_default.ensures.same c.wait_limit-limit.ensures room c.in_default.ensures.put first past begun was_ready in
     record {
       last = state_of (running c.put_image.new.self c.put_image.new.tools) [] past;
-      served = h;
+      served = may.0;
       found = [];
       next = record past { calls = call.WaitFailed c.wait_limit-limit.result (length c.wait.new.found) ∷ past.calls };
-      fails = no_wait c.wait_limit-limit.result (length c.wait.new.found) c.wait.new.self (may_wait (promises g.N.Sockets g.C.Clocks g.J.Journal (keeping g.K.Keeper g.K.ImageKeeper) g.H.HookHost) c.put_image.new.self c.put_image.new.tools past _ _ size ready c.wait_limit-limit.ensures room put.1) c.in_default-wait.ensures.done;
+      fails = no_wait c.wait_limit-limit.result (length c.wait.new.found) c.wait.new.self may.1.1 c.in_default-wait.ensures.done;
     }
 
 pub returns-in_default-read-clause-wrong : goal.returns-in_default-read-clause-wrong
 returns-in_default-read-clause-wrong g c = λ first past begun was_ready.
-    let put = c.in_default.ensures.put first [] past begun in
-    let h = put.0 in
-    let ready = ready_still c.args.self.now past c.put_image.new.self c.in_default.ensures.same was_ready in
     let heard = take c.in-Some.count c.wait.new.found in
-    let before : length c.args.self.now.places ≡ 64 = search rules in
-    let size : length c.put_image.new.self.places ≡ 64 = ap (λ (s : Service). length s.places) c.in_default.ensures.same ∙ before in
+    let size : length c.args.self.now.places ≡ 64 = search rules in
     let room : 65 ≤ length c.wait.new.found = search (rules, arith, c.requires.room) in
-    let may = may_wait (promises g.N.Sockets g.C.Clocks g.J.Journal (keeping g.K.Keeper g.K.ImageKeeper) g.H.HookHost) c.put_image.new.self c.put_image.new.tools past c.wait_limit-limit.result (length c.wait.new.found) size ready c.wait_limit-limit.ensures room put.1 in
+    let may = may_wait (promises g.N.Sockets g.C.Clocks g.J.Journal (keeping g.K.Keeper g.K.ImageKeeper) g.H.HookHost) c.args.self.now c.put_image.new.self c.args.tools.now c.put_image.new.tools c.wait_limit-limit.result (length c.wait.new.found) size c.in_default.ensures.same c.wait_limit-limit.ensures room c.in_default.ensures.put first past begun was_ready in
     record {
       last = state_of (running c.put_image.new.self c.put_image.new.tools) [] past;
-      served = h;
+      served = may.0;
       found = heard;
       next = record past { calls = call.Waited c.wait_limit-limit.result (length c.wait.new.found) heard ∷ past.calls };
-      fails = no_time c.wait_limit-limit.result (length c.wait.new.found) heard c.wait.new.self c.read.new.self may c.in-Some.ensures.done c.in_default-read.ensures;
+      fails = no_time c.wait_limit-limit.result (length c.wait.new.found) heard c.wait.new.self c.read.new.self may.1.1 c.in-Some.ensures.done c.in_default-read.ensures;
     }
 
 pub returns-in_default-keep_moment-clause-wrong : goal.returns-in_default-keep_moment-clause-wrong
 returns-in_default-keep_moment-clause-wrong g c = λ first past begun was_ready.
-    let put = c.in_default.ensures.put first [] past begun in
-    let h = put.0 in
-    let ready = ready_still c.args.self.now past c.put_image.new.self c.in_default.ensures.same was_ready in
     let heard = take c.in-Some.count c.wait.new.found in
-    let before : length c.args.self.now.places ≡ 64 = search rules in
-    let size : length c.put_image.new.self.places ≡ 64 = ap (λ (s : Service). length s.places) c.in_default.ensures.same ∙ before in
+    let size : length c.args.self.now.places ≡ 64 = search rules in
     let room : 65 ≤ length c.wait.new.found = search (rules, arith, c.requires.room) in
-    let may = may_wait (promises g.N.Sockets g.C.Clocks g.J.Journal (keeping g.K.Keeper g.K.ImageKeeper) g.H.HookHost) c.put_image.new.self c.put_image.new.tools past c.wait_limit-limit.result (length c.wait.new.found) size ready c.wait_limit-limit.ensures room put.1 in
+    let may = may_wait (promises g.N.Sockets g.C.Clocks g.J.Journal (keeping g.K.Keeper g.K.ImageKeeper) g.H.HookHost) c.args.self.now c.put_image.new.self c.args.tools.now c.put_image.new.tools c.wait_limit-limit.result (length c.wait.new.found) size c.in_default.ensures.same c.wait_limit-limit.ensures room c.in_default.ensures.put first past begun was_ready in
     record {
       last = state_of (running c.put_image.new.self c.put_image.new.tools) [] past;
-      served = h;
+      served = may.0;
       found = heard;
       next = record past { calls = call.Waited c.wait_limit-limit.result (length c.wait.new.found) heard ∷ past.calls };
-      fails = no_moment c.wait_limit-limit.result (length c.wait.new.found) heard c.wait.new.self c.in-Some-read.times c.read.new.self c.keep_moment.new.self may c.in-Some.ensures.done c.in-Some-read.ensures c.in_default-keep_moment.ensures.lost c.keep_moment.ensures.meanwhile;
+      fails = no_moment c.wait_limit-limit.result (length c.wait.new.found) heard c.wait.new.self c.in-Some-read.times c.read.new.self c.keep_moment.new.self may.1.1 c.in-Some.ensures.done c.in-Some-read.ensures c.in_default-keep_moment.ensures.lost c.keep_moment.ensures.meanwhile;
     }
 
 pub returns-in-Err-keep_all-clause-wrong : goal.returns-in-Err-keep_all-clause-wrong
 returns-in-Err-keep_all-clause-wrong g c = λ first past begun was_ready.
-    let put = c.in_default.ensures.put first [] past begun in
-    let h = put.0 in
-    let ready = ready_still c.args.self.now past c.put_image.new.self c.in_default.ensures.same was_ready in
     let heard = take c.in-Some.count c.wait.new.found in
-    let before : length c.args.self.now.places ≡ 64 = search rules in
-    let size : length c.put_image.new.self.places ≡ 64 = ap (λ (s : Service). length s.places) c.in_default.ensures.same ∙ before in
+    let size : length c.args.self.now.places ≡ 64 = search rules in
     let room : 65 ≤ length c.wait.new.found = search (rules, arith, c.requires.room) in
-    let may = may_wait (promises g.N.Sockets g.C.Clocks g.J.Journal (keeping g.K.Keeper g.K.ImageKeeper) g.H.HookHost) c.put_image.new.self c.put_image.new.tools past c.wait_limit-limit.result (length c.wait.new.found) size ready c.wait_limit-limit.ensures room put.1 in
-    let waited = goes h (waits c.wait_limit-limit.result (length c.wait.new.found) heard c.wait.new.self c.in-Some-read.times c.read.new.self c.keep_moment.new.self may c.in-Some.ensures.done c.in-Some-read.ensures (record { holds = c.in-Ok.ensures.kept; basis = c.in-Ok.ensures.basis; told = c.in-Ok.ensures.told })) in
+    let may = may_wait (promises g.N.Sockets g.C.Clocks g.J.Journal (keeping g.K.Keeper g.K.ImageKeeper) g.H.HookHost) c.args.self.now c.put_image.new.self c.args.tools.now c.put_image.new.tools c.wait_limit-limit.result (length c.wait.new.found) size c.in_default.ensures.same c.wait_limit-limit.ensures room c.in_default.ensures.put first past begun was_ready in
+    let waited = goes may.0 (waits c.wait_limit-limit.result (length c.wait.new.found) heard c.wait.new.self c.in-Some-read.times c.read.new.self c.keep_moment.new.self may.1.1 c.in-Some.ensures.done c.in-Some-read.ensures (record { holds = c.in-Ok.ensures.kept; basis = c.in-Ok.ensures.basis; told = c.in-Ok.ensures.told })) in
     let since : Past g.row.H.Denot = record past { calls = call.Waited c.wait_limit-limit.result (length c.wait.new.found) heard ∷ past.calls } in
-    let told = c.hear_all.ensures.hears first since waited (λ k less. (ready.settled k less).rested) in
-    let read = c.read_all.ensures.reads first [] since (λ kind is. is) told.1 told.0 in
+    let told = c.hear_all.ensures.hears first since waited (λ k less. (may.1.0.settled k less).rested) in
+    let read = c.read_all.ensures first [] since (λ kind is. is) told.1 told.0 in
     record {
-      last = state_of (running c.read_all.new.self c.read_all.new.tools) [] read.next;
-      served = read.served;
+      last = state_of (running c.read_all.new.self c.read_all.new.tools) [] read.on.next;
+      served = read.on.served;
       found = [];
-      next = read.next;
-      fails = c.in-Err-keep_all.ensures.lost first [] c.read_all.new.self read.next read.not_kept read.served;
+      next = read.on.next;
+      fails = c.in-Err-keep_all.ensures.lost first [] c.read_all.new.self read.on.next read.not_kept read.on.served;
     }
 
 pub returns-clause-goes : goal.returns-clause-goes
 returns-clause-goes g c = λ first past begun was_ready.
-    let put = c.in_default.ensures.put first [] past begun in
-    let h = put.0 in
-    let ready = ready_still c.args.self.now past c.put_image.new.self c.in_default.ensures.same was_ready in
     let p = promises g.N.Sockets g.C.Clocks g.J.Journal (keeping g.K.Keeper g.K.ImageKeeper) g.H.HookHost in
     let heard = take c.in-Some.count c.wait.new.found in
-    let before : length c.args.self.now.places ≡ 64 = search rules in
-    let size : length c.put_image.new.self.places ≡ 64 = ap (λ (s : Service). length s.places) c.in_default.ensures.same ∙ before in
+    let size : length c.args.self.now.places ≡ 64 = search rules in
     let room : 65 ≤ length c.wait.new.found = search (rules, arith, c.requires.room) in
-    let may = may_wait (promises g.N.Sockets g.C.Clocks g.J.Journal (keeping g.K.Keeper g.K.ImageKeeper) g.H.HookHost) c.put_image.new.self c.put_image.new.tools past c.wait_limit-limit.result (length c.wait.new.found) size ready c.wait_limit-limit.ensures room put.1 in
-    let waited = goes h (waits c.wait_limit-limit.result (length c.wait.new.found) heard c.wait.new.self c.in-Some-read.times c.read.new.self c.keep_moment.new.self may c.in-Some.ensures.done c.in-Some-read.ensures (record { holds = c.in-Ok.ensures.kept; basis = c.in-Ok.ensures.basis; told = c.in-Ok.ensures.told })) in
+    let may = may_wait (promises g.N.Sockets g.C.Clocks g.J.Journal (keeping g.K.Keeper g.K.ImageKeeper) g.H.HookHost) c.args.self.now c.put_image.new.self c.args.tools.now c.put_image.new.tools c.wait_limit-limit.result (length c.wait.new.found) size c.in_default.ensures.same c.wait_limit-limit.ensures room c.in_default.ensures.put first past begun was_ready in
+    let waited = goes may.0 (waits c.wait_limit-limit.result (length c.wait.new.found) heard c.wait.new.self c.in-Some-read.times c.read.new.self c.keep_moment.new.self may.1.1 c.in-Some.ensures.done c.in-Some-read.ensures (record { holds = c.in-Ok.ensures.kept; basis = c.in-Ok.ensures.basis; told = c.in-Ok.ensures.told })) in
     let since : Past g.row.H.Denot = record past { calls = call.Waited c.wait_limit-limit.result (length c.wait.new.found) heard ∷ past.calls } in
-    let told = c.hear_all.ensures.hears first since waited (λ k less. (ready.settled k less).rested) in
-    let read = c.read_all.ensures.reads first [] since (λ kind is. is) told.1 told.0 in
-    let written = kept_then p first [] since _ c.read_all.new.self c.write_all.new.self _ c.read_all.new.tools c.keep_all.new.tools c.write_all.new.tools read c.in_default-keep_all.ensures.kept c.write_all.ensures.writes in
-    let on = to_then p [] [] [] _ _ _ _ _ _ (c.tidy.ensures.leads []) (c.make_room.ensures.leads []) first written.next written.served written.below in
+    let told = c.hear_all.ensures.hears first since waited (λ k less. (may.1.0.settled k less).rested) in
+    let read = c.read_all.ensures first [] since (λ kind is. is) told.1 told.0 in
+    let written = kept_then p first [] since _ c.read_all.new.self c.write_all.new.self _ c.read_all.new.tools c.keep_all.new.tools c.write_all.new.tools read c.in_default-keep_all.ensures.kept c.write_all.ensures in
+    let on = to_then p [] [] [] _ _ _ _ _ _ (c.tidy.ensures.leads []) (c.make_room.ensures.leads []) first written.on.next written.on.served written.below in
     let admitted = c.admit_all.ensures.leads [] first on.next on.served on.settled in
     let last = c.tell.ensures.leads [] first admitted.goes.next admitted.goes.served admitted.goes.settled in
     let queue : c.tell.new.self.queue ≡ c.admit_all.new.self.queue = ap (λ (s : Service). s.queue) c.tell.ensures.rest in
-    let since_then = steady_within c.put_image.new.self.limits.idle c.put_image.new.self.times c.in-Some-read.times c.put_image.new.self.places in
-    let idle = c.tidy.ensures.within (λ same. c.write_all.ensures.within (c.read_all.ensures.within (c.hear_all.ensures.within (since_then (c.of-second.ensures same) ready.quick.idle)))) in
+    let idle = c.tidy.ensures.within (λ same. written.on.within (c.hear_all.ensures.within (λ k place here taken. subst (λ now. now - place.since ≤ c.put_image.new.self.limits.idle) (sym (c.of-second.ensures same)) (may.1.0.quick.idle k place here taken)))) in
     record {
       next = last.next;
       served = last.served;
@@ -125,7 +104,7 @@ returns-clause-goes g c = λ first past begun was_ready.
             (c.admit_all.ensures.within _ (c.make_room.ensures.crowded (c.admit_all.ensures.waits waits))))
             (c.admit_all.ensures.tried (c.make_room.ensures.tried c.tidy.ensures.tried)) c.tell.ensures.reported;
       };
-      waits_are = last.done.waits ∙ admitted.goes.done.waits ∙ on.done.waits ∙ written.done.waits ∙ sym (add-one (call.waits past.calls));
+      waits_are = last.done.waits ∙ admitted.goes.done.waits ∙ on.done.waits ∙ written.on.done.waits ∙ sym (add-one (call.waits past.calls));
     }
 
 pub returns-in-Err-clause-wrong : goal.returns-in-Err-clause-wrong

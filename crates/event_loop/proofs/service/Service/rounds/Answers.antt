@@ -1,21 +1,21 @@
 use Rattle.std.proofs.Common.{[], arith}
-use Rattle.event_loop.specs.Ends.{no_more}
 use Rattle.event_loop.specs.Goes.{running, state_of}
-use Rattle.event_loop.specs.LoopStates.{promises}
-use Rattle.endpoints.specs.Keeping.{keeping}
-use Rattle.event_loop.proofs.Leading.{no_round, round_then, then_wrong}
+use Rattle.event_loop.specs.Ends.{no_more}
 use Rattle.event_loop.proofs.service.Service.rounds.Goals as goal
 
 pub loop-nth-init : goal.loop-nth-init
-loop-nth-init g c = no_round (promises g.N.Sockets g.C.Clocks g.J.Journal (keeping g.K.Keeper g.K.ImageKeeper) g.H.HookHost) _ _
+loop-nth-init g c = λ first past h ready. record { next = past; served = h; ready = ready; waits_are = omega arith }
 
 pub returns-in-Err : goal.returns-in-Err
-returns-in-Err g c =
-    then_wrong (promises g.N.Sockets g.C.Clocks g.J.Journal (keeping g.K.Keeper g.K.ImageKeeper) g.H.HookHost) c.in-Err.fault c.loop-nth._nth c.args.self.now c.loop-nth.self c.round.new.self c.args.tools.now c.loop-nth.tools c.round.new.tools c.loop-nth.invariant c.in-Err.ensures.wrong
+returns-in-Err g c = λ first past h ready.
+    let all = c.loop-nth.invariant first past h ready in
+    c.in-Err.ensures.wrong first all.next all.served all.ready
 
 pub loop-nth-preserved : goal.loop-nth-preserved
-loop-nth-preserved g c =
-    round_then (promises g.N.Sockets g.C.Clocks g.J.Journal (keeping g.K.Keeper g.K.ImageKeeper) g.H.HookHost) c.loop-nth._nth 1 c.args.self.now c.loop-nth.self c.round.new.self c.args.tools.now c.loop-nth.tools c.round.new.tools c.loop-nth.invariant c.in_default.ensures.goes
+loop-nth-preserved g c = λ first past h ready.
+    let all = c.loop-nth.invariant first past h ready in
+    let one = c.in_default.ensures.goes first all.next all.served all.ready in
+    record { next = one.next; served = one.served; ready = one.ready; waits_are = omega (arith, all.waits_are, one.waits_are) }
 
 pub returns : goal.returns
 returns g c = λ first past h ready.

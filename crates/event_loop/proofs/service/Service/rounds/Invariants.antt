@@ -1,5 +1,5 @@
-use Rattle.event_loop.specs.Goes.{LeadsRound, running}
 use Rattle.event_loop.specs.LoopStates.{promises}
+use Rattle.event_loop.specs.Goes.{LeadsRound, running}
 use Rattle.endpoints.specs.Keeping.{keeping}
 use Rattle.event_loop.proofs.service.Service.rounds.Given as goal
 

@@ -1,18 +1,17 @@
-use Rattle.std.proofs.Common.{◌≡◌, true, false, length, refl, ap, sym, ◌∙◌}
-use Rattle.std.specs.Prelude.{slice_get, slice_set}
+use Rattle.std.proofs.Common.{subst, ◌≡◌, true, false, length, refl, ap, sym, ◌∙◌, slice_get, slice_set}
+use Rattle.event_loop.specs.Places.{IsOver}
 use Rattle.http_edge.specs.Schedule.{connection_at}
+use Rattle.event_loop.specs.LoopStates.{promises}
 use Rattle.event_loop.specs.declared.place.Stage.TheVariants.{Free}
 use Rattle.event_loop.specs.declared.service.Service.{Service}
-use Rattle.event_loop.specs.Places.{IsOver}
-use Rattle.event_loop.specs.Closing as closing
 use Rattle.event_loop.specs.Served.{goes, closes}
-use Rattle.event_loop.specs.LoopStates.{promises}
+use Rattle.event_loop.specs.Goes.{NobodyIsSilent}
 use Rattle.endpoints.specs.Keeping.{keeping}
+use Rattle.event_loop.specs.Closing as closing
 use Rattle.event_loop.proofs.Answering.{served_answered}
 use Rattle.event_loop.proofs.Doing.{closes_done, closes_some, closes_alone}
 use Rattle.event_loop.proofs.Leading.{closes_other, closes_kept}
-use Rattle.event_loop.proofs.Leaving.{frees_within}
-use Rattle.event_loop.proofs.Putting.{set_other}
+use Rattle.event_loop.proofs.Putting.{put_within, set_other}
 use Rattle.event_loop.proofs.Resting.{put_others, put_settled, free_rests, stays_tidy, not_due, not_rested, told_as}
 use Rattle.event_loop.proofs.service.Service.settle.Goals as goal
 
@@ -29,9 +28,12 @@ returns-in-Close-clause-tidies g c = λ first found past h.
     let settled = put_settled k c.args.self.now c.leave.new.self (record place { stage = Free }) away.next places (free_rests _ _ refl) (λ e. closes_some p k place _ _ away.closes) in
     record {
       goes = record {
-        next = away.next;
-        done = closes_done p k place _ _ away.closes;
-        served = goes h (closes k place _ c.place_at-place.ensures (c.due.ensures.taken c.in-Close.is) (closing.is_over over) away.closes);
+        on = record {
+          next = away.next;
+          served = goes h (closes k place _ c.place_at-place.ensures (c.due.ensures.taken c.in-Close.is) (closing.is_over over) away.closes);
+          done = closes_done p k place _ _ away.closes;
+          within = λ all. subst NobodyIsSilent (sym c.leave.ensures.rest) (put_within c.args.self.now.limits.idle c.args.self.now.times c.args.self.now.places k (record place { stage = Free }) (λ taken. absurd taken) all);
+        };
         others =
             put_others k c.args.self.now c.leave.new.self (record place { stage = Free }) past.journey.world away.next.journey.world places
             (λ j other. ap (λ l. slice_get l j) due ∙ set_other c.args.self.now.due k j false other) (closes_other p k place _ _ away.closes);
@@ -62,6 +64,3 @@ returns-in-Rest-clause-tidies g c = λ first found past h.
     let rests = c.in-Rest.ensures.due (connection_at past.journey.world.connections k) (told_as (length c.output-output.result.now) c.closing-closing.result c.output-output.result.now (connection_at past.journey.world.connections k) refl (rw c.new-connection.ensures at (c.output-output.ensures.output past.journey reached)) (rw c.new-connection.ensures at (c.closing-closing.ensures past.journey reached))) in
     rw c.remove-in-Rest.ensures (stays_tidy p first found k c.args.self.now c.args.tools.now past c.place_at-place.result (slice_set due k false) c.place_at-place.ensures
     rests.goes_on (λ j other. set_other due k j false other) (λ none. rests) (λ e. absurd (not_due due k e)) h)
-
-pub returns-in-Close-clause-within : goal.returns-in-Close-clause-within
-returns-in-Close-clause-within g c = frees_within c.args.k c.place_at-place.result (record c.args.self.now { due = c.remove.new.self }) c.leave.new.self c.leave.ensures.rest

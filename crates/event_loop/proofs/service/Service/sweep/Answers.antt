@@ -1,37 +1,60 @@
-use Rattle.std.proofs.Common.{rules, ◌≡◌, ◌≤◌, ◌-◌, ◌∙◌, Some, length, refl, sym, subst, inl, inr, arith}
-use Rattle.std.specs.Prelude.{slice_get}
-use Rattle.std.proofs.lemmas.Bool.Decides.{eqb_tells}
-use Rattle.std.proofs.lemmas.Option.{slice_get_within}
-use Rattle.event_loop.specs.declared.clocks.Times.{Times}
-use Rattle.event_loop.specs.declared.limits.Limits.{Limits}
+use Rattle.std.proofs.Common.{rules, ◌≡◌, ◌≤◌, ◌<◌, ◌-◌, ◌+◌, ◌∙◌, ℕ, length, ap, refl, sym, subst, inl, inr, arith, length-set}
+use Rattle.event_loop.specs.declared.place.Place.{Place}
+use Rattle.event_loop.specs.Places.{IsOccupied}
+use Rattle.event_loop.specs.Closing.{is_silent}
+use Rattle.std.proofs.lemmas.Option.{same_Some, slice_get_within}
 use Rattle.event_loop.specs.LoopStates.{promises}
+use Rattle.event_loop.specs.declared.place.Stage.TheVariants.{Free}
+use Rattle.event_loop.specs.declared.service.Service.{Service}
+use Rattle.event_loop.specs.Goes.{IsInTime}
+use borrow.Author.Count.{below_more}
 use Rattle.endpoints.specs.Keeping.{keeping}
 use Rattle.event_loop.proofs.Leading.{nowhere, to_then}
+use Rattle.event_loop.proofs.Leaving.{leaves_to}
+use Rattle.event_loop.proofs.Putting.{set_cases}
 use Rattle.event_loop.proofs.service.Service.sweep.Goals as goal
 
 pub loop-k-init : goal.loop-k-init
 loop-k-init g c = record {
   leads = λ found. nowhere (promises g.N.Sockets g.C.Clocks g.J.Journal (keeping g.K.Keeper g.K.ImageKeeper) g.H.HookHost) found _ _;
-  below = λ j place less. absurd (omega (arith, less));
+  below = λ j less. absurd (omega (arith, less));
   size = refl;
+}
+
+pub loop-k-preserved-then-not-is_taken : goal.loop-k-preserved-then-not-is_taken
+loop-k-preserved-then-not-is_taken g c = record {
+  leads = c.loop-k.invariant.leads;
+  below = below_more (IsInTime c.loop-k.self) c.loop-k.k c.loop-k.invariant.below (λ place here taken.
+      let free : place.stage ≡ Free = ap (λ (q : Place). q.stage) (same_Some place c.place_at-place.result (sym here ∙ c.place_at-place.ensures)) ∙ c.is_taken.ensures.free c.if-not-is_taken.true in
+      absurd (subst IsOccupied free taken));
+  size = c.loop-k.invariant.size;
+}
+
+pub loop-k-preserved-then-saturating_sub-self : goal.loop-k-preserved-then-saturating_sub-self
+loop-k-preserved-then-saturating_sub-self g c = record {
+  leads = c.loop-k.invariant.leads;
+  below = below_more (IsInTime c.loop-k.self) c.loop-k.k c.loop-k.invariant.below (λ place here taken.
+      let same : c.place_at-place.result ≡ place = same_Some c.place_at-place.result place (sym c.place_at-place.ensures ∙ here) in
+      subst (λ (q : Place). c.loop-k.self.times.steady - q.since ≤ c.loop-k.self.limits.idle) same (omega (arith, c.saturating_sub.ensures, c.if-saturating_sub-self.true)));
+  size = c.loop-k.invariant.size;
 }
 
 pub loop-k-preserved : goal.loop-k-preserved
 loop-k-preserved g c =
-    let before = c.loop-k.invariant in
-    let k = c.loop-k.k in
+    let p = promises g.N.Sockets g.C.Clocks g.J.Journal (keeping g.K.Keeper g.K.ImageKeeper) g.H.HookHost in
+    let place = c.place_at-place.result in
+    let long : c.loop-k.self.limits.idle < c.loop-k.self.times.steady - place.since = omega (arith, c.saturating_sub.ensures, c.if-saturating_sub-self.false) in
     record {
       leads = λ found.
-          to_then (promises g.N.Sockets g.C.Clocks g.J.Journal (keeping g.K.Keeper g.K.ImageKeeper) g.H.HookHost) found found found c.args.self.now c.loop-k.self c.leave_silent.new.self c.args.tools.now c.loop-k.tools c.leave_silent.new.tools
-          (before.leads found) (c.leave_silent.ensures.leads found);
-      below = λ j place less here taken.
-          let told : c.loop-k.self.times.steady - place.since ≤ c.loop-k.self.limits.idle = elim (eqb_tells j k) [
-            | inl is ↦ c.leave_silent.ensures.within place (subst (λ i. slice_get c.leave_silent.new.self.places i ≡ Some place) is.1 here) taken
-            | inr is ↦ (let other = is.1 in before.below j place (omega (arith, less, other)) (sym (c.leave_silent.ensures.others j other) ∙ here) taken)
-          ] in
-          let limited = subst (λ (l : Limits). c.loop-k.self.times.steady - place.since ≤ l.idle) (sym c.leave_silent.ensures.limits) told in
-          subst (λ (t : Times). t.steady - place.since ≤ c.leave_silent.new.self.limits.idle) (sym c.leave_silent.ensures.times) limited;
-      size = c.leave_silent.ensures.size ∙ before.size;
+          to_then p found found found c.args.self.now c.loop-k.self c.leave.new.self c.args.tools.now c.loop-k.tools c.leave.new.tools (c.loop-k.invariant.leads found)
+          (leaves_to p c.loop-k.k place c.loop-k.self c.loop-k.tools c.leave.new.self c.leave.new.tools c.place_at-place.ensures (c.is_taken.ensures.taken c.if-not-is_taken.false) (λ found past. is_silent long) c.leave.ensures.away
+          (ap (λ (s : Service). s.places) c.leave.ensures.rest) (ap (λ (s : Service). s.due) c.leave.ensures.rest) found);
+      below = subst (λ (s : Service). (j : ℕ) → j < c.loop-k.k + 1 → IsInTime s j) (sym c.leave.ensures.rest)
+          (λ j less other here taken. elim (set_cases c.loop-k.self.places c.loop-k.k j (record place { stage = Free }) other here) [
+            | inl is ↦ absurd (subst (λ (q : Place). IsOccupied q.stage) is.1 taken)
+            | inr is ↦ (let differs = is.0 in c.loop-k.invariant.below j (omega (arith, less, differs)) other is.1 taken)
+          ]);
+      size = ap (λ (s : Service). length s.places) c.leave.ensures.rest ∙ length-set c.loop-k.self.places c.loop-k.k (record place { stage = Free }) ∙ c.loop-k.invariant.size;
     }
 
 pub returns-clause-leads : goal.returns-clause-leads
@@ -42,7 +65,7 @@ returns-clause-within g c = λ was j place here taken.
     let size : length c.args.self.now.places ≡ 64 = search rules in
     let same = c.loop-k.invariant.size in
     let within = slice_get_within c.loop-k.self.places j place here in
-    c.loop-k.invariant.below j place (omega (arith, size, same, within, c.loop-k-test.false)) here taken
+    c.loop-k.invariant.below j (omega (arith, size, same, within, c.loop-k-test.false)) place here taken
 
 pub returns-in-Same-clause-leads : goal.returns-in-Same-clause-leads
 returns-in-Same-clause-leads g c = λ found. nowhere (promises g.N.Sockets g.C.Clocks g.J.Journal (keeping g.K.Keeper g.K.ImageKeeper) g.H.HookHost) found _ _

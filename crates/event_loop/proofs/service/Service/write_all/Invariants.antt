@@ -1,7 +1,6 @@
-use Rattle.std.proofs.Common.{◌≡◌, ◌≤◌, ◌<◌, ℕ, Some, false}
-use Rattle.std.specs.Prelude.{slice_get}
-use Rattle.event_loop.specs.Goes.{NobodyIsSilent, LeadsWriting, running}
+use Rattle.std.proofs.Common.{◌≡◌, ◌≤◌, ◌<◌, ℕ, Some, false, slice_get}
 use Rattle.event_loop.specs.LoopStates.{promises}
+use Rattle.event_loop.specs.Goes.{LeadsWriting, running}
 use Rattle.endpoints.specs.Keeping.{keeping}
 use Rattle.event_loop.proofs.service.Service.write_all.Given as goal
 
@@ -9,5 +8,4 @@ abbrev pub invariant-loop-k : goal.invariant-loop-k
 invariant-loop-k g l = record {
   due : (j : ℕ) → l.k-end ≤ j → j < 64 → slice_get l.self.due j ≡ Some false;
   writes : LeadsWriting (promises g.N.Sockets g.C.Clocks g.J.Journal (keeping g.K.Keeper g.K.ImageKeeper) g.H.HookHost) l.k (running l.initial.self l.initial.tools) (running l.self l.tools);
-  within : NobodyIsSilent l.initial.self → NobodyIsSilent l.self;
 }
