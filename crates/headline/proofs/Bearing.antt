@@ -1,16 +1,17 @@
--- What happens is borne by credentials and keys.
-use Rattle.std.proofs.Common.{◌≡◌, ◌≢◌, ℕ, suc, List, [], ◌∷◌, Bool, true, false, Option, Some, None, cond, length, refl, sym, ap, ◌∙◌, arith, subst}
-use Rattle.std.specs.Prelude.{◌==◌, All, Contains, find, option_and_then}
+-- What happens, and the end of each family, is borne by credentials and keys.
+use Rattle.std.proofs.Common.{◌≡◌, ◌≢◌, ℕ, suc, List, [], ◌∷◌, Bool, true, false, Option, Some, None, cond, length, refl, sym, ap, ◌∙◌, arith, subst, ◌⊎◌, inl, inr, ◌++◌, append-nil}
+use Rattle.std.specs.Prelude.{All, Contains, find, ◌||◌, not}
 use Rattle.std.specs.Option.{option_map_or}
-use Rattle.std.proofs.lemmas.Bool.{and_parts, eqb-true, false≢true}
-use Rattle.std.proofs.lemmas.List.Elements.{All-nil, All-cons, All-contains, All-weaker}
+use Rattle.std.proofs.lemmas.Bool.{false≢true, and_parts, not-true}
+use Rattle.std.proofs.lemmas.Bool.Decides.{nat_tests}
+use Rattle.std.proofs.lemmas.List.Elements.{All-nil, All-cons, All-contains, All-weaker, All-head}
 use Rattle.std.proofs.lemmas.List.Sums.{AllPass-from_list_all}
 use Rattle.clients.specs.RegistryRecord.{RegistryRecord}
 use Rattle.clients.specs.Registry.{is_operator_key}
 use Rattle.clients.specs.Owners.{owner_with}
 use Rattle.authentication.specs.Authentication.{authenticated}
-use Rattle.consent.specs.History.{Event, Change, Grant, grant_at, grants, is_named, is_of, opener, IsHistory}
-use Rattle.consent.specs.History.Change.{Consented, CodeGiven, Issued, Spent, FamilyEnded, HookSet, HookGone}
+use Rattle.consent.specs.History.{Event, Change, Grant, grant_at, grants, is_named, is_of, opener, IsHistory, event_at, Terms, code_terms, ends, has_ended, is_beyond, with_change, with_changes}
+use Rattle.consent.specs.History.Change.{CodeGiven, Issued, Spent, FamilyEnded, Consented}
 use Rattle.consent.specs.HistoryLaws.{opener-fresh}
 use Rattle.messages.specs.Asked.{Asked}
 use Rattle.answers.specs.FoundLaws.{under_digest}
@@ -18,13 +19,16 @@ use Rattle.answers.specs.Outcomes.{Extent, Outcome}
 use Rattle.answers.specs.Requesters.{form_of, owner_of_key}
 use Rattle.answers.specs.Setting.{Setting}
 use Rattle.endpoints.specs.HookPaths.{is_operator}
-use Rattle.headline.specs.Authority.{IsAuthorized, IsAllAuthorized, LeavesAlone, IsIsolated}
+use Rattle.token_endpoint.specs.Grants.{access_issued, refresh_issued}
+use Rattle.std.specs.List.{list_all}
+use Rattle.consent.specs.Growth.{may_end}
+use Rattle.consent.specs.GrowthLaws.{has_ended-push, has_ended-push_other, with_changes-cons}
+use Rattle.headline.specs.Authority.{IsAuthorized, IsAllAuthorized, LeavesAlone, IsIsolated, EndsWithAuthority}
 use Rattle.headline.specs.Bearers.{BearsCredentials, BearsOwnerKey, BearsOperatorKey}
 use Rattle.headline.specs.Occasions.{Occasion, outcome_of, setting_on}
 use Rattle.headline.proofs.Spending.{live_is}
-use Rattle.headline.proofs.Walking.{same_some}
-use Rattle.token_endpoint.specs.Grants.{access_issued, refresh_issued}
-use Rattle.headline.proofs.Ways.{IsOfHooks, Sender, at_each, both_issued, number_in, one_issued}
+use Rattle.headline.proofs.Walking.{same_some, through}
+use Rattle.headline.proofs.Ways.{Sender, Way, ByToken, Coded, Consents, Revokes, Installs, Removes, Again, InVain, Once, Twice, Refreshed, Own, at_each, both_issued, number_in, one_issued, outcome_by, Quiet, Turned, Tells, Refused, Wanting}
 
 -- what is found is in the list
 pub find_contains : {X : Type 0} (p : X → Bool) (xs : List X) (x : X) → find p xs ≡ Some x → Contains xs x
@@ -47,11 +51,7 @@ module _ (history : List Event) (m : ℕ) (is : IsHistory history m) where
       (AllPass-from_list_all (λ (x : Grant). is_of x.client x.owner (opener history x.family)) (grants history) is.kin) at
 
   one_client : (c d o p : ℕ) (x : Option Grant) → is_of c o x ≡ true → is_of d p x ≡ true → d ≡ c
-  one_client c d o p None a b = absurd (false≢true a)
-  one_client c d o p (Some g) a b =
-      let first = and_parts (g.client == c) (g.owner == o) a in
-      let second = and_parts (g.client == d) (g.owner == p) b in
-      sym (eqb-true g.client d second.0) ∙ eqb-true g.client c first.0
+  one_client c d o p x a b = grind (arith, nat_tests, a, b)
 
   family_of : (g : Grant) → Contains (grants history) g → IsFamilyOf history g.family g.client
   family_of g at x in_history same =
@@ -85,18 +85,11 @@ module _ (history : List Event) (m : ℕ) (is : IsHistory history m) where
     credentials : (sender : Sender rules asked) → BearsCredentials rules asked sender.known.number
     credentials sender = (sender.params, record { form = sender.form; authentic = sender.authenticates })
 
-    of_grant : (sender : Sender rules asked) (g : Grant) → g.client ≡ sender.known.number → BearsCredentials rules asked g.client
-    of_grant sender g own = subst (λ n. BearsCredentials rules asked n) (sym own) (credentials sender)
-
     there : (digest : List ℕ) (g : Grant) → grant_at history digest occasion.arrival.moment ≡ Some g → Contains (grants history) g
     there digest g at = find_contains (is_named digest occasion.arrival.moment) (grants history) g at
 
     owner_key : (owner : ℕ) → owner_of_key rules asked ≡ Some owner → BearsOwnerKey rules asked owner
-    owner_key owner e = by_key asked.owner_key refl e
-      where
-        by_key : (o : Option (List ℕ)) → asked.owner_key ≡ o → option_and_then (λ key. owner_with key rules.owners) o ≡ Some owner → BearsOwnerKey rules asked owner
-        by_key None is h = absurd (cc)
-        by_key (Some key) is h = (key, is, h)
+    owner_key owner e = through (λ key. owner_with key rules.owners) asked.owner_key owner e
 
     operator_key : is_operator rules asked ≡ true → BearsOperatorKey rules asked
     operator_key e = by_key asked.operator_key refl e
@@ -105,63 +98,45 @@ module _ (history : List Event) (m : ℕ) (is : IsHistory history m) where
         by_key None is h = absurd (false≢true h)
         by_key (Some key) is h = (key, is, h)
 
-    -- a token in the family of what is used, and its use
-    issued : (sender : Sender rules asked) (digest : List ℕ) (g : Grant) → grant_at history digest occasion.arrival.moment ≡ Some g → g.client ≡ sender.known.number →
-        BearsCredentials rules asked g.client × IsFamilyOf history g.family g.client
-    issued sender digest g at own = (of_grant sender g own, family_of g (there digest g at))
+    -- of what a sender uses: tokens in its family, its use, and its family's end
+    module _ (sender : Sender rules asked) (digest : List ℕ) (g : Grant) (at : grant_at history digest occasion.arrival.moment ≡ Some g) (own : g.client ≡ sender.known.number) where
+      borne : BearsCredentials rules asked g.client
+      borne = subst (λ n. BearsCredentials rules asked n) (sym own) (credentials sender)
 
-    spent : (sender : Sender rules asked) (digest : List ℕ) (g : Grant) → grant_at history digest occasion.arrival.moment ≡ Some g → g.client ≡ sender.known.number →
-        Right (Spent g.digest)
-    spent sender digest g at own =
-        (g, ap (λ d. grant_at history d occasion.arrival.moment) (sym (under_digest history digest occasion.arrival.moment g at)) ∙ at, of_grant sender g own)
+      issued : BearsCredentials rules asked g.client × IsFamilyOf history g.family g.client
+      issued = (borne, family_of g (there digest g at))
 
-    ended : (sender : Sender rules asked) (digest : List ℕ) (g : Grant) → grant_at history digest occasion.arrival.moment ≡ Some g → g.client ≡ sender.known.number →
-        Right (FamilyEnded g.family)
-    ended sender digest g at own = (g, there digest g at, refl, of_grant sender g own)
+      spent : Right (Spent g.digest)
+      spent = (g, ap (λ d. grant_at history d occasion.arrival.moment) (sym (under_digest history digest occasion.arrival.moment g at)) ∙ at, borne)
 
-    -- tokens for what is used, and its use
-    once : (sender : Sender rules asked) (digest : List ℕ) (g : Grant) → grant_at history digest occasion.arrival.moment ≡ Some g → g.client ≡ sender.known.number →
-        (left : Extent) → P (one_issued s g left)
-    once sender digest g at own left =
-        All-cons Right (access_issued g s.draws.first left) (Spent g.digest ∷ []) (issued sender digest g at own) (one (Spent g.digest) (spent sender digest g at own))
+      ended : Right (FamilyEnded g.family)
+      ended = (g, there digest g at, refl, borne)
 
-    twice : (sender : Sender rules asked) (digest : List ℕ) (g : Grant) → grant_at history digest occasion.arrival.moment ≡ Some g → g.client ≡ sender.known.number →
-        (left : Extent) (kept : ℕ) → P (both_issued s g left kept)
-    twice sender digest g at own left kept =
-        let more : Change = refresh_issued g s.draws.second (record { scope = kept; life = s.rules.refresh_life }) in
-        All-cons Right (access_issued g s.draws.first left) (more ∷ Spent g.digest ∷ []) (issued sender digest g at own)
-        (All-cons Right more (Spent g.digest ∷ []) (issued sender digest g at own) (one (Spent g.digest) (spent sender digest g at own)))
+      once : (left : Extent) → P (one_issued s g left)
+      once left = All-cons Right (access_issued g s.draws.first left) (Spent g.digest ∷ []) issued (one (Spent g.digest) spent)
 
-    of_hooks : (change : Change) → IsOfHooks change → BearsOperatorKey rules asked → Right change
-    of_hooks (HookSet name version code) of key = key
-    of_hooks (HookGone name) of key = key
-    of_hooks (Consented owner client mask) of key = absurd of
-    of_hooks (CodeGiven family code digest) of key = absurd of
-    of_hooks (Issued family parties token) of key = absurd of
-    of_hooks (Spent digest) of key = absurd of
-    of_hooks (FamilyEnded family) of key = absurd of
+      twice : (left : Extent) (kept : ℕ) → P (both_issued s g left kept)
+      twice left kept =
+          let more : Change = refresh_issued g s.draws.second (record { scope = kept; life = s.rules.refresh_life }) in
+          All-cons Right (access_issued g s.draws.first left) (more ∷ Spent g.digest ∷ []) issued
+          (All-cons Right more (Spent g.digest ∷ []) issued (one (Spent g.digest) spent))
+
+    by_way : (way : Way s asked) → P (outcome_by way)
+    by_way (ByToken (Again type name test x _)) = one _ (ended x.sender x.digest x.grant x.named x.own)
+    by_way (ByToken (InVain x error)) = one _ (spent x.code.sender x.code.digest x.code.grant x.code.named x.code.own)
+    by_way (ByToken (Once x left is untaken)) = once x.code.sender x.code.digest x.code.grant x.code.named x.code.own left
+    by_way (ByToken (Twice x left is untaken)) = twice x.code.sender x.code.digest x.code.grant x.code.named x.code.own left left.scope
+    by_way (ByToken (Refreshed x left is untaken)) = twice x.token.sender x.token.digest x.token.grant x.token.named x.token.own left x.token.grant.scope
+    by_way (ByToken (Own sender typed scope left is untaken)) = one _ (credentials sender, λ g at same. absurd (none_new g at (sym same)))
+    by_way (Coded x code key of) = one _ (owner_key code.owner key, refl)
+    by_way (Consents owner client mask key) = one _ (owner_key owner key)
+    by_way (Revokes x own) = one _ (ended x.sender x.digest x.token (live_is history x.digest occasion.arrival.moment x.token x.live).0 own)
+    by_way (Installs name version code operator) = one _ (operator_key operator)
+    by_way (Removes name operator) = one _ (operator_key operator)
+    by_way _ = nothing
 
     pub authorized : IsAllAuthorized rules history occasion
-    authorized = at_each P rules history occasion (record {
-      quiet = λ status body _ _. nothing;
-      token = record {
-        refused = λ error. nothing;
-        wanting = nothing;
-        code_again = λ x _. one _ (ended x.sender x.digest x.grant x.named x.own);
-        refresh_again = λ x _. one _ (ended x.sender x.digest x.grant x.named x.own);
-        in_vain = λ x error. one _ (spent x.code.sender x.code.digest x.code.grant x.code.named x.code.own);
-        code_once = λ x left _ _. once x.code.sender x.code.digest x.code.grant x.code.named x.code.own left;
-        code_twice = λ x left _ _. twice x.code.sender x.code.digest x.code.grant x.code.named x.code.own left left.scope;
-        refreshed = λ x left _ _. twice x.token.sender x.token.digest x.token.grant x.token.named x.token.own left x.token.grant.scope;
-        own = λ sender _ scope left _ _. one _ (credentials sender, λ g at same. absurd (none_new g at (sym same)));
-      };
-      turned = λ x error. nothing;
-      coded = λ x code key _. one _ (owner_key code.owner key, refl);
-      consented = λ owner client mask key. one _ (owner_key owner key);
-      revokes = λ x own. one _ (ended x.sender x.digest x.token (live_is history x.digest occasion.arrival.moment x.token x.live).0 own);
-      tells = λ x. nothing;
-      hooks = λ change of operator. one _ (of_hooks change of (operator_key operator));
-    })
+    authorized = at_each P rules history occasion by_way
 
     -- ISOLATION
 
@@ -180,10 +155,83 @@ module _ (history : List Event) (m : ℕ) (is : IsHistory history m) where
         λ is. other (ap (λ (x : Grant). x.client) (same_some g right.0 (grant_at history digest occasion.arrival.moment) is right.1) ∙ one_bearer client right.0.client bears right.2)
     leaves client g bears at other (FamilyEnded family) right =
         λ same. other (family_of right.0 right.1 g at (sym same ∙ sym right.2) ∙ one_bearer client right.0.client bears right.3)
-    leaves client g bears at other (Consented owner c mask) right = tt
-    leaves client g bears at other (HookSet name version code) right = tt
-    leaves client g bears at other (HookGone name) right = tt
+    leaves client g bears at other _ right = tt
 
     pub isolated : IsIsolated rules history occasion
     isolated client g bears at other =
         All-weaker Right (LeavesAlone history occasion.arrival.moment g) (leaves client g bears at other) (outcome_of rules history occasion).changes authorized
+
+-- the change ends no family
+abbrev is_quiet : Change → Bool
+is_quiet change = not (may_end change)
+
+-- the changes end no family, or there is one
+abbrev IsShort : List Change → Type 0
+IsShort changes = (list_all is_quiet changes ≡ true) ⊎ ((change : Change) × (changes ≡ change ∷ []))
+
+are_short : (rules : RegistryRecord) (history : List Event) (occasion : Occasion) → IsShort (outcome_of rules history occasion).changes
+are_short rules history occasion = at_each (λ o. IsShort o.changes) rules history occasion by_way
+  where
+    by_way : (way : Way (setting_on rules history occasion) occasion.arrival.asked) → IsShort (outcome_by way).changes
+    by_way (Quiet status body moves active) = inl refl
+    by_way (ByToken (Refused error)) = inl refl
+    by_way (ByToken Wanting) = inl refl
+    by_way (ByToken (Once x left is untaken)) = inl refl
+    by_way (ByToken (Twice x left is untaken)) = inl refl
+    by_way (ByToken (Refreshed x left is untaken)) = inl refl
+    by_way (Turned x error) = inl refl
+    by_way (Tells x) = inl refl
+    by_way _ = inr (_, refl)
+
+module _ (history : List Event) (m : ℕ) (is : IsHistory history m) (rules : RegistryRecord) (occasion : Occasion) (family : ℕ)
+    (lives : has_ended history family ≡ false) where
+  abbrev Ends : Type 0
+  Ends =
+      IsAuthorized rules history occasion (FamilyEnded family)
+      ⊎ ((terms : Terms) × (code_terms history family ≡ Some terms) × BearsOwnerKey rules occasion.arrival.asked terms.owner)
+
+  -- quiet changes end none
+  all_quiet : (before : List Event) (changes : List Change) → list_all is_quiet changes ≡ true → has_ended before family ≡ false →
+      has_ended (with_changes before occasion.arrival.moment changes) family ≡ false
+  all_quiet before [] quiet alive = ap (λ h. has_ended h family) (append-nil before) ∙ alive
+  all_quiet before (change ∷ changes) quiet alive =
+      let parts = and_parts (is_quiet change) (list_all is_quiet changes) quiet in
+      ap (λ h. has_ended h family) (with_changes-cons before occasion.arrival.moment change changes)
+      ∙ all_quiet (with_change before occasion.arrival.moment change) changes parts.1
+      (has_ended-push_other before (event_at occasion.arrival.moment change) family (not-true (may_end change) parts.0) ∙ alive)
+
+  -- what one change ends
+  pushed : (change : Change) → has_ended (history ++ event_at occasion.arrival.moment change ∷ []) family ≡ true →
+      (ends family change || is_beyond change (code_terms history family)) ≡ true
+  pushed change e =
+      ap (λ b. b || (ends family change || is_beyond change (code_terms history family))) (sym lives)
+      ∙ sym (has_ended-push history (event_at occasion.arrival.moment change) family (is.one_code family)) ∙ e
+
+  quiet_no : (change : Change) → may_end change ≡ false → has_ended (history ++ event_at occasion.arrival.moment change ∷ []) family ≡ true → Ends
+  quiet_no change quiet e =
+      absurd (false≢true (sym (has_ended-push_other history (event_at occasion.arrival.moment change) family quiet ∙ lives) ∙ e))
+
+  by_one : (change : Change) → IsAuthorized rules history occasion change → has_ended (history ++ event_at occasion.arrival.moment change ∷ []) family ≡ true → Ends
+  by_one (FamilyEnded f) right e =
+      let is = pushed (FamilyEnded f) e in
+      let same : f ≡ family = grind (arith, nat_tests, is) in
+      inl (subst (λ x. IsAuthorized rules history occasion (FamilyEnded x)) same right)
+  by_one (Consented owner client mask) right e = by_terms (code_terms history family) refl (pushed (Consented owner client mask) e)
+    where
+      by_terms : (o : Option Terms) → code_terms history family ≡ o → (ends family (Consented owner client mask) || is_beyond (Consented owner client mask) o) ≡ true → Ends
+      by_terms None is h = absurd (false≢true h)
+      by_terms (Some terms) is h =
+          let same : owner ≡ terms.owner = grind (arith, nat_tests, h) in
+          inr (terms, is, subst (λ n. BearsOwnerKey rules occasion.arrival.asked n) same right)
+  by_one change right e = quiet_no change refl e
+
+  by_all : (changes : List Change) → IsShort changes → All (IsAuthorized rules history occasion) changes →
+      has_ended (with_changes history occasion.arrival.moment changes) family ≡ true → Ends
+  by_all changes (inl quiet) right e = absurd (false≢true (sym (all_quiet history changes quiet lives) ∙ e))
+  by_all changes (inr single) right e =
+      by_one single.0 (All-head (IsAuthorized rules history occasion) single.0 [] (subst (All (IsAuthorized rules history occasion)) single.1 right))
+      (sym (ap (λ cs. has_ended (with_changes history occasion.arrival.moment cs) family) single.1) ∙ e)
+
+pub ends_with_authority : (history : List Event) (m : ℕ) → IsHistory history m → (rules : RegistryRecord) (occasion : Occasion) → EndsWithAuthority rules history occasion
+ends_with_authority history m is rules occasion family lives e =
+    by_all history m is rules occasion family lives (outcome_of rules history occasion).changes (are_short rules history occasion) (authorized history m is rules occasion) e

@@ -1,5 +1,5 @@
 -- An exchanged code is bound to what it was given with.
-use Rattle.std.proofs.Common.{◌≡◌, List, Some, refl, sym, ap, ◌∙◌, subst}
+use Rattle.std.proofs.Common.{◌≡◌, ℕ, List, Some, false, arith, refl, sym, ap, ◌∙◌, subst}
 use Rattle.std.specs.Prelude.{codes, not, bytes_eq}
 use Rattle.std.proofs.lemmas.Bool.{and_parts, false≢true}
 use Rattle.std.proofs.lemmas.Slice.Eq.{bytes_eq-Decides}
@@ -15,8 +15,8 @@ use Rattle.headline.specs.Bearers.{BearsWith}
 use Rattle.headline.specs.Codes.{IsBound, BindsCodes}
 use Rattle.headline.specs.Occasions.{Occasion, outcome_of, setting_on}
 use Rattle.headline.proofs.Exchanged.{at_path}
-use Rattle.headline.proofs.Walking.{granted_at, no_error_200, other, same_some}
-use Rattle.headline.proofs.Ways.{Sender, Proven, TokenWays, at_token}
+use Rattle.headline.proofs.Walking.{granted_at, no_error_200, same_some}
+use Rattle.headline.proofs.Ways.{Sender, Proven, TokenWay, Refused, Once, Twice, Refreshed, Own, at_token, token_outcome}
 
 module _ (rules : RegistryRecord) (history : List Event) (occasion : Occasion) (params : Parameters) where
   bound : (x : Proven (setting_on rules history occasion) occasion.arrival.asked) → x.code.sender.params ≡ params → IsBound rules history occasion params
@@ -44,25 +44,19 @@ module _ (rules : RegistryRecord) (history : List Event) (occasion : Occasion) (
   same_params : form_of occasion.arrival.asked ≡ Some params → (sender : Sender rules occasion.arrival.asked) → sender.params ≡ params
   same_params form sender = same_some sender.params params (form_of occasion.arrival.asked) sender.form form
 
-  ways : form_of occasion.arrival.asked ≡ Some params → value_sent (codes "grant_type") params ≡ Some (codes "authorization_code") →
-      TokenWays P (setting_on rules history occasion) occasion.arrival.asked
-  ways form typed = record {
-    refused = λ error e. absurd (no_error_200 error e);
-    wanting = λ e. absurd (other 503 200 refl e);
-    code_again = λ x _ e. absurd (other 400 200 refl e);
-    refresh_again = λ x _ e. absurd (other 400 200 refl e);
-    in_vain = λ x error e. absurd (other 400 200 refl e);
-    code_once = λ x left _ _ e. bound x (same_params form x.code.sender);
-    code_twice = λ x left _ _ e. bound x (same_params form x.code.sender);
-    refreshed = λ x left _ _ e. absurd (refreshes (same_some _ _ _ (ap (value_sent (codes "grant_type")) (sym (same_params form x.token.sender)) ∙ x.token.typed) typed));
-    own = λ sender own scope left _ _ e. absurd (owns (same_some _ _ _ (ap (value_sent (codes "grant_type")) (sym (same_params form sender)) ∙ own) typed));
-  }
-    where
-      refreshes : codes "refresh_token" ≡ codes "authorization_code" → ⊥
-      refreshes e = false≢true (ap (λ t. bytes_eq (codes "refresh_token") t) (sym e))
+  differ : (type : List ℕ) → bytes_eq type (codes "authorization_code") ≡ false → type ≡ codes "authorization_code" → ⊥
+  differ type apart same = false≢true (sym apart ∙ (bytes_eq-Decides type (codes "authorization_code")).1 same)
 
-      owns : codes "client_credentials" ≡ codes "authorization_code" → ⊥
-      owns e = false≢true (ap (λ t. bytes_eq (codes "client_credentials") t) (sym e))
+  by_way : form_of occasion.arrival.asked ≡ Some params → value_sent (codes "grant_type") params ≡ Some (codes "authorization_code") →
+      (way : TokenWay (setting_on rules history occasion) occasion.arrival.asked) → P (token_outcome way)
+  by_way form typed (Refused error) e = absurd (no_error_200 error e)
+  by_way form typed (Once x left is untaken) e = bound x (same_params form x.code.sender)
+  by_way form typed (Twice x left is untaken) e = bound x (same_params form x.code.sender)
+  by_way form typed (Refreshed x left is untaken) e =
+      absurd (differ (codes "refresh_token") refl (same_some _ _ _ (ap (value_sent (codes "grant_type")) (sym (same_params form x.token.sender)) ∙ x.token.typed) typed))
+  by_way form typed (Own sender own scope left is untaken) e =
+      absurd (differ (codes "client_credentials") refl (same_some _ _ _ (ap (value_sent (codes "grant_type")) (sym (same_params form sender)) ∙ own) typed))
+  by_way form typed _ e = absurd (omega (arith, e))
 
 pub binds_codes : (rules : RegistryRecord) (history : List Event) (occasion : Occasion) → BindsCodes rules history occasion
 binds_codes rules history occasion params goes form typed granted =
@@ -70,5 +64,5 @@ binds_codes rules history occasion params goes form typed granted =
     let there : outcome_of rules history occasion ≡ at_path rules history occasion (codes "/token") = ap (at_path rules history occasion) goes in
     let same : outcome_of rules history occasion ≡ o =
     there ∙ granted_at (not (bytes_eq occasion.arrival.asked.method (codes "POST"))) occasion.refused o (ap (λ (x : Outcome). x.reply.status) (sym there) ∙ granted) in
-    at_token (P rules history occasion params) (setting_on rules history occasion) occasion.arrival.asked (ways rules history occasion params form typed)
+    at_token (P rules history occasion params) (setting_on rules history occasion) occasion.arrival.asked (by_way rules history occasion params form typed)
     (ap (λ (x : Outcome). x.reply.status) (sym same) ∙ granted)

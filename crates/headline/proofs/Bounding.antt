@@ -1,13 +1,13 @@
 -- Live tokens of a bounded history.
-use Rattle.std.proofs.Common.{◌≡◌, ◌≢◌, ◌≤◌, ◌⊎◌, inl, inr, ℕ, List, [], ◌∷◌, ◌++◌, true, false, Option, Some, None, refl, sym, ap, ◌∙◌, append_assoc, append-nil, subst}
-use Rattle.std.specs.Prelude.{◌==◌, is_some, unwrap_or, if◌then◌else◌}
-use Rattle.std.specs.Option.{option_or}
-use Rattle.std.proofs.lemmas.Bool.{and_from, false≢true, eq-eqb}
+use Rattle.std.proofs.Common.{◌≡◌, ◌≢◌, ◌≤◌, ◌⊎◌, inl, inr, ℕ, List, [], ◌∷◌, ◌++◌, true, false, Option, Some, None, arith, refl, sym, ap, ◌∙◌, append_assoc, append-nil, subst}
+use Rattle.std.specs.Prelude.{is_some, unwrap_or}
+use Rattle.std.proofs.lemmas.Bool.{false≢true}
+use Rattle.std.proofs.lemmas.Bool.Decides.{nat_tests}
 use Rattle.clients.specs.ClientRecord.{ClientRecord}
 use Rattle.clients.specs.Clients.{client_at}
 use Rattle.clients.specs.RegistryRecord.{RegistryRecord}
-use Rattle.consent.specs.History.{Event, Change, event_at, Grant, grant_by, grant_at, is_code, is_within, consented_scope, last_consent, consent_of, has_ended, live_grant}
-use Rattle.consent.specs.History.Change.{Consented, CodeGiven, Issued, Spent, FamilyEnded, HookSet, HookGone}
+use Rattle.consent.specs.History.{Event, Change, event_at, Grant, grant_by, grant_at, is_code, is_within, consented_scope, last_consent, has_ended, live_grant}
+use Rattle.consent.specs.History.Change.{Consented, CodeGiven, Issued}
 use Rattle.consent.specs.HistoryLaws.{grant_at-given}
 use Rattle.consent.specs.declared.grant.Kind.TheVariants.{Token}
 use Rattle.consent.specs.declared.grant.TokenKind.{TokenKind}
@@ -39,11 +39,7 @@ change_keeps rules history moment (Issued family parties new) g at token allowed
     by_owner lives (inr within) = inr (within lives)
 change_keeps rules history moment (CodeGiven family code digest) g at token allowed consented alive =
     absurd (false≢true (sym token ∙ sym (ap (λ (x : Grant). is_code x.kind) (same_grant _ g at))))
-change_keeps rules history moment (Consented owner client mask) g at token allowed consented alive = absurd (cc)
-change_keeps rules history moment (Spent digest) g at token allowed consented alive = absurd (cc)
-change_keeps rules history moment (FamilyEnded family) g at token allowed consented alive = absurd (cc)
-change_keeps rules history moment (HookSet name version code) g at token allowed consented alive = absurd (cc)
-change_keeps rules history moment (HookGone name) g at token allowed consented alive = absurd (cc)
+change_keeps rules history moment _ g at token allowed consented alive = absurd (cc)
 
 -- a client that is there has a record
 pub there : (rules : RegistryRecord) (number : ℕ) → is_some (client_at number rules.clients) ≡ true →
@@ -62,11 +58,7 @@ given_client rules moment (Issued family parties token) g at allowed =
     subst (λ (x : Grant). is_some (client_at x.client rules.clients) ≡ true) (same_grant _ g at) allowed.0.is_client
 given_client rules moment (CodeGiven family code digest) g at allowed =
     subst (λ (x : Grant). is_some (client_at x.client rules.clients) ≡ true) (same_grant _ g at) allowed.is_client
-given_client rules moment (Consented owner client mask) g at allowed = absurd (cc)
-given_client rules moment (Spent digest) g at allowed = absurd (cc)
-given_client rules moment (FamilyEnded family) g at allowed = absurd (cc)
-given_client rules moment (HookSet name version code) g at allowed = absurd (cc)
-given_client rules moment (HookGone name) g at allowed = absurd (cc)
+given_client rules moment _ g at allowed = absurd (cc)
 
 -- so is what the history names
 pub of_client : (rules : RegistryRecord) (history : List Event) (digest : List ℕ) (t : ℕ) (g : Grant) → IsBounded rules history →
@@ -102,20 +94,13 @@ live_keeps rules history digest t g bounded live token =
 
 with_owner : (rules : RegistryRecord) (history : List Event) (g : Grant) → KeepsScope rules history g → g.owner ≢ 0 →
     is_within g.scope (consented_scope history g.owner g.client) ≡ true
-with_owner rules history g keeps some = by_case keeps.consented
-  where
-    by_case : (IsOwn history g.family g.owner ⊎ (is_within g.scope (consented_scope history g.owner g.client) ≡ true)) → is_within g.scope (consented_scope history g.owner g.client) ≡ true
-    by_case (inl own) = absurd (some own.no_owner)
-    by_case (inr within) = within
+with_owner rules history g keeps some = elim keeps.consented [ inl own ↦ absurd (some own.no_owner) | inr within ↦ within ]
 
 -- the last consent is the one that counts
 last_is : (before later : List Event) (owner client when mask : ℕ) → last_consent later owner client ≡ None →
     last_consent (before ++ event_at when (Consented owner client mask) ∷ later) owner client ≡ Some mask
-last_is [] later owner client when mask none =
-    ap (λ o. option_or o (consent_of owner client (Consented owner client mask))) none
-    ∙ ap (λ b. if b then Some mask else None) (and_from (owner == owner) (client == client) (eq-eqb owner owner refl) (eq-eqb client client refl))
-last_is (x ∷ before) later owner client when mask none =
-    ap (λ o. option_or o (consent_of owner client x.change)) (last_is before later owner client when mask none)
+last_is [] later owner client when mask none = grind (arith, nat_tests, none)
+last_is (x ∷ before) later owner client when mask none = let rest = last_is before later owner client when mask none in grind (arith, rest)
 
 pub lowered : (rules : RegistryRecord) (history : List Event) → IsBounded rules history →
     (digest : List ℕ) (t : ℕ) (g : Grant) (mask : ℕ) → live_grant history digest t ≡ Some g →

@@ -1,26 +1,19 @@
 -- The hooks of a chain are safe.
-use Rattle.std.proofs.Common.{List, [], ◌∷◌, zero, suc, arith, All, sym, subst}
+use Rattle.std.proofs.Common.{List, [], ◌∷◌, All, sym, subst}
 use Rattle.std.specs.Prelude.{not}
 use Rattle.std.specs.Str.{bytes_eq}
-use Rattle.std.proofs.lemmas.List.Elements.{All-append, All-filter}
+use Rattle.std.proofs.lemmas.List.Elements.{All-append, All-cons, All-filter, All-nil}
 use Rattle.hook_chain.specs.Chains.{Named}
 use Rattle.hook_chain.specs.contracts.chain.ChainHookHost.TheImpl as chains
 use Rattle.hook_chain.specs.ExitLaws.{exits_are_runs}
 use Rattle.consent.specs.History.{Event, Change}
-use Rattle.consent.specs.History.Change.{Consented, CodeGiven, Issued, Spent, FamilyEnded, HookSet, HookGone}
+use Rattle.consent.specs.History.Change.{HookSet, HookGone}
 use Rattle.endpoints.specs.Hosts.{HostStep, HostRun}
 use Rattle.headline.specs.SafeHooks.{IsSafeHook}
 
 -- a hook of a chain is safe
-abbrev SafeNamed : Named → Type 0
+abbrev pub SafeNamed : Named → Type 0
 SafeNamed named = IsSafeHook named.hook
-
-pub none_safe : All SafeNamed []
-none_safe k d below = absurd (omega (arith, below))
-
-all_one : (h : Named) → SafeNamed h → All SafeNamed (h ∷ [])
-all_one h safe zero d below = safe
-all_one h safe (suc k) d below = absurd (omega (arith, below))
 
 step_safe : (old new : List Named) (change : Change) → HostStep chains.ghosts old change new → All SafeNamed old → All SafeNamed new
 step_safe old new (HookSet name version code) step safe =
@@ -28,14 +21,10 @@ step_safe old new (HookSet name version code) step safe =
     let accepted = step.accepted in
     subst (λ hooks. All SafeNamed hooks) (sym step.last)
     (All-append SafeNamed old (record { name = name; hook = hook } ∷ []) safe
-    (all_one (record { name = name; hook = hook }) (record { safe = accepted.safe; exit = λ bytes exit fits. exits_are_runs hook.layout hook.program bytes exit fits accepted.safe })))
+    (All-cons SafeNamed (record { name = name; hook = hook }) [] (record { safe = accepted.safe; exit = λ bytes exit fits. exits_are_runs hook.layout hook.program bytes exit fits accepted.safe }) (All-nil SafeNamed)))
 step_safe old new (HookGone name) step safe =
     subst (λ hooks. All SafeNamed hooks) (sym step.left) (All-filter (λ (h : Named). not (bytes_eq name h.name)) SafeNamed old safe)
-step_safe old new (Consented owner client mask) step safe = subst (λ hooks. All SafeNamed hooks) (sym step) safe
-step_safe old new (CodeGiven family code digest) step safe = subst (λ hooks. All SafeNamed hooks) (sym step) safe
-step_safe old new (Issued family parties token) step safe = subst (λ hooks. All SafeNamed hooks) (sym step) safe
-step_safe old new (Spent digest) step safe = subst (λ hooks. All SafeNamed hooks) (sym step) safe
-step_safe old new (FamilyEnded family) step safe = subst (λ hooks. All SafeNamed hooks) (sym step) safe
+step_safe old new _ step safe = subst (λ hooks. All SafeNamed hooks) (sym step) safe
 
 -- all hooks of the chain are safe
 pub run_safe : (first now : List Named) (history : List Event) → HostRun chains.ghosts first history now → All SafeNamed first → All SafeNamed now

@@ -1,15 +1,13 @@
 -- What is given was decided by each hook.
-use Rattle.std.proofs.Common.{◌≡◌, inl, inr, ℕ, List, [], ◌∷◌, true, length, refl, sym, ap, ◌∙◌}
+use Rattle.std.proofs.Common.{arith, ◌≡◌, inl, inr, ℕ, List, [], ◌∷◌, length, refl, sym, ap, ◌∙◌}
 use Rattle.std.specs.Prelude.{All}
 use Rattle.std.specs.List.{fold}
-use Rattle.std.proofs.lemmas.Bool.{false≢true}
 use Rattle.std.proofs.lemmas.List.Elements.{All-nil, All-cons}
 use Rattle.sha2.specs.Sha256.{sha256}
 use Rattle.clients.specs.RegistryRecord.{RegistryRecord}
 use Rattle.consent.specs.History.{Event, Change, Grant, grants, is_named}
-use Rattle.consent.specs.History.Change.{Consented, CodeGiven, Issued, Spent, FamilyEnded, HookSet, HookGone}
-use Rattle.consent.specs.declared.grant.Kind.{Kind}
-use Rattle.consent.specs.declared.grant.Kind.TheVariants.{Code, Token}
+use Rattle.consent.specs.History.Change.{Spent}
+use Rattle.consent.specs.declared.grant.Kind.TheVariants.{Token}
 use Rattle.consent.specs.declared.grant.TokenKind.TheVariants.{Access, Refresh}
 use Rattle.consent.specs.Changes.{token_issued}
 use Rattle.hook_record.specs.declared.Ask.{Ask}
@@ -22,19 +20,12 @@ use Rattle.verifier.specs.Verdicts.{Checked}
 use Rattle.hook_chain.specs.Exits.{narrowed_by, narrowed_by_hook, narrowed_further}
 use Rattle.answers.specs.Outcomes.{Extent, Outcome}
 use Rattle.answers.specs.Setting.{Setting}
-use Rattle.answers.specs.Tokens.{is_refresh}
 use Rattle.token_endpoint.specs.ClientCredentials.{own_ask}
 use Rattle.token_endpoint.specs.Grants.{access_issued, ask_for, refresh_issued}
 use Rattle.headline.specs.Decided.{AllowInTurn, IsOfLeft, IsDecided}
 use Rattle.headline.specs.Occasions.{Occasion, outcome_of, setting_on}
 use Rattle.headline.proofs.Bearing.{find_contains}
-use Rattle.headline.proofs.Ways.{IsLeft, IsOfHooks, Refreshing, at_each, both_issued, one_issued}
-
-not_denied : (scope life : ℕ) → Denied ≡ Allowed scope life → ⊥
-not_denied scope life e = absurd (cc)
-
-not_empty : (scope life : ℕ) → EmptyScope ≡ Allowed scope life → ⊥
-not_empty scope life e = absurd (cc)
+use Rattle.headline.proofs.Ways.{IsLeft, Refreshing, Way, ByToken, Coded, Consents, Revokes, Installs, Removes, Again, InVain, Once, Twice, Refreshed, Own, at_each, both_issued, one_issued, outcome_by}
 
 -- what was denied stays denied
 denied_stays : (hooks : List Checked) (ask : Ask) → fold (narrowed_further ask) Denied hooks ≡ Denied
@@ -58,8 +49,8 @@ in_turn (hook ∷ hooks) ask a b scope life e =
     by_hook : (left : Narrowed) → narrowed_by_hook (record ask { scope = a; life = b }) hook ≡ left → fold (narrowed_further ask) left hooks ≡ Allowed scope life →
         ((some most : ℕ) → fold (narrowed_further ask) (Allowed some most) hooks ≡ Allowed scope life → AllowInTurn hooks (record ask { scope = some; life = most }) scope life) →
         AllowInTurn (hook ∷ hooks) (record ask { scope = a; life = b }) scope life
-    by_hook Denied is h rest = absurd (not_denied scope life (sym (denied_stays hooks ask) ∙ h))
-    by_hook EmptyScope is h rest = absurd (not_empty scope life (sym (empty_stays hooks ask) ∙ h))
+    by_hook Denied is h rest = let stays = denied_stays hooks ask in absurd (cc)
+    by_hook EmptyScope is h rest = let stays = empty_stays hooks ask in absurd (cc)
     by_hook (Allowed some most) is h rest = (some, most, is, rest some most h)
 
 module _ (rules : RegistryRecord) (history : List Event) (occasion : Occasion) (hooks : List Checked)
@@ -84,8 +75,8 @@ module _ (rules : RegistryRecord) (history : List Event) (occasion : Occasion) (
   left_by ask left is = by_answer (narrowed_by hooks ask) refl (ap (met_with ask) (sym (answers ask)) ∙ is)
     where
       by_answer : (answer : Narrowed) → narrowed_by hooks ask ≡ answer → met_with ask answer ≡ Allowed left.scope left.life → LeftBy ask left
-      by_answer Denied at h = absurd (not_denied left.scope left.life h)
-      by_answer EmptyScope at h = absurd (not_empty left.scope left.life h)
+      by_answer Denied at h = absurd (cc)
+      by_answer EmptyScope at h = absurd (cc)
       by_answer (Allowed some most) at h = record { some = some; most = most; in_turn = in_turn hooks ask ask.scope ask.life some most at; met_is = h }
 
   nothing : All Right []
@@ -115,46 +106,27 @@ module _ (rules : RegistryRecord) (history : List Event) (occasion : Occasion) (
 
   -- the refresh token that is used is there
   replaced : (x : Refreshing s occasion.arrival.asked) (left : Extent) → IsOfLeft history x.token.grant.family Refresh x.token.grant.scope rules.refresh_life left.scope left.life
-  replaced x left = inr (
-    x.token.grant,
-    find_contains (is_named x.token.digest occasion.arrival.moment) (grants history) x.token.grant x.token.named,
-    of_kind x.token.grant.kind x.token.kind_is,
-    refl,
-    refl,
-  )
-    where
-      of_kind : (k : Kind) → is_refresh k ≡ true → k ≡ Token Refresh
-      of_kind Code e = absurd (false≢true e)
-      of_kind (Token Access) e = absurd (false≢true e)
-      of_kind (Token Refresh) e = refl
+  replaced x left =
+      let is = x.token.kind_is in
+      let kind : x.token.grant.kind ≡ Token Refresh = grind (arith, is) in
+      inr (x.token.grant, find_contains (is_named x.token.digest occasion.arrival.moment) (grants history) x.token.grant x.token.named, kind, refl, refl)
 
-  of_hooks : (change : Change) → IsOfHooks change → Right change
-  of_hooks (HookSet name version code) of = tt
-  of_hooks (HookGone name) of = tt
-  of_hooks (Consented owner client mask) of = tt
-  of_hooks (CodeGiven family code digest) of = tt
-  of_hooks (Issued family parties token) of = absurd of
-  of_hooks (Spent digest) of = tt
-  of_hooks (FamilyEnded family) of = tt
+  by_way : (way : Way s occasion.arrival.asked) → P (outcome_by way)
+  by_way (ByToken (Again type name test x spent)) = one _ tt
+  by_way (ByToken (InVain x error)) = one _ tt
+  by_way (ByToken (Once x left is untaken)) = one_given (ask_for s x.code.sender.known kind.Code x.code.grant.owner x.code.grant.scope) left is refl x.code.grant (sym x.code.own) refl
+  by_way (ByToken (Twice x left is untaken)) =
+      both_given (ask_for s x.code.sender.known kind.Code x.code.grant.owner x.code.grant.scope) left is refl x.code.grant (sym x.code.own) refl left.scope (inl refl)
+  by_way (ByToken (Refreshed x left is untaken)) =
+      both_given (ask_for s x.token.sender.known kind.Refresh x.token.grant.owner x.scope) left is refl x.token.grant (sym x.token.own) refl x.token.grant.scope (replaced x left)
+  by_way (ByToken (Own sender typed scope left is untaken)) =
+      one _ (access (own_ask s sender.known scope) left is refl (length history) sender.known.number 0 (sha256 s.draws.first) refl refl)
+  by_way (Coded x code key of) = one _ tt
+  by_way (Consents owner client mask key) = one _ tt
+  by_way (Revokes x own) = one _ tt
+  by_way (Installs name version code operator) = one _ tt
+  by_way (Removes name operator) = one _ tt
+  by_way _ = nothing
 
   pub decided : All (IsDecided hooks history occasion.arrival.moment) (outcome_of rules history occasion).changes
-  decided = at_each P rules history occasion (record {
-    quiet = λ status body _ _. nothing;
-    token = record {
-      refused = λ error. nothing;
-      wanting = nothing;
-      code_again = λ x _. one _ tt;
-      refresh_again = λ x _. one _ tt;
-      in_vain = λ x error. one _ tt;
-      code_once = λ x left is _. one_given (ask_for s x.code.sender.known kind.Code x.code.grant.owner x.code.grant.scope) left is refl x.code.grant (sym x.code.own) refl;
-      code_twice = λ x left is _. both_given (ask_for s x.code.sender.known kind.Code x.code.grant.owner x.code.grant.scope) left is refl x.code.grant (sym x.code.own) refl left.scope (inl refl);
-      refreshed = λ x left is _. both_given (ask_for s x.token.sender.known kind.Refresh x.token.grant.owner x.scope) left is refl x.token.grant (sym x.token.own) refl x.token.grant.scope (replaced x left);
-      own = λ sender _ scope left is _. one _ (access (own_ask s sender.known scope) left is refl (length history) sender.known.number 0 (sha256 s.draws.first) refl refl);
-    };
-    turned = λ x error. nothing;
-    coded = λ x code key _. one _ tt;
-    consented = λ owner client mask key. one _ tt;
-    revokes = λ x own. one _ tt;
-    tells = λ x. nothing;
-    hooks = λ change of operator. one change (of_hooks change of);
-  })
+  decided = at_each P rules history occasion by_way

@@ -1,11 +1,10 @@
 -- The digests of codes and tokens are those of draws.
-use Rattle.std.proofs.Common.{◌≡◌, ◌⊎◌, inl, inr, ℕ, List, [], ◌∷◌, ◌++◌, length, map, take, append_assoc, refl, sym, ap, ◌∙◌, subst}
+use Rattle.std.proofs.Common.{◌≡◌, inl, inr, ℕ, List, [], ◌∷◌, ◌++◌, length, map, take, append_assoc, refl, sym, ap, ◌∙◌, subst}
 use Rattle.std.specs.List.{flat_map}
 use Rattle.std.proofs.lemmas.List.{map-append}
 use Rattle.sha2.specs.Sha256.{sha256}
 use Rattle.clients.specs.RegistryRecord.{RegistryRecord}
-use Rattle.consent.specs.History.{Event, Change, event_at, grants, with_changes}
-use Rattle.consent.specs.History.Change.{Consented, CodeGiven, Issued, Spent, FamilyEnded, HookSet, HookGone}
+use Rattle.consent.specs.History.{Event, event_at, grants, with_changes}
 use Rattle.consent.specs.GrowthLaws.{grants-append}
 use Rattle.hook_host.specs.declared.host.HookHost.{Ghosts as Hosting}
 use Rattle.messages.specs.declared.request.Draws.{Draws}
@@ -13,10 +12,10 @@ use Rattle.answers.specs.Outcomes.{Outcome}
 use Rattle.endpoints.specs.Hosts.{says_with}
 use Rattle.endpoints.specs.Server.{Outset}
 use Rattle.http_edge.specs.Answers.{AnsweredRequest, AreAnswered, IsOutcomeOfRequest, changes_made, draws_in, mishaps_in}
-use Rattle.http_edge.specs.Schedule.{AnsweredPiece, Happening, Opened, Came, HasEnded, Taken, Forgotten, Kept, Resumed, Happens, PieceComes, PiecePasses, Run, World, first_world}
+use Rattle.http_edge.specs.Schedule.{AnsweredPiece, Happening, Opened, Came, HasEnded, Taken, Forgotten, Kept, Resumed, Happens, PieceComes, Run, World, first_world}
 use Rattle.headline.specs.Drawn.{AreAmong, AreDrawn, digests_by}
-use Rattle.headline.specs.Occasions.{Occasion, outcome_of}
-use Rattle.headline.proofs.Ways.{IsOfHooks, at_each}
+use Rattle.headline.specs.Occasions.{Occasion, outcome_of, setting_on}
+use Rattle.headline.proofs.Ways.{Way, ByToken, Coded, Once, Twice, Refreshed, Own, at_each, outcome_by}
 
 -- the digests of two draws
 abbrev digests_of : Draws → List (List ℕ)
@@ -58,36 +57,16 @@ module _ (rules : RegistryRecord) (history : List Event) (occasion : Occasion) (
   abbrev P : Outcome → Type 0
   P o = AreAmong (digests_given (map (event_at m) o.changes)) (digests_of occasion.arrival.draws)
 
-  of_hooks : (change : Change) → IsOfHooks change → AreAmong (digests_given (map (event_at m) (change ∷ []))) (digests_of occasion.arrival.draws)
-  of_hooks (HookSet name version code) of = tt
-  of_hooks (HookGone name) of = tt
-  of_hooks (Consented owner client mask) of = absurd of
-  of_hooks (CodeGiven family code digest) of = absurd of
-  of_hooks (Issued family parties token) of = absurd of
-  of_hooks (Spent digest) of = absurd of
-  of_hooks (FamilyEnded family) of = absurd of
+  by_way : (way : Way (setting_on rules history occasion) occasion.arrival.asked) → P (outcome_by way)
+  by_way (ByToken (Once x left is untaken)) = inl (refl, tt)
+  by_way (ByToken (Twice x left is untaken)) = inl (refl, inl (refl, tt))
+  by_way (ByToken (Refreshed x left is untaken)) = inl (refl, inl (refl, tt))
+  by_way (ByToken (Own sender typed scope left is untaken)) = inl (refl, tt)
+  by_way (Coded x code key of) = inl (refl, tt)
+  by_way _ = tt
 
   drawn_once : P (outcome_of rules history occasion)
-  drawn_once = at_each P rules history occasion (record {
-    quiet = λ status body _ _. tt;
-    token = record {
-      refused = λ error. tt;
-      wanting = tt;
-      code_again = λ x _. tt;
-      refresh_again = λ x _. tt;
-      in_vain = λ x error. tt;
-      code_once = λ x left _ _. inl (refl, tt);
-      code_twice = λ x left _ _. inl (refl, inl (refl, tt));
-      refreshed = λ x left _ _. inl (refl, inl (refl, tt));
-      own = λ sender _ scope left _ _. inl (refl, tt);
-    };
-    turned = λ x error. tt;
-    coded = λ x code key _. inl (refl, tt);
-    consented = λ owner client mask key. tt;
-    revokes = λ x own. tt;
-    tells = λ x. tt;
-    hooks = λ change of operator. of_hooks change of;
-  })
+  drawn_once = at_each P rules history occasion by_way
 
 -- SCHEDULES
 
@@ -100,8 +79,7 @@ module _ {H : Type 0} (hosting : Hosting H) (outset : Outset H) where
         host = says_with hosting is.host request.mishap.fault;
         refused = request.mishap.refused;
       } in
-      subst (λ (o : Outcome). AreAmong (digests_given (map (event_at m) o.changes)) (digests_of request.draws)) (sym is.outcome_is)
-      (drawn_once outset.rules history occasion m)
+      rw is.outcome_is (drawn_once outset.rules history occasion m)
 
   of_requests : (m : ℕ) (history : List Event) (requests : List AnsweredRequest) → AreAnswered hosting outset m history requests →
       AreAmong (digests_given (map (event_at m) (changes_made requests))) (flat_map digests_of (draws_in requests))
@@ -140,11 +118,10 @@ module _ {H : Type 0} (hosting : Hosting H) (outset : Outset H) where
   one_more : (old new : World) (e : Happening) → Happens hosting outset old e new → (before : List (List ℕ)) →
       AreAmong (digests_given old.history) before → AreAmong (digests_given new.history) (before ++ digests_by e)
   one_more old new (Opened c) happens before a = still old new before [] happens.still.history a
-  one_more old new (Came came) happens before a = by_case happens.1
-    where
-      by_case : (PieceComes hosting outset old came new ⊎ PiecePasses old came new) → AreAmong (digests_given new.history) (before ++ digests_by (Came came))
-      by_case (inl comes) = of_piece old new came comes before a
-      by_case (inr passes) = still old new before (digests_by (Came came)) (ap (λ (w : World). w.history) passes.same) a
+  one_more old new (Came came) happens before a = elim happens.1 [
+    | inl comes ↦ of_piece old new came comes before a
+    | inr passes ↦ still old new before (digests_by (Came came)) (ap (λ (w : World). w.history) passes.same) a
+  ]
   one_more old new (HasEnded c) happens before a = still old new before [] happens.still.history a
   one_more old new (Taken c n) (inl takes) before a = still old new before [] takes.still.history a
   one_more old new (Taken c n) (inr nothing) before a = still old new before [] (ap (λ (w : World). w.history) nothing.same) a

@@ -1,29 +1,117 @@
--- Requests by their paths, and two exchanges of one text.
-use Rattle.std.proofs.Common.{◌≡◌, ℕ, List, [], ◌∷◌, ◌++◌, Bool, true, false, Option, Some, map, refl, sym, ap, ◌∙◌, subst, append_assoc}
-use Rattle.std.specs.Prelude.{◌==◌, codes, not, bytes_eq}
+-- What an exchange finds and leaves, two exchanges of one text, and families that are ended.
+use Rattle.std.proofs.Common.{◌≡◌, inl, inr, ℕ, List, [], ◌∷◌, true, false, Some, None, map, arith, refl, sym, ap, ◌∙◌, ◌++◌, Option, subst, append_assoc}
+use Rattle.std.specs.Prelude.{codes, bytes_eq, ◌==◌, not}
 use Rattle.std.specs.List.{list_any}
-use Rattle.std.proofs.lemmas.Bool.{or_left, or_from, false≢true, eq-eqb}
+use Rattle.std.proofs.lemmas.Bool.{false≢true, eq-eqb}
+use Rattle.std.proofs.lemmas.Slice.Eq.{bytes_eq-Decides}
+use Rattle.sha2.specs.Sha256.{sha256}
+use Rattle.params.specs.Form.{value_sent}
+use Rattle.consent.specs.History.{Event, Change, event_at, Grant, grants, grant_at, spends, is_spent, is_taken, has_ended}
+use Rattle.consent.specs.GrowthLaws.{is_taken-parts, grants-append}
+use Rattle.messages.specs.Asked.{Asked}
+use Rattle.answers.specs.FoundLaws.{under_digest}
+use Rattle.answers.specs.Outcomes.{Extent, Outcome, refuse, point, need, bare, chosen}
+use Rattle.answers.specs.Requesters.{Parameters, form_of}
+use Rattle.answers.specs.Setting.{Setting}
+use Rattle.answers.specs.Texts.{digest_told}
+use Rattle.token_endpoint.specs.Grants.{both_digests}
+use Rattle.token_endpoint.specs.TokenPath.{issue_token}
 use Rattle.std.proofs.lemmas.List.Folds.{list_any-append}
 use Rattle.clients.specs.RegistryRecord.{RegistryRecord}
-use Rattle.consent.specs.History.{Event, event_at, Grant, grants, grant_at, live_grant, is_spent, spends, has_ended}
 use Rattle.consent.specs.History.Change.{FamilyEnded}
-use Rattle.consent.specs.GrowthLaws.{grants-append}
 use Rattle.messages.specs.declared.error.ErrorName.TheVariants.{InvalidRequest, InvalidClient, InvalidGrant}
-use Rattle.params.specs.Form.{value_sent}
-use Rattle.answers.specs.Outcomes.{Outcome, point, need, bare, chosen, refuse}
-use Rattle.answers.specs.Requesters.{form_of}
-use Rattle.answers.specs.Texts.{digest_told}
 use Rattle.answers.specs.Tokens.{live_token}
-use Rattle.token_endpoint.specs.TokenPath.{issue_token}
 use Rattle.answers.specs.Paths.{endpoint_at, method_at}
 use Rattle.endpoints.specs.Replies.{outcome_at}
 use Rattle.endpoints.specs.Revoke.{revoke_token, revoked}
-use Rattle.headline.specs.Occasions.{Occasion, outcome_of, history_after, setting_on}
-use Rattle.headline.specs.Uses.{Exchanges, IsGivenAmong, Revokes}
-use Rattle.headline.proofs.Walking.{at_point, at_some, no_error_200, other, same_some, granted_at}
+use Rattle.headline.specs.Uses.{Presents, Exchanges, IsDead, IsGivenAmong, Revokes}
+use Rattle.headline.proofs.Walking.{no_error_200, same_some, at_point, at_some, other, granted_at}
+use Rattle.headline.proofs.Ways.{CodeUse, RefreshUse, Sender, TokenWay, Refused, Once, Twice, Refreshed, Own, at_token, both_issued, one_issued, token_outcome, at_sender}
 use Rattle.headline.proofs.Spending.{has_digest, grant_at-still, is_spent-by, ended_by, ended_stays, live_is}
-use Rattle.headline.proofs.Exchanging.{IsUse, IsUsed, issue_used}
-use Rattle.headline.proofs.Ways.{at_sender}
+use Rattle.headline.specs.Occasions.{Occasion, outcome_of, history_after, setting_on}
+
+-- what the digest names is unspent, and is then spent, and nothing else is given under the digest
+pub record IsUse (history : List Event) (m : ℕ) (digest : List ℕ) (changes : List Change) : Type 0 where
+  pub grant : Grant
+  pub named : grant_at history digest m ≡ Some grant
+  pub unspent : is_spent history digest m ≡ false
+  pub spends_it : list_any (λ x. spends digest x.change) (map (event_at m) changes) ≡ true
+  pub alone : list_any (has_digest digest) (grants (map (event_at m) changes)) ≡ false
+
+-- so it is where tokens are answered
+abbrev pub IsUsed : List Event → ℕ → List ℕ → Outcome → Type 0
+IsUsed history m text o =
+    o.reply.status ≡ 200 → (digest : List ℕ) × (digest_told text ≡ Some digest) × IsUse history m digest o.changes
+
+module _ (s : Setting) (text : List ℕ) where
+  abbrev Used : Outcome → Type 0
+  Used o = IsUsed s.history s.moment text o
+
+  -- a digest that names something is not one that is free
+  apart : (digest free : List ℕ) (g : Grant) → grant_at s.history digest s.moment ≡ Some g → grant_at s.history free s.moment ≡ None → bytes_eq digest free ≡ false
+  apart digest free g named none = let same = (bytes_eq-Decides digest free).0 in grind (arith, same, named, none)
+
+  module _ (digest : List ℕ) (g : Grant) (told : digest_told text ≡ Some digest) (named : grant_at s.history digest s.moment ≡ Some g)
+      (unspent : is_spent s.history digest s.moment ≡ false) where
+    bytes_same : bytes_eq digest g.digest ≡ true
+    bytes_same = (bytes_eq-Decides digest g.digest).1 (under_digest s.history digest s.moment g named)
+
+    -- an access token alone
+    used_once : (left : Extent) → is_taken s.history s.moment (sha256 s.draws.first ∷ []) ≡ false → Used (one_issued s g left)
+    used_once left untaken _ =
+        let parts = is_taken-parts s.history s.moment (sha256 s.draws.first) [] untaken in
+        let first = apart digest (sha256 s.draws.first) g named parts.0 in
+        let same = bytes_same in
+        (digest, told, record { grant = g; named = named; unspent = unspent; spends_it = grind (arith, same); alone = grind (arith, first) })
+
+    used_twice : (left : Extent) (kept : ℕ) → is_taken s.history s.moment (both_digests s.draws) ≡ false → Used (both_issued s g left kept)
+    used_twice left kept untaken _ =
+        let parts = is_taken-parts s.history s.moment (sha256 s.draws.first) (sha256 s.draws.second ∷ []) untaken in
+        let more = is_taken-parts s.history s.moment (sha256 s.draws.second) [] parts.2 in
+        let first = apart digest (sha256 s.draws.first) g named parts.0 in
+        let second = apart digest (sha256 s.draws.second) g named more.0 in
+        let same = bytes_same in
+        (digest, told, record { grant = g; named = named; unspent = unspent; spends_it = grind (arith, same); alone = grind (arith, first, second) })
+
+  module _ (asked : Asked) (params : Parameters) (form : form_of asked ≡ Some params) (presents : Presents params text) where
+    -- the sender's parameters are these
+    sent_by : (sender : Sender s.rules asked) (name value : List ℕ) → value_sent name sender.params ≡ Some value → value_sent name params ≡ Some value
+    sent_by sender name value is = ap (value_sent name) (same_some params sender.params (form_of asked) form sender.form) ∙ is
+
+    -- and of one grant type
+    one_type : (type other_type : List ℕ) → bytes_eq type other_type ≡ false → (sender : Sender s.rules asked) →
+        value_sent (codes "grant_type") sender.params ≡ Some type → value_sent (codes "grant_type") params ≡ Some other_type → ⊥
+    one_type type other_type differ sender a b =
+        false≢true (sym differ ∙ (bytes_eq-Decides type other_type).1 (same_some type other_type (value_sent (codes "grant_type") params) (sent_by sender (codes "grant_type") type a) b))
+
+    told_of_code : (x : CodeUse s asked) → digest_told text ≡ Some x.digest
+    told_of_code x = elim presents [
+      | inl code ↦ ap digest_told (same_some text x.text (value_sent (codes "code") params) code.1 (sent_by x.sender (codes "code") x.text x.sent)) ∙ x.told
+      | inr token ↦ absurd (one_type (codes "authorization_code") (codes "refresh_token") refl x.sender x.typed token.0)
+    ]
+
+    told_of_token : (x : RefreshUse s asked) → digest_told text ≡ Some x.digest
+    told_of_token x = elim presents [
+      | inl code ↦ absurd (one_type (codes "refresh_token") (codes "authorization_code") refl x.sender x.typed code.0)
+      | inr token ↦ ap digest_told (same_some text x.text (value_sent (codes "refresh_token") params) token.1 (sent_by x.sender (codes "refresh_token") x.text x.sent)) ∙ x.told
+    ]
+
+    no_own : (sender : Sender s.rules asked) → value_sent (codes "grant_type") sender.params ≡ Some (codes "client_credentials") → ⊥
+    no_own sender typed = elim presents [
+      | inl code ↦ one_type (codes "client_credentials") (codes "authorization_code") refl sender typed code.0
+      | inr token ↦ one_type (codes "client_credentials") (codes "refresh_token") refl sender typed token.0
+    ]
+
+    pub issue_used : Used (issue_token s asked)
+    issue_used = at_token Used s asked by_way
+      where
+        by_way : (way : TokenWay s asked) → Used (token_outcome way)
+        by_way (Refused error) e = absurd (no_error_200 error e)
+        by_way (Once x left is untaken) e = used_once x.code.digest x.code.grant (told_of_code x.code) x.code.named x.unspent left untaken e
+        by_way (Twice x left is untaken) e = used_twice x.code.digest x.code.grant (told_of_code x.code) x.code.named x.unspent left left.scope untaken e
+        by_way (Refreshed x left is untaken) e = used_twice x.token.digest x.token.grant (told_of_token x.token) x.token.named x.unspent left x.token.grant.scope untaken e
+        by_way (Own sender typed scope left is untaken) e = absurd (no_own sender typed)
+        by_way _ e = absurd (omega (arith, e))
 
 module _ (rules : RegistryRecord) (history : List Event) (occasion : Occasion) where
   -- the outcome at the path
@@ -54,26 +142,28 @@ exchanged_once rules history between occasion later text first second =
     given : (digest : List ℕ) → IsUse history occasion.arrival.moment digest (outcome_of rules history occasion).changes →
         IsUse (history_after rules history occasion ++ between) later.arrival.moment digest (outcome_of rules (history_after rules history occasion ++ between) later).changes →
         list_any (has_digest digest) (grants between) ≡ true
-    given digest a b = by_given (list_any (has_digest digest) (grants between)) refl
-      where
-        more : List Event
-        more = map (event_at occasion.arrival.moment) (outcome_of rules history occasion).changes
+    given digest a b =
+        let more = map (event_at occasion.arrival.moment) (outcome_of rules history occasion).changes in
+        let whole = append_assoc history more between in
+        let grants_are = grants-append more between in
+        let given_in = list_any-append (has_digest digest) (grants more) (grants between) in
+        let spent_in = list_any-append (λ x. spends digest x.change) more between in
+        let still = grant_at-still history (more ++ between) digest later.arrival.moment b.grant in
+        let spent = is_spent-by history (more ++ between) digest later.arrival.moment b.grant in
+        let alone = a.alone in
+        let spends_it = a.spends_it in
+        let named = b.named in
+        let unspent = b.unspent in
+        grind (arith, whole, grants_are, given_in, spent_in, still, spent, alone, spends_it, named, unspent)
 
-        by_given : (x : Bool) → list_any (has_digest digest) (grants between) ≡ x → x ≡ true
-        by_given true is = refl
-        by_given false is =
-            let more = map (event_at occasion.arrival.moment) (outcome_of rules history occasion).changes in
-            let whole : (history ++ more) ++ between ≡ history ++ (more ++ between) = append_assoc history more between in
-            let none : list_any (has_digest digest) (grants (more ++ between)) ≡ false =
-            ap (list_any (has_digest digest)) (grants-append more between)
-            ∙ list_any-append (has_digest digest) (grants more) (grants between)
-            ∙ or_from (list_any (has_digest digest) (grants more)) (list_any (has_digest digest) (grants between)) a.alone is in
-            let named = grant_at-still history (more ++ between) digest later.arrival.moment b.grant none (ap (λ h. grant_at h digest later.arrival.moment) (sym whole) ∙ b.named) in
-            let spent : list_any (λ x. spends digest x.change) (more ++ between) ≡ true =
-            list_any-append (λ x. spends digest x.change) more between
-            ∙ or_left (list_any (λ x. spends digest x.change) more) (list_any (λ x. spends digest x.change) between) a.spends_it in
-            let is_spent_now = is_spent-by history (more ++ between) digest later.arrival.moment b.grant named spent in
-            absurd (false≢true (sym b.unspent ∙ ap (λ h. is_spent h digest later.arrival.moment) whole ∙ is_spent_now))
+-- a family that is ended is dead, whatever comes
+pub dead_after : (rules : RegistryRecord) (history : List Event) (occasion : Occasion) (family : ℕ) → (outcome_of rules history occasion).changes ≡ FamilyEnded family ∷ [] →
+    (later : List Event) → IsDead (history_after rules history occasion ++ later) family
+dead_after rules history occasion family ended later digest moment found live kin =
+    let alive = (live_is (history_after rules history occasion ++ later) digest moment found live).1 in
+    let was = ended_stays (history_after rules history occasion) later found.family alive in
+    false≢true (sym was ∙ ap (λ cs. has_ended (history ++ map (event_at occasion.arrival.moment) cs) found.family) ended
+    ∙ ended_by history (event_at occasion.arrival.moment (FamilyEnded family)) found.family (eq-eqb family found.family (sym kin)))
 
 -- REVOCATION
 
@@ -88,7 +178,7 @@ module _ (rules : RegistryRecord) (history : List Event) (occasion : Occasion) (
   abbrev by_live : ℕ → Option Grant → Outcome
   by_live number live = need live (bare 200) (λ token. point (not (token.client == number)) (refuse InvalidGrant) (revoked token))
 
-  ended : (outcome_of rules history occasion).changes ≡ FamilyEnded token.family ∷ []
+  pub ended : (outcome_of rules history occasion).changes ≡ FamilyEnded token.family ∷ []
   ended =
       let o = revoke_token (setting_on rules history occasion) occasion.arrival.asked in
       let there : outcome_of rules history occasion ≡ at_path rules history occasion (codes "/revoke") = ap (at_path rules history occasion) it.goes_to in
@@ -100,11 +190,3 @@ module _ (rules : RegistryRecord) (history : List Event) (occasion : Occasion) (
       (ap (value_sent (codes "token")) (same_some sender.params it.params (form_of occasion.arrival.asked) sender.form it.form) ∙ it.presents)
       (at_some Ended {A = Grant} (live_token history occasion.arrival.moment it.text) token (bare 200) _ it.live
       (at_point Ended (not (token.client == sender.known.number)) (refuse InvalidGrant) _ (λ _. refused InvalidGrant) (λ _ _. refl))))) it.done
-
-  pub revoked_stays : (later : List Event) (found : Grant) (digest : List ℕ) (moment : ℕ) →
-      live_grant (history_after rules history occasion ++ later) digest moment ≡ Some found → found.family ≡ token.family → ⊥
-  revoked_stays later found digest moment live kin =
-      let whole = history_after rules history occasion ++ later in
-      let alive = (live_is whole digest moment found live).1 in
-      let was = ended_stays (history_after rules history occasion) later found.family alive in
-      false≢true (sym was ∙ ap (λ cs. has_ended (history ++ map (event_at occasion.arrival.moment) cs) found.family) ended ∙ ended_by history (event_at occasion.arrival.moment (FamilyEnded token.family)) found.family (eq-eqb token.family found.family (sym kin)))

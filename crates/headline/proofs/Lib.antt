@@ -3,7 +3,6 @@ pub mod Leading
 pub mod Chaining
 pub mod Walking
 pub mod Spending
-pub mod Exchanging
 pub mod Exchanged
 pub mod Bounding
 pub mod Narrowing
@@ -12,7 +11,6 @@ pub mod Idle
 pub mod Active
 pub mod Binding
 pub mod Bearing
-pub mod Ending
 pub mod Redirecting
 pub mod Replaying
 pub mod Deciding

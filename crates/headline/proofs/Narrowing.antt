@@ -1,7 +1,8 @@
 -- Tokens with hooks and without.
-use Rattle.std.proofs.Common.{◌≡◌, ◌≤◌, ℕ, List, [], ◌∷◌, Bool, true, false, Option, Some, None, Result, Ok, Err, min, refl, sym, ap, ◌∙◌, arith, subst}
-use Rattle.std.specs.Prelude.{◌==◌, codes, not, bytes_eq, bit_and, if◌then◌else◌}
-use Rattle.std.proofs.lemmas.Bool.{eq-eqb, eqb-true, ne_eqb}
+use Rattle.std.proofs.Common.{◌≡◌, ◌≤◌, ℕ, List, [], ◌∷◌, Bool, true, false, Option, Some, None, Result, Ok, Err, refl, sym, ap, ◌∙◌, arith, subst}
+use Rattle.std.specs.Prelude.{codes, not, bytes_eq, bit_and, if◌then◌else◌}
+use Rattle.std.proofs.lemmas.Bool.{eq-eqb}
+use Rattle.std.proofs.lemmas.Bool.Decides.{nat_tests}
 use Rattle.std.proofs.lemmas.Nat.{and_le_r}
 use Rattle.sha2.specs.Sha256.{sha256}
 use Rattle.pkce.specs.Proof.{proves}
@@ -15,34 +16,32 @@ use Rattle.authentication.specs.Authentication.{authenticated}
 use Rattle.authentication.specs.declared.authentication.AuthFault.{AuthFault}
 use Rattle.authentication.specs.declared.authentication.AuthFault.TheVariants as auth
 use Rattle.consent.specs.History.{Event, Grant, has_room, is_taken, is_spent, has_ended, is_within}
-use Rattle.consent.specs.History.Change.{Spent}
 use Rattle.consent.specs.CoveredLaws.{is_within-self}
 use Rattle.hook_record.specs.declared.Ask.{Ask}
 use Rattle.hook_record.specs.declared.Kind.TheVariants as kind
 use Rattle.hook_record.specs.declared.Narrowed.{Narrowed}
 use Rattle.hook_record.specs.declared.Narrowed.TheVariants.{Allowed, Denied, EmptyScope}
 use Rattle.hook_record.specs.Narrowing.{IsNarrowing}
-use Rattle.hook_record.specs.Narrowing as narrowing
 use Rattle.hook_host.specs.Decisions.{met_with}
 use Rattle.hook_host.specs.DecisionLaws.{met_with_narrows}
 use Rattle.messages.specs.declared.error.ErrorName.{ErrorName}
 use Rattle.messages.specs.declared.error.ErrorName.TheVariants.{InvalidRequest, InvalidClient, InvalidGrant, InvalidScope, UnauthorizedClient, UnsupportedGrantType}
 use Rattle.messages.specs.Asked.{Asked}
 use Rattle.answers.specs.Outcomes.{Extent, Outcome, point, need, refuse, unavailable, unless_denied, unless_taken, bare, chosen}
-use Rattle.answers.specs.Replies.{access_reply, both_reply}
 use Rattle.answers.specs.Requesters.{Parameters, KnownClient, form_of, known_client, with_client, scope_within}
-use Rattle.answers.specs.Setting.{HostSays, Setting}
+use Rattle.answers.specs.Setting.{Setting}
 use Rattle.answers.specs.Texts.{digest_told}
 use Rattle.answers.specs.Tokens.{code_of_client, refresh_of_client}
 use Rattle.token_endpoint.specs.ClientCredentials.{client_credentials, granted, own_ask}
 use Rattle.token_endpoint.specs.Exchange.{ends_family, exchange, exchanged, spent_in_vain}
-use Rattle.token_endpoint.specs.Grants.{access_for, access_issued, ask_for, both_digests, both_for, issued_alone, left_by_host, refresh_issued}
+use Rattle.token_endpoint.specs.Grants.{access_for, ask_for, both_digests, both_for, left_by_host}
 use Rattle.token_endpoint.specs.Refresh.{refresh}
 use Rattle.token_endpoint.specs.TokenPath.{issue_token, grant_points}
 use Rattle.headline.specs.Occasions.{Occasion, GoesTo, outcome_of, reply_on, setting_on}
 use Rattle.headline.specs.Hooked.{allows_all, without_hooks, IsNarrowed}
 use Rattle.headline.proofs.Walking.{no_error_200, other}
 use Rattle.headline.proofs.Exchanged.{at_path}
+use Rattle.headline.proofs.Ways.{both_issued, one_issued, own_issued}
 
 module _ (rules : RegistryRecord) where
   -- where the one is granted
@@ -67,24 +66,17 @@ module _ (rules : RegistryRecord) where
 -- what an ask holds some of is left of it by a host that allows all
 all_left : (ask : Ask) (scope life : ℕ) → IsNarrowing ask scope life → met_with ask (allows_all ask) ≡ Allowed ask.scope ask.life
 all_left ask scope life some =
-    ap (λ s. narrowing.left_of s (min ask.life ask.life)) (eqb-true (bit_and ask.scope ask.scope) ask.scope (is_within-self ask.scope))
-    ∙ ap (λ l. narrowing.left_of ask.scope l) (least ask.life)
-    ∙ ap (λ b. if b then EmptyScope else (if ask.life == 0 then Denied else Allowed ask.scope ask.life)) (ne_eqb ask.scope 0 (λ none. let least = and_le_r scope ask.scope in let is = some.within in let more = some.some_scope in omega (arith, least, is, more, none)))
-    ∙ ap (λ b. if b then Denied else Allowed ask.scope ask.life) (ne_eqb ask.life 0 (λ none. let few = some.no_longer in let more = some.some_life in omega (arith, few, more, none)))
-  where
-    least : (n : ℕ) → min n n ≡ n
-    least n = omega arith
+    let self = is_within-self ask.scope in
+    let least = and_le_r scope ask.scope in
+    let is = some.within in
+    let more = some.some_scope in
+    let few = some.no_longer in
+    let lives = some.some_life in
+    grind (arith, nat_tests, self, least, is, more, few, lives)
 
-within : (ask : Ask) (scope life : ℕ) → IsNarrowing ask scope life → is_within scope ask.scope ≡ true
-within ask scope life some = eq-eqb (bit_and scope ask.scope) scope some.within
-
--- what a host says that allows all, and has these names and this fault
-abbrev open_host : HostSays → HostSays
-open_host host = record { answer = allows_all; names = host.names; fault = host.fault }
-
--- the setting with such a host
+-- the setting with a host that allows all, and has these names and this fault
 abbrev open_to_all : Setting → Setting
-open_to_all s = record { rules = s.rules; history = s.history; host = open_host s.host; moment = s.moment; draws = s.draws }
+open_to_all s = record { rules = s.rules; history = s.history; host = record { answer = allows_all; names = s.host.names; fault = s.host.fault }; moment = s.moment; draws = s.draws }
 
 module _ (s : Setting) where
   -- tokens under the same digests
@@ -108,62 +100,34 @@ module _ (s : Setting) where
           let some = met_with_narrows ask (s.host.answer ask) scope life is in
           subst (λ left. Narrows s.rules (later (record { scope = scope; life = life })) (unless_denied left denied' empty' later'))
           (sym (all_left ask scope life some))
-          (each (record { scope = scope; life = life }) (record { scope = ask.scope; life = ask.life }) (within ask scope life some) some.no_longer)
+          (each (record { scope = scope; life = life }) (record { scope = ask.scope; life = ask.life }) (eq-eqb (bit_and scope ask.scope) scope some.within) some.no_longer)
 
   module _ (g : Grant) (left whole : Extent) (some : is_within left.scope whole.scope ≡ true) (short : left.life ≤ whole.life) where
     one_token : Narrows s.rules (access_for s g left) (access_for (open_to_all s) g whole)
     one_token =
         free (sha256 s.draws.first ∷ [])
-        (record {
-          reply = access_reply s.rules s.draws.first left.scope left.life;
-          changes = access_issued g s.draws.first left ∷ Spent g.digest ∷ [];
-        })
-        (record {
-          reply = access_reply s.rules s.draws.first whole.scope whole.life;
-          changes = access_issued g s.draws.first whole ∷ Spent g.digest ∷ [];
-        })
+        (one_issued s g left) (one_issued (open_to_all s) g whole)
         (λ _. record { granted = refl; told = (refl, refl, short, left.scope, whole.scope, refl, refl, some); given = (refl, refl, refl); parts = ((refl, some, short), (refl, tt)) })
 
     both_tokens : (kept most : ℕ) → is_within kept most ≡ true → Narrows s.rules (both_for s g left kept) (both_for (open_to_all s) g whole most)
     both_tokens kept most more =
         free (both_digests s.draws)
-        (record {
-          reply = both_reply s.rules s.draws left.scope left.life;
-          changes = access_issued g s.draws.first left
-              ∷ refresh_issued g s.draws.second (record { scope = kept; life = s.rules.refresh_life })
-              ∷ Spent g.digest
-              ∷ [];
-        })
-        (record {
-          reply = both_reply s.rules s.draws whole.scope whole.life;
-          changes = access_issued g s.draws.first whole
-              ∷ refresh_issued g s.draws.second (record { scope = most; life = s.rules.refresh_life })
-              ∷ Spent g.digest
-              ∷ [];
-        })
+        (both_issued s g left kept) (both_issued (open_to_all s) g whole most)
         (λ _. record { granted = refl; told = (refl, refl, short, left.scope, whole.scope, refl, refl, some); given = (refl, refl, refl); parts = ((refl, some, short), ((refl, more, omega arith), (refl, tt))) })
 
     for_code : (client : ClientRecord) → Narrows s.rules (exchanged s client g left) (exchanged (open_to_all s) client g whole)
-    for_code client = by_grant (has_grant RefreshToken client.grants)
-      where
-        by_grant : (b : Bool) →
-            Narrows s.rules (if b then both_for s g left left.scope else access_for s g left)
-            (if b then both_for (open_to_all s) g whole whole.scope else access_for (open_to_all s) g whole)
-        by_grant true = both_tokens left.scope whole.scope some
-        by_grant false = one_token
+    for_code client =
+        elim (has_grant RefreshToken client.grants) as (λ b. Narrows s.rules (if b then both_for s g left left.scope else access_for s g left)
+        (if b then both_for (open_to_all s) g whole whole.scope else access_for (open_to_all s) g whole)) [
+          | true ↦ both_tokens left.scope whole.scope some
+          | false ↦ one_token
+        ]
 
   own_token : (number : ℕ) (left whole : Extent) → is_within left.scope whole.scope ≡ true → left.life ≤ whole.life →
       Narrows s.rules (granted s number left) (granted (open_to_all s) number whole)
   own_token number left whole some short =
       free (sha256 s.draws.first ∷ [])
-      (record {
-        reply = access_reply s.rules s.draws.first left.scope left.life;
-        changes = issued_alone s number left ∷ [];
-      })
-      (record {
-        reply = access_reply s.rules s.draws.first whole.scope whole.life;
-        changes = issued_alone s number whole ∷ [];
-      })
+      (own_issued s number left) (own_issued (open_to_all s) number whole)
       (λ _. record { granted = refl; told = (refl, refl, short, left.scope, whole.scope, refl, refl, some); given = (refl, refl, refl); parts = ((refl, some, short), tt) })
 
   module _ (params : Parameters) (known : KnownClient) where
@@ -207,10 +171,8 @@ module _ (s : Setting) where
       Narrows s.rules (with_client s.rules result next) (with_client s.rules result next')
   by_client (Ok number) next next' each = both_need s.rules {A = KnownClient} (known_client s.rules number) unavailable unavailable next next' (wanting s.rules unavailable) each
   by_client (Err auth.TwoMethods) next next' each = refused s.rules InvalidRequest _
-  by_client (Err auth.NoClient) next next' each = refused s.rules InvalidClient _
-  by_client (Err auth.BadSecret) next next' each = refused s.rules InvalidClient _
-  by_client (Err auth.BadHeader) next next' each = refused s.rules InvalidClient _
   by_client (Err auth.Memory) next next' each = wanting s.rules unavailable
+  by_client (Err fault) next next' each = refused s.rules InvalidClient _
 
   issue_narrows : (asked : Asked) → Narrows s.rules (issue_token s asked) (issue_token (open_to_all s) asked)
   issue_narrows asked =

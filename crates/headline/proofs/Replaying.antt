@@ -1,19 +1,19 @@
 -- A replayed code or refresh token ends its family.
-use Rattle.std.proofs.Common.{◌≡◌, ◌⊎◌, inl, inr, ℕ, List, [], ◌∷◌, ◌++◌, Bool, true, Some, None, map, refl, sym, ap, ◌∙◌, subst}
+use Rattle.std.proofs.Common.{◌≡◌, ◌⊎◌, inl, inr, ℕ, List, [], ◌∷◌, Bool, true, Some, None, refl, sym, ap, ◌∙◌, subst}
 use Rattle.std.specs.Prelude.{◌==◌, codes, not, bytes_eq, if◌then◌else◌}
-use Rattle.std.proofs.lemmas.Bool.{and_from, eq-eqb, false≢true}
+use Rattle.std.proofs.lemmas.Bool.{and_from, eq-eqb}
 use Rattle.params.specs.Form.{value_sent}
 use Rattle.clients.specs.RegistryRecord.{RegistryRecord}
 use Rattle.clients.specs.Grants.{has_grant, grant_named}
 use Rattle.clients.specs.declared.grant.GrantType.{GrantType}
 use Rattle.clients.specs.declared.grant.GrantType.TheVariants.{AuthorizationCode, RefreshToken}
 use Rattle.authentication.specs.Authentication.{authenticated}
-use Rattle.consent.specs.History.{Event, event_at, Grant, grant_at, live_grant, is_code, is_spent, has_ended}
+use Rattle.consent.specs.History.{Event, Grant, grant_at, is_code, is_spent}
 use Rattle.consent.specs.History.Change.{FamilyEnded}
 use Rattle.consent.specs.declared.grant.Kind.{Kind}
 use Rattle.messages.specs.declared.error.ErrorName.TheVariants.{InvalidRequest, InvalidGrant, UnauthorizedClient, UnsupportedGrantType}
 use Rattle.messages.specs.Reply.Body.{Failure}
-use Rattle.answers.specs.Outcomes.{Outcome, need, point, bare, refuse, chosen, unavailable}
+use Rattle.answers.specs.Outcomes.{Outcome, need, point, bare, refuse, chosen}
 use Rattle.answers.specs.Requesters.{form_of}
 use Rattle.answers.specs.Setting.{Setting}
 use Rattle.answers.specs.Texts.{digest_told, where_passes}
@@ -21,10 +21,9 @@ use Rattle.answers.specs.Tokens.{code_of_client, is_own, is_refresh, refresh_of_
 use Rattle.token_endpoint.specs.Exchange.{ends_family, exchange}
 use Rattle.token_endpoint.specs.Refresh.{refresh}
 use Rattle.token_endpoint.specs.TokenPath.{issue_token, grant_points}
-use Rattle.headline.specs.Occasions.{Occasion, outcome_of, history_after, setting_on}
+use Rattle.headline.specs.Occasions.{Occasion, outcome_of, setting_on}
 use Rattle.headline.specs.Uses.{PresentsAs, Replays}
 use Rattle.headline.proofs.Exchanged.{at_path}
-use Rattle.headline.proofs.Spending.{ended_by, ended_stays, live_is}
 use Rattle.headline.proofs.Walking.{at_chosen, at_need, at_point, at_some, at_true, same_some}
 use Rattle.headline.proofs.Ways.{Sender, at_sender, number_in}
 
@@ -34,12 +33,6 @@ module _ (rules : RegistryRecord) (history : List Event) (occasion : Occasion) (
 
   abbrev Ended : Outcome → Type 0
   Ended o = o.reply.body ≡ Failure InvalidGrant → o.changes ≡ FamilyEnded g.family ∷ []
-
-  wanting : Ended unavailable
-  wanting e = absurd (cc)
-
-  no_request : Failure InvalidRequest ≡ Failure InvalidGrant → ⊥
-  no_request e = absurd (cc)
 
   own : (test : Kind → Bool) → test g.kind ≡ true → (number : ℕ) → number ≡ g.client →
       where_passes (is_own test number) (grant_at history g.digest occasion.arrival.moment) ≡ Some g
@@ -59,8 +52,8 @@ module _ (rules : RegistryRecord) (history : List Event) (occasion : Occasion) (
     by_exchange : PresentsAs (codes "authorization_code") (codes "code") sender.params text → is_code g.kind ≡ true → Ended (exchange s sender.params sender.known)
     by_exchange presents code =
         at_some Ended {A = List ℕ} (value_sent (codes "code") sender.params) text (refuse InvalidRequest) _ presents.1
-        (at_need Ended {A = List ℕ} (value_sent (codes "redirect_uri") sender.params) (refuse InvalidRequest) _ (λ e. absurd (no_request e)) (λ uri _.
-        at_need Ended {A = List ℕ} (value_sent (codes "code_verifier") sender.params) (refuse InvalidRequest) _ (λ e. absurd (no_request e)) (λ verifier _.
+        (at_need Ended {A = List ℕ} (value_sent (codes "redirect_uri") sender.params) (refuse InvalidRequest) _ (λ e. absurd (cc)) (λ uri _.
+        at_need Ended {A = List ℕ} (value_sent (codes "code_verifier") sender.params) (refuse InvalidRequest) _ (λ e. absurd (cc)) (λ verifier _.
         at_some Ended {A = List ℕ} (digest_told text) g.digest (refuse InvalidGrant) _ it.told
         (at_some Ended {A = Grant} (code_of_client s.history s.moment sender.known.number g.digest) g (refuse InvalidGrant) _
         (own is_code code sender.known.number number_is)
@@ -74,39 +67,31 @@ module _ (rules : RegistryRecord) (history : List Event) (occasion : Occasion) (
         (own is_refresh kind sender.known.number number_is)
         (at_true Ended (is_spent s.history g.digest s.moment) (ends_family g) _ it.used (λ _. refl))))
 
-    -- by the grant type that is named
-    typed : (name : List ℕ) (grant : GrantType) → value_sent (codes "grant_type") sender.params ≡ Some name → grant_named name ≡ Some grant →
-        Ended (grant_points grant s sender.params sender.known) →
-        Ended (need (value_sent (codes "grant_type") sender.params) (refuse InvalidRequest) (λ n.
+    -- the points of the grant type that is named
+    abbrev points : Outcome
+    points =
+        need (value_sent (codes "grant_type") sender.params) (refuse InvalidRequest) (λ n.
         need (grant_named n) (refuse UnsupportedGrantType) (λ x.
-        point (not (has_grant x sender.known.client.grants)) (refuse UnauthorizedClient) (grant_points x s sender.params sender.known))))
+        point (not (has_grant x sender.known.client.grants)) (refuse UnauthorizedClient) (grant_points x s sender.params sender.known)))
+
+    typed : (name : List ℕ) (grant : GrantType) → value_sent (codes "grant_type") sender.params ≡ Some name → grant_named name ≡ Some grant →
+        Ended (grant_points grant s sender.params sender.known) → Ended points
     typed name grant is named ended =
         at_some Ended {A = List ℕ} (value_sent (codes "grant_type") sender.params) name (refuse InvalidRequest) _ is
         (at_some Ended {A = GrantType} (grant_named name) grant (refuse UnsupportedGrantType) _ named
         (at_point Ended (not (has_grant grant sender.known.client.grants)) (refuse UnauthorizedClient) _ (λ _ e. absurd (cc)) (λ _. ended)))
 
     presented : (PresentsAs (codes "authorization_code") (codes "code") sender.params text × (is_code g.kind ≡ true)) ⊎ (PresentsAs (codes "refresh_token") (codes "refresh_token") sender.params text × (is_refresh g.kind ≡ true)) →
-        Ended (need (value_sent (codes "grant_type") sender.params) (refuse InvalidRequest) (λ n.
-        need (grant_named n) (refuse UnsupportedGrantType) (λ x.
-        point (not (has_grant x sender.known.client.grants)) (refuse UnauthorizedClient) (grant_points x s sender.params sender.known))))
+        Ended points
     presented (inl by_code) = typed (codes "authorization_code") AuthorizationCode by_code.0.0 refl (by_exchange by_code.0 by_code.1)
     presented (inr by_token) = typed (codes "refresh_token") RefreshToken by_token.0.0 refl (by_refresh by_token.0 by_token.1)
 
-  ended : (outcome_of rules history occasion).changes ≡ FamilyEnded g.family ∷ []
+  pub ended : (outcome_of rules history occasion).changes ≡ FamilyEnded g.family ∷ []
   ended =
       let o = issue_token s occasion.arrival.asked in
       let there : outcome_of rules history occasion ≡ at_path rules history occasion (codes "/token") = ap (at_path rules history occasion) it.goes_to in
       subst Ended (sym there)
       (at_point Ended (not (bytes_eq occasion.arrival.asked.method (codes "POST"))) (bare 405) (chosen occasion.refused o) (λ _ e. absurd (cc)) (λ _.
-      at_chosen Ended occasion.refused o wanting
-      (at_sender Ended rules occasion.arrival.asked _ (λ e. absurd (no_request e)) (λ e. absurd (cc)) wanting (λ sender.
+      at_chosen Ended occasion.refused o (λ e. absurd (cc))
+      (at_sender Ended rules occasion.arrival.asked _ (λ e. absurd (cc)) (λ e. absurd (cc)) (λ e. absurd (cc)) (λ sender.
       presented sender (subst (λ p. (PresentsAs (codes "authorization_code") (codes "code") p text × (is_code g.kind ≡ true)) ⊎ (PresentsAs (codes "refresh_token") (codes "refresh_token") p text × (is_refresh g.kind ≡ true))) (same_params sender) it.presents))))) it.denied
-
-  pub replay_kills : (later : List Event) (found : Grant) (digest : List ℕ) (moment : ℕ) →
-      live_grant (history_after rules history occasion ++ later) digest moment ≡ Some found → found.family ≡ g.family → ⊥
-  replay_kills later found digest moment live kin =
-      let whole = history_after rules history occasion ++ later in
-      let alive = (live_is whole digest moment found live).1 in
-      let was = ended_stays (history_after rules history occasion) later found.family alive in
-      false≢true (sym was ∙ ap (λ cs. has_ended (history ++ map (event_at occasion.arrival.moment) cs) found.family) ended
-      ∙ ended_by history (event_at occasion.arrival.moment (FamilyEnded g.family)) found.family (eq-eqb g.family found.family (sym kin)))

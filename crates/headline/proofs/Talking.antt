@@ -1,8 +1,8 @@
 -- Connections are conversations, event by event.
-use Rattle.std.proofs.Common.{◌≡◌, inl, inr, ◌+◌, ℕ, suc, zero, List, [], ◌∷◌, ◌++◌, Bool, true, false, Some, None, cond, append_assoc, append-nil, refl, sym, ap, arith, subst, ◌∙◌}
+use Rattle.std.proofs.Common.{◌≡◌, inl, inr, ◌+◌, ℕ, List, [], ◌∷◌, ◌++◌, Bool, true, false, Some, None, cond, append_assoc, append-nil, refl, sym, ap, subst, ◌∙◌}
 use Rattle.std.specs.Prelude.{◌==◌, All, map}
 use Rattle.std.proofs.lemmas.List.{map-append}
-use Rattle.std.proofs.lemmas.List.Elements.{All-append}
+use Rattle.std.proofs.lemmas.List.Elements.{All-append, All-cons, All-nil}
 use Rattle.std.proofs.lemmas.List.Concat.{flat_map-append}
 use Rattle.hook_host.specs.declared.host.HookHost.{Ghosts as Hosting}
 use Rattle.consent.specs.History.{Event, with_changes}
@@ -18,20 +18,12 @@ use Rattle.http_edge.specs.declared.lane.Phase.TheVariants as phase
 use Rattle.headline.specs.Conversations.{Conversation, HasConversations, HasOutcome}
 use Rattle.http_edge.proofs.Connections.{by_number, same_connection, found_number, found_put, found_fresh, found_gone, put_other, added_other, without_other}
 
--- the first and all others are all
-all_first : {A : Type 0} (P : A → Type 0) (x : A) (xs : List A) → P x → All P xs → All P (x ∷ xs)
-all_first P x xs p all zero d below = p
-all_first P x xs p all (suc k) d below = all k d (omega (arith, below))
-
-all_none : {A : Type 0} (P : A → Type 0) → All P []
-all_none P k d below = absurd (omega (arith, below))
-
 -- requests that were answered one after another have outcomes
 have_outcomes : {H : Type 0} (hosting : Hosting H) (outset : Outset H) (m : ℕ) (history : List Event) (requests : List AnsweredRequest) →
     AreAnswered hosting outset m history requests → All (HasOutcome hosting outset) requests
-have_outcomes hosting outset m history [] a = all_none (HasOutcome hosting outset)
+have_outcomes hosting outset m history [] a = All-nil (HasOutcome hosting outset)
 have_outcomes hosting outset m history (r ∷ requests) a =
-    all_first (HasOutcome hosting outset) r requests (record { moment = m; history = history; answered = a.0 })
+    All-cons (HasOutcome hosting outset) r requests (record { moment = m; history = history; answered = a.0 })
     (have_outcomes hosting outset m (with_changes history m r.outcome.changes) requests a.1)
 
 -- more requests ask what more messages ask
@@ -44,9 +36,7 @@ join_asked messages more requests later a b =
 -- a stream's end tells nothing of faulty heads
 closing_stays : (p : Phase) → is_closing_phase (ended p) ≡ is_closing_phase p
 closing_stays phase.Open = refl
-closing_stays phase.Closing = refl
-closing_stays phase.Ended = refl
-closing_stays phase.Closed = refl
+closing_stays _ = refl
 
 closing_told : (closes : Bool) → is_closing_phase (cond closes phase.Closing phase.Open) ≡ closes
 closing_told true = refl
@@ -75,7 +65,7 @@ module _ {H : Type 0} (hosting : Hosting H) (outset : Outset H) where
     talks_opened opens d k here =
         by_number c d (λ b. Conversation hosting outset k)
         (λ same. becomes d k (fresh c) same (rw opens.connections (found_fresh old.connections c opens.absent)) here
-        (record { rest = []; reads = record { reads = refl; none = nothing_has_none }; requests = []; asked = refl; each = all_none (HasOutcome hosting outset); replies = refl }))
+        (record { rest = []; reads = record { reads = refl; none = nothing_has_none }; requests = []; asked = refl; each = All-nil (HasOutcome hosting outset); replies = refl }))
         (λ other. stays d k (rw opens.connections (added_other old.connections c d other)) here)
 
     talks_ended : StreamEnds old new c → HasConversations hosting outset new

@@ -1,8 +1,8 @@
 -- The ways that a request may go to its outcome, and what it has passed on each.
-use Rattle.std.proofs.Common.{◌≡◌, ℕ, List, [], ◌∷◌, Bool, true, false, Option, Some, None, Result, Ok, Err, cond, length, refl, sym, ap, ◌∙◌, subst}
-use Rattle.std.specs.Prelude.{◌==◌, codes, not, bytes_eq, if◌then◌else◌, option_map, option_and_then}
+use Rattle.std.proofs.Common.{◌≡◌, ℕ, List, [], ◌∷◌, Bool, true, false, Option, Some, None, Result, Ok, Err, length, refl, sym, ap, ◌∙◌, arith}
+use Rattle.std.specs.Prelude.{◌==◌, codes, not, bytes_eq, if◌then◌else◌, option_and_then}
 use Rattle.std.specs.Result.{result_ok}
-use Rattle.std.proofs.lemmas.Bool.{and_parts, eqb-true, false≢true}
+use Rattle.std.proofs.lemmas.Bool.{and_parts, eqb-true, false≢true, not-true}
 use Rattle.std.proofs.lemmas.Slice.Eq.{bytes_eq-Decides}
 use Rattle.sha2.specs.Sha256.{sha256}
 use Rattle.pkce.specs.Proof.{proves}
@@ -36,7 +36,7 @@ use Rattle.messages.specs.Asked.{Asked}
 use Rattle.messages.specs.Members.{Member}
 use Rattle.messages.specs.Target.{path_of, query_of}
 use Rattle.messages.specs.Reply.{Body, consent_body, hook_body, plain, refused_body, sent_back}
-use Rattle.messages.specs.Reply.Body.{Empty, Failure, Tokens, Active, Inactive, Told}
+use Rattle.messages.specs.Reply.Body.{Empty, Inactive, Told}
 use Rattle.answers.specs.declared.endpoint.Endpoint.{Endpoint}
 use Rattle.answers.specs.declared.endpoint.Endpoint.TheVariants.{Authorize, GiveConsent, IssueToken, RevokeToken, Introspect, InstallHook, RemoveHook, Read}
 use Rattle.answers.specs.Outcomes.{Extent, Outcome, need, only, refuse, bare, unavailable, unless_denied, status_of}
@@ -54,12 +54,13 @@ use Rattle.token_endpoint.specs.TokenPath.{issue_token, grant_points}
 use Rattle.endpoints.specs.Authorize.{authorize, challenge_sent, redirect_sent, state_sent, turned_back}
 use Rattle.endpoints.specs.ConsentPath.{give_consent}
 use Rattle.endpoints.specs.Revoke.{revoke_token, revoked}
-use Rattle.endpoints.specs.HookPaths.{change_hooks, by_fault, installation, removal, is_operator, hook_name, hook_set, hook_set_by, hook_gone, version_asked}
+use Rattle.endpoints.specs.HookPaths.{change_hooks, by_fault, installation, removal, is_operator}
 use Rattle.endpoints.specs.Introspect.{introspect, told_of}
 use Rattle.endpoints.specs.Documents.{document_outcome}
 use Rattle.endpoints.specs.Replies.{outcome_at}
+use Rattle.headline.specs.Activity.{IsActive}
 use Rattle.headline.specs.Occasions.{Occasion, outcome_of, setting_on}
-use Rattle.headline.proofs.Walking.{at_point, at_need, at_untaken, at_chosen, other}
+use Rattle.headline.proofs.Walking.{at_point, at_unless, at_need, at_untaken, at_chosen, other, through}
 
 -- WHO ASKS
 
@@ -79,25 +80,11 @@ number_in (Err fault) = 0
 -- a client that is known has its number
 known_is : (rules : RegistryRecord) (number : ℕ) (known : KnownClient) → known_client rules number ≡ Some known →
     (number ≡ known.number) × (client_at number rules.clients ≡ Some known.client)
-known_is rules number known e = by_client (client_at number rules.clients) refl e
-  where
-    by_client : (o : Option ClientRecord) → client_at number rules.clients ≡ o →
-        option_map (λ client. let k : KnownClient = record { number = number; client = client } in k) o ≡ Some known →
-        (number ≡ known.number) × (client_at number rules.clients ≡ Some known.client)
-    by_client None at h = absurd (cc)
-    by_client (Some client) at h =
-        let k : KnownClient = record { number = number; client = client } in
-        let same : k ≡ known = cc in
-        (ap (λ (x : KnownClient). x.number) same, at ∙ ap (λ (x : KnownClient). Some x.client) same)
+known_is rules number known e = (grind (arith, e), grind (arith, e))
 
 -- what passes a test is there, and passes it
 pub passes : {A : Type 0} (test : A → Bool) (o : Option A) (x : A) → where_passes test o ≡ Some x → (o ≡ Some x) × (test x ≡ true)
-passes test None x e = absurd (cc)
-passes {A = A} test (Some y) x e = by_test (test y) refl e
-  where
-    by_test : (b : Bool) → test y ≡ b → (cond b (Some y) None) ≡ Some x → (Some y ≡ Some x) × (test x ≡ true)
-    by_test true is h = let same : y ≡ x = cc in (h, ap test (sym same) ∙ is)
-    by_test false is h = absurd (cc)
+passes test o x e = (grind (arith, e), grind (arith, e))
 
 -- it is of this kind and this client's
 own_is : (test : Kind → Bool) (client : ℕ) (o : Option Grant) (g : Grant) → where_passes (is_own test client) o ≡ Some g →
@@ -113,29 +100,12 @@ type_name AuthorizationCode = codes "authorization_code"
 type_name RefreshToken = codes "refresh_token"
 type_name ClientCredentials = codes "client_credentials"
 
-same_type : (t u : GrantType) → Some t ≡ Some u → t ≡ u
-same_type t u e = cc
-
 pub named_is : (name : List ℕ) (t : GrantType) → grant_named name ≡ Some t → name ≡ type_name t
-named_is name t e = by_code (bytes_eq name (codes "authorization_code")) refl e
-  where
-    is_name : (u : GrantType) → bytes_eq name (type_name u) ≡ true → Some u ≡ Some t → name ≡ type_name t
-    is_name u is h = (bytes_eq-Decides name (type_name u)).0 is ∙ ap type_name (same_type u t h)
-
-    by_own : (b : Bool) → bytes_eq name (codes "client_credentials") ≡ b → (if b then Some ClientCredentials else None) ≡ Some t → name ≡ type_name t
-    by_own true is h = is_name ClientCredentials is h
-    by_own false is h = absurd (cc)
-
-    by_refresh : (b : Bool) → bytes_eq name (codes "refresh_token") ≡ b →
-        (if b then Some RefreshToken else (if bytes_eq name (codes "client_credentials") then Some ClientCredentials else None)) ≡ Some t → name ≡ type_name t
-    by_refresh true is h = is_name RefreshToken is h
-    by_refresh false is h = by_own (bytes_eq name (codes "client_credentials")) refl h
-
-    by_code : (b : Bool) → bytes_eq name (codes "authorization_code") ≡ b →
-        (if b then Some AuthorizationCode else (if bytes_eq name (codes "refresh_token") then Some RefreshToken
-        else (if bytes_eq name (codes "client_credentials") then Some ClientCredentials else None))) ≡ Some t → name ≡ type_name t
-    by_code true is h = is_name AuthorizationCode is h
-    by_code false is h = by_refresh (bytes_eq name (codes "refresh_token")) refl h
+named_is name t e =
+    let code = (bytes_eq-Decides name (codes "authorization_code")).0 in
+    let refresh = (bytes_eq-Decides name (codes "refresh_token")).0 in
+    let own = (bytes_eq-Decides name (codes "client_credentials")).0 in
+    grind (arith, e, code, refresh, own)
 
 -- TOKENS
 
@@ -202,22 +172,32 @@ own_issued s client left = record {
 abbrev pub IsLeft : Setting → Ask → Extent → Type 0
 IsLeft s ask left = left_by_host s ask ≡ Allowed left.scope left.life
 
--- what holds on each way of a request for tokens
-pub record TokenWays (P : Outcome → Type 0) (s : Setting) (asked : Asked) : Type 0 where
-  pub refused : (error : ErrorName) → P (refuse error)
-  pub wanting : P unavailable
-  pub code_again : (x : CodeUse s asked) → is_spent s.history x.digest s.moment ≡ true → P (ends_family x.grant)
-  pub refresh_again : (x : RefreshUse s asked) → is_spent s.history x.digest s.moment ≡ true → P (ends_family x.grant)
-  pub in_vain : (x : Proven s asked) (error : ErrorName) → P (spent_in_vain x.code.grant error)
-  pub code_once : (x : Proven s asked) (left : Extent) → IsLeft s (ask_for s x.code.sender.known kind.Code x.code.grant.owner x.code.grant.scope) left →
-      is_taken s.history s.moment (sha256 s.draws.first ∷ []) ≡ false → P (one_issued s x.code.grant left)
-  pub code_twice : (x : Proven s asked) (left : Extent) → IsLeft s (ask_for s x.code.sender.known kind.Code x.code.grant.owner x.code.grant.scope) left →
-      is_taken s.history s.moment (both_digests s.draws) ≡ false → P (both_issued s x.code.grant left left.scope)
-  pub refreshed : (x : Refreshing s asked) (left : Extent) → IsLeft s (ask_for s x.token.sender.known kind.Refresh x.token.grant.owner x.scope) left →
-      is_taken s.history s.moment (both_digests s.draws) ≡ false → P (both_issued s x.token.grant left x.token.grant.scope)
-  pub own : (sender : Sender s.rules asked) → value_sent (codes "grant_type") sender.params ≡ Some (codes "client_credentials") →
+-- the ways of a request for tokens
+pub data TokenWay (s : Setting) (asked : Asked) : Type 0 where
+  Refused : ErrorName → TokenWay s asked
+  Wanting : TokenWay s asked
+  Again : (type name : List ℕ) (test : Kind → Bool) (x : Use s asked type name test) → is_spent s.history x.digest s.moment ≡ true → TokenWay s asked
+  InVain : Proven s asked → ErrorName → TokenWay s asked
+  Once : (x : Proven s asked) (left : Extent) → IsLeft s (ask_for s x.code.sender.known kind.Code x.code.grant.owner x.code.grant.scope) left →
+      is_taken s.history s.moment (sha256 s.draws.first ∷ []) ≡ false → TokenWay s asked
+  Twice : (x : Proven s asked) (left : Extent) → IsLeft s (ask_for s x.code.sender.known kind.Code x.code.grant.owner x.code.grant.scope) left →
+      is_taken s.history s.moment (both_digests s.draws) ≡ false → TokenWay s asked
+  Refreshed : (x : Refreshing s asked) (left : Extent) → IsLeft s (ask_for s x.token.sender.known kind.Refresh x.token.grant.owner x.scope) left →
+      is_taken s.history s.moment (both_digests s.draws) ≡ false → TokenWay s asked
+  Own : (sender : Sender s.rules asked) → value_sent (codes "grant_type") sender.params ≡ Some (codes "client_credentials") →
       (scope : ℕ) (left : Extent) → IsLeft s (own_ask s sender.known scope) left →
-      is_taken s.history s.moment (sha256 s.draws.first ∷ []) ≡ false → P (own_issued s sender.known.number left)
+      is_taken s.history s.moment (sha256 s.draws.first ∷ []) ≡ false → TokenWay s asked
+
+-- where they lead
+abbrev pub token_outcome : {s : Setting} {asked : Asked} → TokenWay s asked → Outcome
+token_outcome (Refused error) = refuse error
+token_outcome Wanting = unavailable
+token_outcome (Again type name test x spent) = ends_family x.grant
+token_outcome (InVain x error) = spent_in_vain x.code.grant error
+token_outcome {s = s} (Once x left is untaken) = one_issued s x.code.grant left
+token_outcome {s = s} (Twice x left is untaken) = both_issued s x.code.grant left left.scope
+token_outcome {s = s} (Refreshed x left is untaken) = both_issued s x.token.grant left x.token.grant.scope
+token_outcome {s = s} (Own sender typed scope left is untaken) = own_issued s sender.known.number left
 
 module _ (P : Outcome → Type 0) where
   pub at_left : (s : Setting) (ask : Ask) (denied empty : Outcome) (later : Extent → Outcome) →
@@ -250,30 +230,25 @@ module _ (P : Outcome → Type 0) where
             is_client = ap (λ n. client_at n rules.clients) (sym it.0) ∙ it.1;
           }))
       by_client params form (Err auth.TwoMethods) is = r
-      by_client params form (Err auth.NoClient) is = c
-      by_client params form (Err auth.BadSecret) is = c
-      by_client params form (Err auth.BadHeader) is = c
       by_client params form (Err auth.Memory) is = u
+      by_client params form (Err fault) is = c
 
-module _ (P : Outcome → Type 0) (s : Setting) (asked : Asked) (ways : TokenWays P s asked) where
+module _ (P : Outcome → Type 0) (s : Setting) (asked : Asked) (ways : (way : TokenWay s asked) → P (token_outcome way)) where
   module _ (sender : Sender s.rules asked) where
     for_code : (x : Proven s asked) (left : Extent) → IsLeft s (ask_for s x.code.sender.known kind.Code x.code.grant.owner x.code.grant.scope) left →
         (client : ClientRecord) → P (exchanged s client x.code.grant left)
     for_code x left is client = by_grant (has_grant RefreshToken client.grants)
       where
         by_grant : (b : Bool) → P (if b then both_for s x.code.grant left left.scope else access_for s x.code.grant left)
-        by_grant true = at_untaken P s (both_digests s.draws) (both_issued s x.code.grant left left.scope) ways.wanting (ways.code_twice x left is)
-        by_grant false = at_untaken P s (sha256 s.draws.first ∷ []) (one_issued s x.code.grant left) ways.wanting (ways.code_once x left is)
+        by_grant true = at_untaken P s (both_digests s.draws) (both_issued s x.code.grant left left.scope) (ways Wanting) (λ untaken. ways (Twice x left is untaken))
+        by_grant false = at_untaken P s (sha256 s.draws.first ∷ []) (one_issued s x.code.grant left) (ways Wanting) (λ untaken. ways (Once x left is untaken))
 
-    in_exchange : value_sent (codes "grant_type") sender.params ≡ Some (codes "authorization_code") → P (exchange s sender.params sender.known)
-    in_exchange typed =
-        at_need P {A = List ℕ} (value_sent (codes "code") sender.params) (refuse InvalidRequest) _ (ways.refused InvalidRequest) (λ text sent.
-        at_need P {A = List ℕ} (value_sent (codes "redirect_uri") sender.params) (refuse InvalidRequest) _ (ways.refused InvalidRequest) (λ uri led.
-        at_need P {A = List ℕ} (value_sent (codes "code_verifier") sender.params) (refuse InvalidRequest) _ (ways.refused InvalidRequest) (λ verifier verified.
-        at_need P {A = List ℕ} (digest_told text) (refuse InvalidGrant) _ (ways.refused InvalidGrant) (λ digest told.
-        at_need P {A = Grant} (code_of_client s.history s.moment sender.known.number digest) (refuse InvalidGrant) _ (ways.refused InvalidGrant) (λ g found.
-        let is = own_is is_code sender.known.number (grant_at s.history digest s.moment) g found in
-        let code : CodeUse s asked = record {
+    abbrev use_of : (type name : List ℕ) (test : Kind → Bool) → value_sent (codes "grant_type") sender.params ≡ Some type → (text : List ℕ) → value_sent name sender.params ≡ Some text →
+        (digest : List ℕ) → digest_told text ≡ Some digest → (g : Grant) → where_passes (is_own test sender.known.number) (grant_at s.history digest s.moment) ≡ Some g →
+        Use s asked type name test
+    use_of type name test typed text sent digest told g found =
+        let is = own_is test sender.known.number (grant_at s.history digest s.moment) g found in
+        record {
           sender = sender;
           typed = typed;
           text = text;
@@ -284,59 +259,52 @@ module _ (P : Outcome → Type 0) (s : Setting) (asked : Asked) (ways : TokenWay
           named = is.0;
           kind_is = is.1;
           own = is.2;
-        } in
-        at_point P (is_spent s.history digest s.moment) (ends_family g) _ (λ spent. ways.code_again code spent) (λ unspent.
-        at_point P (has_ended s.history g.family) (refuse InvalidGrant) _ (λ _. ways.refused InvalidGrant) (λ alive.
-        at_point P (not (bytes_eq uri g.redirect)) (refuse InvalidGrant) _ (λ _. ways.refused InvalidGrant) (λ same.
-        at_point P (not (proves verifier g.challenge)) (refuse InvalidGrant) _ (λ _. ways.refused InvalidGrant) (λ proven.
+        }
+
+    in_exchange : value_sent (codes "grant_type") sender.params ≡ Some (codes "authorization_code") → P (exchange s sender.params sender.known)
+    in_exchange typed =
+        at_need P {A = List ℕ} (value_sent (codes "code") sender.params) (refuse InvalidRequest) _ (ways (Refused InvalidRequest)) (λ text sent.
+        at_need P {A = List ℕ} (value_sent (codes "redirect_uri") sender.params) (refuse InvalidRequest) _ (ways (Refused InvalidRequest)) (λ uri led.
+        at_need P {A = List ℕ} (value_sent (codes "code_verifier") sender.params) (refuse InvalidRequest) _ (ways (Refused InvalidRequest)) (λ verifier verified.
+        at_need P {A = List ℕ} (digest_told text) (refuse InvalidGrant) _ (ways (Refused InvalidGrant)) (λ digest told.
+        at_need P {A = Grant} (code_of_client s.history s.moment sender.known.number digest) (refuse InvalidGrant) _ (ways (Refused InvalidGrant)) (λ g found.
+        let code = use_of (codes "authorization_code") (codes "code") is_code typed text sent digest told g found in
+        at_point P (is_spent s.history digest s.moment) (ends_family g) _ (λ spent. ways (Again _ _ is_code code spent)) (λ unspent.
+        at_point P (has_ended s.history g.family) (refuse InvalidGrant) _ (λ _. ways (Refused InvalidGrant)) (λ alive.
+        at_unless P (bytes_eq uri g.redirect) (refuse InvalidGrant) _ (ways (Refused InvalidGrant)) (λ same.
+        at_unless P (proves verifier g.challenge) (refuse InvalidGrant) _ (ways (Refused InvalidGrant)) (λ proven.
         let x : Proven s asked = record {
           code = code;
           unspent = unspent;
           alive = alive;
-          redirected = led ∙ ap (λ u. Some u) ((bytes_eq-Decides uri g.redirect).0 (is_so (bytes_eq uri g.redirect) same));
+          redirected = led ∙ ap (λ u. Some u) ((bytes_eq-Decides uri g.redirect).0 same);
           verifier = verifier;
           verified = verified;
-          proven = is_so (proves verifier g.challenge) proven;
+          proven = proven;
         } in
         at_left P s (ask_for s sender.known kind.Code g.owner g.scope) (spent_in_vain g InvalidGrant) (spent_in_vain g InvalidScope) _
-        (ways.in_vain x InvalidGrant) (ways.in_vain x InvalidScope) (λ left is. for_code x left is sender.known.client))))))))))
-      where
-        is_so : (b : Bool) → not b ≡ false → b ≡ true
-        is_so true e = refl
-        is_so false e = absurd (false≢true (sym e))
+        (ways (InVain x InvalidGrant)) (ways (InVain x InvalidScope)) (λ left is. for_code x left is sender.known.client))))))))))
 
     in_refresh : value_sent (codes "grant_type") sender.params ≡ Some (codes "refresh_token") → P (refresh s sender.params sender.known)
     in_refresh typed =
-        at_need P {A = List ℕ} (value_sent (codes "refresh_token") sender.params) (refuse InvalidRequest) _ (ways.refused InvalidRequest) (λ text sent.
-        at_need P {A = List ℕ} (digest_told text) (refuse InvalidGrant) _ (ways.refused InvalidGrant) (λ digest told.
-        at_need P {A = Grant} (refresh_of_client s.history s.moment sender.known.number digest) (refuse InvalidGrant) _ (ways.refused InvalidGrant) (λ g found.
-        let is = own_is is_refresh sender.known.number (grant_at s.history digest s.moment) g found in
-        let token : RefreshUse s asked = record {
-          sender = sender;
-          typed = typed;
-          text = text;
-          sent = sent;
-          digest = digest;
-          told = told;
-          grant = g;
-          named = is.0;
-          kind_is = is.1;
-          own = is.2;
-        } in
-        at_point P (is_spent s.history digest s.moment) (ends_family g) _ (λ spent. ways.refresh_again token spent) (λ unspent.
-        at_point P (has_ended s.history g.family) (refuse InvalidGrant) _ (λ _. ways.refused InvalidGrant) (λ alive.
-        at_need P {A = ℕ} (scope_within s.rules g.scope sender.params) (refuse InvalidScope) _ (ways.refused InvalidScope) (λ scope asks.
+        at_need P {A = List ℕ} (value_sent (codes "refresh_token") sender.params) (refuse InvalidRequest) _ (ways (Refused InvalidRequest)) (λ text sent.
+        at_need P {A = List ℕ} (digest_told text) (refuse InvalidGrant) _ (ways (Refused InvalidGrant)) (λ digest told.
+        at_need P {A = Grant} (refresh_of_client s.history s.moment sender.known.number digest) (refuse InvalidGrant) _ (ways (Refused InvalidGrant)) (λ g found.
+        let token = use_of (codes "refresh_token") (codes "refresh_token") is_refresh typed text sent digest told g found in
+        at_point P (is_spent s.history digest s.moment) (ends_family g) _ (λ spent. ways (Again _ _ is_refresh token spent)) (λ unspent.
+        at_point P (has_ended s.history g.family) (refuse InvalidGrant) _ (λ _. ways (Refused InvalidGrant)) (λ alive.
+        at_need P {A = ℕ} (scope_within s.rules g.scope sender.params) (refuse InvalidScope) _ (ways (Refused InvalidScope)) (λ scope asks.
         at_left P s (ask_for s sender.known kind.Refresh g.owner scope) (refuse InvalidGrant) (refuse InvalidScope) _
-        (ways.refused InvalidGrant) (ways.refused InvalidScope) (λ left is.
-        at_untaken P s (both_digests s.draws) (both_issued s g left g.scope) ways.wanting
-        (ways.refreshed (record { token = token; unspent = unspent; alive = alive; scope = scope; asks = asks }) left is))))))))
+        (ways (Refused InvalidGrant)) (ways (Refused InvalidScope)) (λ left is.
+        at_untaken P s (both_digests s.draws) (both_issued s g left g.scope) (ways Wanting)
+        (λ untaken. ways (Refreshed (record { token = token; unspent = unspent; alive = alive; scope = scope; asks = asks }) left is untaken)))))))))
 
     in_own : value_sent (codes "grant_type") sender.params ≡ Some (codes "client_credentials") → P (client_credentials s sender.params sender.known)
     in_own typed =
-        at_need P {A = ℕ} (scope_within s.rules sender.known.client.allowed sender.params) (refuse InvalidScope) _ (ways.refused InvalidScope) (λ scope _.
+        at_need P {A = ℕ} (scope_within s.rules sender.known.client.allowed sender.params) (refuse InvalidScope) _ (ways (Refused InvalidScope)) (λ scope _.
         at_left P s (own_ask s sender.known scope) (refuse UnauthorizedClient) (refuse InvalidScope) _
-        (ways.refused UnauthorizedClient) (ways.refused InvalidScope) (λ left is.
-        at_untaken P s (sha256 s.draws.first ∷ []) (own_issued s sender.known.number left) ways.wanting (ways.own sender typed scope left is)))
+        (ways (Refused UnauthorizedClient)) (ways (Refused InvalidScope)) (λ left is.
+        at_untaken P s (sha256 s.draws.first ∷ []) (own_issued s sender.known.number left) (ways Wanting) (λ untaken. ways (Own sender typed scope left is untaken))))
 
     by_type : (grant : GrantType) → value_sent (codes "grant_type") sender.params ≡ Some (type_name grant) → P (grant_points grant s sender.params sender.known)
     by_type AuthorizationCode typed = in_exchange typed
@@ -345,10 +313,10 @@ module _ (P : Outcome → Type 0) (s : Setting) (asked : Asked) (ways : TokenWay
 
   pub at_token : P (issue_token s asked)
   at_token =
-      at_sender P s.rules asked _ (ways.refused InvalidRequest) (ways.refused InvalidClient) ways.wanting (λ sender.
-      at_need P {A = List ℕ} (value_sent (codes "grant_type") sender.params) (refuse InvalidRequest) _ (ways.refused InvalidRequest) (λ name typed.
-      at_need P {A = GrantType} (grant_named name) (refuse UnsupportedGrantType) _ (ways.refused UnsupportedGrantType) (λ grant is.
-      at_point P (not (has_grant grant sender.known.client.grants)) (refuse UnauthorizedClient) _ (λ _. ways.refused UnauthorizedClient) (λ _.
+      at_sender P s.rules asked _ (ways (Refused InvalidRequest)) (ways (Refused InvalidClient)) (ways Wanting) (λ sender.
+      at_need P {A = List ℕ} (value_sent (codes "grant_type") sender.params) (refuse InvalidRequest) _ (ways (Refused InvalidRequest)) (λ name typed.
+      at_need P {A = GrantType} (grant_named name) (refuse UnsupportedGrantType) _ (ways (Refused UnsupportedGrantType)) (λ grant is.
+      at_unless P (has_grant grant sender.known.client.grants) (refuse UnauthorizedClient) _ (ways (Refused UnauthorizedClient)) (λ _.
       by_type sender grant (typed ∙ ap (λ n. Some n) (named_is name grant is))))))
 
 -- ALL PATHS
@@ -374,56 +342,55 @@ pub record Shown (s : Setting) (asked : Asked) : Type 0 where
   pub live : live_grant s.history digest s.moment ≡ Some token
   pub no_code : is_code token.kind ≡ false
 
--- a body of another kind than what is told of tokens
-abbrev pub IsQuiet : Body → Type 0
-IsQuiet (Active client expires issued scope sub kind) = ⊥
-IsQuiet (Tokens access life refresh scope) = ⊥
-IsQuiet body = Unit {0}
-
 -- the change is of the hooks
-abbrev pub IsOfHooks : Change → Type 0
-IsOfHooks (HookSet name version code) = Unit {0}
-IsOfHooks (HookGone name) = Unit {0}
-IsOfHooks change = ⊥
+abbrev is_of_hooks : Change → Bool
+is_of_hooks (HookSet name version code) = true
+is_of_hooks (HookGone name) = true
+is_of_hooks change = false
 
 -- the code is of the client, and is sent to its redirect URI
 abbrev IsCodeOf : {s : Setting} {asked : Asked} → Turn s asked → GivenCode → Type 0
 IsCodeOf x code = (code.client ≡ x.known.number) × (code.redirect ≡ x.uri)
 
--- what holds on each way of a request
-pub record Ways (P : Outcome → Type 0) (s : Setting) (asked : Asked) : Type 0 where
-  pub quiet : (status : ℕ) (body : Body) → (status ≡ 302 → ⊥) → IsQuiet body → P (only (plain status body))
-  pub token : TokenWays P s asked
-  pub turned : (x : Turn s asked) (error : ErrorName) → P (turned_back x.uri x.params error)
-  pub coded : (x : Turn s asked) (code : GivenCode) → owner_of_key s.rules asked ≡ Some code.owner → IsCodeOf x code →
-      P (record {
-        reply = sent_back x.uri (codes "code") (token_text s.draws.first) (state_sent x.params);
-        changes = CodeGiven (length s.history) code (sha256 s.draws.first) ∷ [];
-      })
-  pub consented : (owner client mask : ℕ) → owner_of_key s.rules asked ≡ Some owner →
-      P (record { reply = plain 200 (consent_body (scope_text s.rules.scopes mask)); changes = Consented owner client mask ∷ [] })
-  pub revokes : (x : Shown s asked) → x.token.client ≡ x.sender.known.number → P (revoked x.token)
-  pub tells : (x : Shown s asked) → P (only (plain 200 (told_of s.rules x.token x.token.kind)))
-  pub hooks : (change : Change) → IsOfHooks change → is_operator s.rules asked ≡ true →
-      P (record { reply = plain 200 (hook_body (hook_name change)); changes = change ∷ [] })
+-- the ways of a request
+pub data Way (s : Setting) (asked : Asked) : Type 0 where
+  Quiet : (status : ℕ) (body : Body) → (status ≡ 302 → ⊥) → (IsActive body → ⊥) → Way s asked
+  ByToken : TokenWay s asked → Way s asked
+  Turned : Turn s asked → ErrorName → Way s asked
+  Coded : (x : Turn s asked) (code : GivenCode) → owner_of_key s.rules asked ≡ Some code.owner → IsCodeOf x code → Way s asked
+  Consents : (owner client mask : ℕ) → owner_of_key s.rules asked ≡ Some owner → Way s asked
+  Revokes : (x : Shown s asked) → x.token.client ≡ x.sender.known.number → Way s asked
+  Tells : Shown s asked → Way s asked
+  Installs : (name : List ℕ) (version : RecordVersion) (code : List ℕ) → is_operator s.rules asked ≡ true → Way s asked
+  Removes : (name : List ℕ) → is_operator s.rules asked ≡ true → Way s asked
+
+-- where they lead
+abbrev pub outcome_by : {s : Setting} {asked : Asked} → Way s asked → Outcome
+outcome_by (Quiet status body moves active) = only (plain status body)
+outcome_by (ByToken way) = token_outcome way
+outcome_by (Turned x error) = turned_back x.uri x.params error
+outcome_by {s = s} (Coded x code key of) = record {
+  reply = sent_back x.uri (codes "code") (token_text s.draws.first) (state_sent x.params);
+  changes = CodeGiven (length s.history) code (sha256 s.draws.first) ∷ [];
+}
+outcome_by {s = s} (Consents owner client mask key) =
+    record { reply = plain 200 (consent_body (scope_text s.rules.scopes mask)); changes = Consented owner client mask ∷ [] }
+outcome_by (Revokes x own) = revoked x.token
+outcome_by {s = s} (Tells x) = only (plain 200 (told_of s.rules x.token x.token.kind))
+outcome_by (Installs name version code operator) = record { reply = plain 200 (hook_body name); changes = HookSet name version code ∷ [] }
+outcome_by (Removes name operator) = record { reply = plain 200 (hook_body name); changes = HookGone name ∷ [] }
 
 -- no error has the status 302
 pub no_error_302 : (error : ErrorName) → status_of error ≡ 302 → ⊥
-no_error_302 InvalidRequest e = other 400 302 refl e
-no_error_302 InvalidClient e = other 401 302 refl e
-no_error_302 InvalidGrant e = other 400 302 refl e
-no_error_302 InvalidScope e = other 400 302 refl e
-no_error_302 UnauthorizedClient e = other 400 302 refl e
-no_error_302 UnsupportedGrantType e = other 400 302 refl e
-no_error_302 UnsupportedResponseType e = other 400 302 refl e
-no_error_302 AccessDenied e = other 403 302 refl e
+no_error_302 InvalidRequest e = omega (arith, e)
+no_error_302 _ e = omega (arith, e)
 
-module _ (P : Outcome → Type 0) (s : Setting) (asked : Asked) (ways : Ways P s asked) where
+module _ (P : Outcome → Type 0) (s : Setting) (asked : Asked) (ways : (way : Way s asked) → P (outcome_by way)) where
   refused : (error : ErrorName) → P (refuse error)
-  refused error = ways.quiet (status_of error) (Failure error) (no_error_302 error) tt
+  refused error = ways (ByToken (Refused error))
 
   wanting : P unavailable
-  wanting = ways.quiet 503 Empty (other 503 302 refl) tt
+  wanting = ways (ByToken Wanting)
 
   at_authorize : P (authorize s asked)
   at_authorize =
@@ -432,14 +399,14 @@ module _ (P : Outcome → Type 0) (s : Setting) (asked : Asked) (ways : Ways P s
       at_need P {A = List ℕ} (redirect_sent params known.client) (refuse InvalidRequest) _ (refused InvalidRequest) (λ uri led.
       let is = passes (λ u. has_redirect u known.client) (value_sent (codes "redirect_uri") params) uri led in
       let x : Turn s asked = record { params = params; query = query; known = known; names = names; uri = uri; sent = is.0; registered = is.1 } in
-      at_need P {A = List ℕ} (value_sent (codes "response_type") params) (turned_back uri params InvalidRequest) _ (ways.turned x InvalidRequest) (λ type _.
-      at_point P (not (bytes_eq type (codes "code"))) (turned_back uri params UnsupportedResponseType) _ (λ _. ways.turned x UnsupportedResponseType) (λ _.
-      at_point P (not (has_grant AuthorizationCode known.client.grants)) (turned_back uri params UnauthorizedClient) _ (λ _. ways.turned x UnauthorizedClient) (λ _.
-      at_need P {A = List ℕ} (challenge_sent params) (turned_back uri params InvalidRequest) _ (ways.turned x InvalidRequest) (λ challenge _.
-      at_need P {A = ℕ} (scope_within s.rules known.client.allowed params) (turned_back uri params InvalidScope) _ (ways.turned x InvalidScope) (λ scope _.
-      at_need P {A = ℕ} (owner_of_key s.rules asked) (turned_back uri params AccessDenied) _ (ways.turned x AccessDenied) (λ owner key.
-      at_point P (not (is_within scope (consented_scope s.history owner known.number))) (turned_back uri params AccessDenied) _ (λ _. ways.turned x AccessDenied) (λ _.
-      at_untaken P s (sha256 s.draws.first ∷ []) _ wanting (λ _. ways.coded x (record { client = known.number; owner = owner; scope = scope; redirect = uri; challenge = challenge }) key (refl, refl))))))))))))
+      at_need P {A = List ℕ} (value_sent (codes "response_type") params) (turned_back uri params InvalidRequest) _ (ways (Turned x InvalidRequest)) (λ type _.
+      at_unless P (bytes_eq type (codes "code")) (turned_back uri params UnsupportedResponseType) _ (ways (Turned x UnsupportedResponseType)) (λ _.
+      at_unless P (has_grant AuthorizationCode known.client.grants) (turned_back uri params UnauthorizedClient) _ (ways (Turned x UnauthorizedClient)) (λ _.
+      at_need P {A = List ℕ} (challenge_sent params) (turned_back uri params InvalidRequest) _ (ways (Turned x InvalidRequest)) (λ challenge _.
+      at_need P {A = ℕ} (scope_within s.rules known.client.allowed params) (turned_back uri params InvalidScope) _ (ways (Turned x InvalidScope)) (λ scope _.
+      at_need P {A = ℕ} (owner_of_key s.rules asked) (turned_back uri params AccessDenied) _ (ways (Turned x AccessDenied)) (λ owner key.
+      at_unless P (is_within scope (consented_scope s.history owner known.number)) (turned_back uri params AccessDenied) _ (ways (Turned x AccessDenied)) (λ _.
+      at_untaken P s (sha256 s.draws.first ∷ []) _ wanting (λ _. ways (Coded x (record { client = known.number; owner = owner; scope = scope; redirect = uri; challenge = challenge }) key (refl, refl)))))))))))))
 
   at_consent : P (give_consent s asked)
   at_consent =
@@ -447,8 +414,8 @@ module _ (P : Outcome → Type 0) (s : Setting) (asked : Asked) (ways : Ways P s
       at_need P {A = ℕ} (owner_of_key s.rules asked) (refuse AccessDenied) _ (refused AccessDenied) (λ owner key.
       at_need P {A = KnownClient} (client_named s.rules params) (refuse InvalidRequest) _ (refused InvalidRequest) (λ known _.
       at_need P {A = ℕ} (scope_asked s.rules 0 params) (refuse InvalidScope) _ (refused InvalidScope) (λ mask _.
-      at_point P (not (has_consent_room s.history owner known.number mask)) unavailable _ (λ _. wanting) (λ _.
-      ways.consented owner known.number mask key)))))
+      at_unless P (has_consent_room s.history owner known.number mask) unavailable _ wanting (λ _.
+      ways (Consents owner known.number mask key))))))
 
   -- by the live token of the text, if there is one
   at_shown : (sender : Sender s.rules asked) (text : List ℕ) → value_sent (codes "token") sender.params ≡ Some text →
@@ -457,89 +424,54 @@ module _ (P : Outcome → Type 0) (s : Setting) (asked : Asked) (ways : Ways P s
   at_shown sender text sent without later a z =
       at_need P {A = Grant} (live_token s.history s.moment text) without later a (λ g found.
       let is = passes (λ (x : Grant). not (is_code x.kind)) (option_and_then (λ digest. live_grant s.history digest s.moment) (digest_told text)) g found in
-      let at = by_digest (digest_told text) refl g is.0 in
-      z (record { sender = sender; text = text; sent = sent; digest = at.0; told = at.1; token = g; live = at.2; no_code = is_not (is_code g.kind) is.1 }) refl)
-    where
-      is_not : (b : Bool) → not b ≡ true → b ≡ false
-      is_not true e = absurd (false≢true e)
-      is_not false e = refl
-
-      by_digest : (o : Option (List ℕ)) → digest_told text ≡ o → (g : Grant) → option_and_then (λ digest. live_grant s.history digest s.moment) o ≡ Some g →
-          (digest : List ℕ) × (digest_told text ≡ Some digest) × (live_grant s.history digest s.moment ≡ Some g)
-      by_digest None is g h = absurd (cc)
-      by_digest (Some digest) is g h = (digest, is, h)
+      let at = through (λ digest. live_grant s.history digest s.moment) (digest_told text) g is.0 in
+      z (record { sender = sender; text = text; sent = sent; digest = at.0; told = at.1; token = g; live = at.2; no_code = not-true (is_code g.kind) is.1 }) refl)
 
   at_revoke : P (revoke_token s asked)
   at_revoke =
       at_sender P s.rules asked _ (refused InvalidRequest) (refused InvalidClient) wanting (λ sender.
       at_need P {A = List ℕ} (value_sent (codes "token") sender.params) (refuse InvalidRequest) _ (refused InvalidRequest) (λ text sent.
-      at_shown sender text sent (bare 200) _ (ways.quiet 200 Empty (other 200 302 refl) tt) (λ x is.
-      at_point P (not (x.token.client == sender.known.number)) (refuse InvalidGrant) _ (λ _. refused InvalidGrant) (λ same.
-      ways.revokes x (eqb-true x.token.client sender.known.number (is_so (x.token.client == sender.known.number) same)
-      ∙ ap (λ (y : Sender s.rules asked). y.known.number) (sym is))))))
-    where
-      is_so : (b : Bool) → not b ≡ false → b ≡ true
-      is_so true e = refl
-      is_so false e = absurd (false≢true (sym e))
+      at_shown sender text sent (bare 200) _ (ways (Quiet 200 Empty (other 200 302 refl) (λ active. active))) (λ x is.
+      at_unless P (x.token.client == sender.known.number) (refuse InvalidGrant) _ (refused InvalidGrant) (λ same.
+      ways (Revokes x (eqb-true x.token.client sender.known.number same
+      ∙ ap (λ (y : Sender s.rules asked). y.known.number) (sym is)))))))
 
   at_introspect : P (introspect s asked)
   at_introspect =
       at_sender P s.rules asked _ (refused InvalidRequest) (refused InvalidClient) wanting (λ sender.
       at_need P {A = List ℕ} (value_sent (codes "token") sender.params) (refuse InvalidRequest) _ (refused InvalidRequest) (λ text sent.
-      at_shown sender text sent (only (plain 200 Inactive)) _ (ways.quiet 200 Inactive (other 200 302 refl) tt) (λ x _. ways.tells x)))
+      at_shown sender text sent (only (plain 200 Inactive)) _ (ways (Quiet 200 Inactive (other 200 302 refl) (λ active. active))) (λ x _. ways (Tells x))))
 
-  by_hook : (change : Change) → IsOfHooks change → is_operator s.rules asked ≡ true → (fault : Option HookFault) → P (by_fault change fault)
-  by_hook change of operator None = ways.hooks change of operator
+  by_hook : (change : Change) → is_of_hooks change ≡ true → is_operator s.rules asked ≡ true → (fault : Option HookFault) → P (by_fault change fault)
+  by_hook (HookSet name version code) of operator None = ways (Installs name version code operator)
+  by_hook (HookGone name) of operator None = ways (Removes name operator)
+  by_hook change of operator None = absurd (false≢true of)
   by_hook change of operator (Some hook.Memory) = wanting
-  by_hook change of operator (Some fault) = ways.quiet 400 (refused_body (hook_fault_text fault)) (other 400 302 refl) tt
+  by_hook change of operator (Some fault) = ways (Quiet 400 (refused_body (hook_fault_text fault)) (other 400 302 refl) (λ active. active))
 
-  at_hooks : (change : Option Change) → ((c : Change) → change ≡ Some c → IsOfHooks c) → P (change_hooks s asked change)
+  at_hooks : (change : Option Change) → ((c : Change) → change ≡ Some c → is_of_hooks c ≡ true) → P (change_hooks s asked change)
   at_hooks change of =
-      at_point P (not (is_operator s.rules asked)) (refuse AccessDenied) _ (λ _. refused AccessDenied) (λ operator.
-      at_need P {A = Change} change (refuse InvalidRequest) _ (refused InvalidRequest) (λ c is. by_hook c (of c is) (is_so (is_operator s.rules asked) operator) s.host.fault))
-    where
-      is_so : (b : Bool) → not b ≡ false → b ≡ true
-      is_so true e = refl
-      is_so false e = absurd (false≢true (sym e))
+      at_unless P (is_operator s.rules asked) (refuse AccessDenied) _ (refused AccessDenied) (λ operator.
+      at_need P {A = Change} change (refuse InvalidRequest) _ (refused InvalidRequest) (λ c is. by_hook c (of c is) operator s.host.fault))
 
   at_document : (told : Result (List Member) ErrorName) → P (document_outcome told)
-  at_document (Ok members) = ways.quiet 200 (Told members) (other 200 302 refl) tt
+  at_document (Ok members) = ways (Quiet 200 (Told members) (other 200 302 refl) (λ active. active))
   at_document (Err error) = refused error
 
 -- what is asked for is of the hooks
-install_is : (asked : Asked) (c : Change) → installation asked ≡ Some c → IsOfHooks c
-install_is asked c e = by_params (result_ok (read_params (query_of asked.target))) e
-  where
-    by_version : (name : List ℕ) (o : Option RecordVersion) → option_map (λ version. HookSet name version asked.body) o ≡ Some c → IsOfHooks c
-    by_version name None h = absurd (cc)
-    by_version name (Some version) h = let same : HookSet name version asked.body ≡ c = cc in subst IsOfHooks same tt
+install_is : (asked : Asked) (c : Change) → installation asked ≡ Some c → is_of_hooks c ≡ true
+install_is asked c e = grind (arith, e)
 
-    by_name : (params : Parameters) (o : Option (List ℕ)) → option_and_then (hook_set params asked.body) o ≡ Some c → IsOfHooks c
-    by_name params None h = absurd (cc)
-    by_name params (Some name) h = by_version name (version_asked (value_sent (codes "record") params)) h
-
-    by_params : (o : Option Parameters) → option_and_then (λ params. hook_set_by params asked.body) o ≡ Some c → IsOfHooks c
-    by_params None h = absurd (cc)
-    by_params (Some params) h = by_name params (value_sent (codes "name") params) h
-
-removal_is : (asked : Asked) (c : Change) → removal asked ≡ Some c → IsOfHooks c
-removal_is asked c e = by_params (form_of asked) e
-  where
-    by_name : (o : Option (List ℕ)) → option_map HookGone o ≡ Some c → IsOfHooks c
-    by_name None h = absurd (cc)
-    by_name (Some name) h = let same : HookGone name ≡ c = cc in subst IsOfHooks same tt
-
-    by_params : (o : Option Parameters) → option_and_then hook_gone o ≡ Some c → IsOfHooks c
-    by_params None h = absurd (cc)
-    by_params (Some params) h = by_name (value_sent (codes "name") params) h
+removal_is : (asked : Asked) (c : Change) → removal asked ≡ Some c → is_of_hooks c ≡ true
+removal_is asked c e = grind (arith, e)
 
 -- what holds on each way holds of the outcome
 module _ (P : Outcome → Type 0) (rules : RegistryRecord) (history : List Event) (occasion : Occasion)
-    (ways : Ways P (setting_on rules history occasion) occasion.arrival.asked) where
+    (ways : (way : Way (setting_on rules history occasion) occasion.arrival.asked) → P (outcome_by way)) where
   at_endpoint : (endpoint : Endpoint) → P (outcome_at endpoint (setting_on rules history occasion) occasion.arrival.asked)
   at_endpoint Authorize = at_authorize P (setting_on rules history occasion) occasion.arrival.asked ways
   at_endpoint GiveConsent = at_consent P (setting_on rules history occasion) occasion.arrival.asked ways
-  at_endpoint IssueToken = at_token P (setting_on rules history occasion) occasion.arrival.asked ways.token
+  at_endpoint IssueToken = at_token P (setting_on rules history occasion) occasion.arrival.asked (λ way. ways (ByToken way))
   at_endpoint RevokeToken = at_revoke P (setting_on rules history occasion) occasion.arrival.asked ways
   at_endpoint Introspect = at_introspect P (setting_on rules history occasion) occasion.arrival.asked ways
   at_endpoint InstallHook =
@@ -550,6 +482,6 @@ module _ (P : Outcome → Type 0) (rules : RegistryRecord) (history : List Event
 
   pub at_each : P (outcome_of rules history occasion)
   at_each =
-      at_need P {A = Endpoint} (endpoint_at (path_of occasion.arrival.asked.target)) (bare 404) _ (ways.quiet 404 Empty (other 404 302 refl) tt) (λ endpoint _.
-      at_point P (not (bytes_eq occasion.arrival.asked.method (method_at endpoint))) (bare 405) _ (λ _. ways.quiet 405 Empty (other 405 302 refl) tt) (λ _.
-      at_chosen P occasion.refused _ (ways.quiet 503 Empty (other 503 302 refl) tt) (at_endpoint endpoint)))
+      at_need P {A = Endpoint} (endpoint_at (path_of occasion.arrival.asked.target)) (bare 404) _ (ways (Quiet 404 Empty (other 404 302 refl) (λ active. active))) (λ endpoint _.
+      at_unless P (bytes_eq occasion.arrival.asked.method (method_at endpoint)) (bare 405) _ (ways (Quiet 405 Empty (other 405 302 refl) (λ active. active))) (λ _.
+      at_chosen P occasion.refused _ (ways (ByToken Wanting)) (at_endpoint endpoint)))

@@ -42,6 +42,7 @@ pub fn codes_and_tokens_are_of_clients<H: HookHost>()
 {}
 
 /// Nothing happens with a 503.
+#[tactic(auto, using(crate::proofs::Idle::nothing_of_503))]
 pub fn nothing_comes_of_a_503()
     ensures { OnEachOccasion IsIdleWhere503 }
 {}
@@ -67,6 +68,7 @@ pub fn no_hook_widens()
 /// A code is bound: where it is exchanged, the request has the credentials of the client that it was given to, the redirect
 /// URI that it was given for, and the verifier of the challenge that it was given under (RFC 6749, section 4.1.3; RFC 7636,
 /// section 4.6).
+#[tactic(auto, using(crate::proofs::Binding::binds_codes))]
 pub fn codes_are_bound()
     ensures { OnEachOccasion BindsCodes }
 {}
@@ -106,6 +108,7 @@ pub fn clients_are_isolated<H: HookHost>()
 
 /// No two codes or tokens come from one draw: in each history that a schedule leads to, each has the digest of a draw of its
 /// own, which was handed in for a request that was answered, or was there when the server went on from what was kept.
+#[tactic(auto, using(crate::proofs::Drawing::are_drawn))]
 pub fn tokens_come_from_draws_of_their_own<H: HookHost>()
     ensures { AreDrawn H.HookHost }
 {}

@@ -1,4 +1,4 @@
-use Rattle.headline.proofs.Ending.{ends_with_authority}
+use Rattle.headline.proofs.Bearing.{ends_with_authority}
 use Rattle.headline.proofs.laws.no_family_ends_without_authority.Goals as goal
 
 pub returns : goal.returns
