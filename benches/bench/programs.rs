@@ -24,7 +24,7 @@ struct Work {
 }
 
 /// The programs, most of them of 4,096 slots.
-const WORKS: [Work; 8] = [
+const WORKS: [Work; 9] = [
     Work {
         name: "straight",
         head: "",
@@ -81,8 +81,8 @@ const WORKS: [Work; 8] = [
         turns: 4000,
         tail: "exit\n",
     },
-    // the worst that was found: two flags make four cases, which go through diamonds with a store at an uncertain place each,
-    // while every block of the stack has a number of its own
+    // two flags make four cases, which go through diamonds with a store at an uncertain place each, while every block of the
+    // stack has a number of its own
     Work {
         name: "four cases, all stored",
         head: "mov64 r0 1\nldxdw r2 r1 8\nldxdw r3 r1 16\nldxdw r4 r1 24\nmov64 r7 0\nmov64 r8 0\njgt64 r2 7 +1\nmov64 r7 1\njgt64 r3 7 +1\nmov64 r8 1\nmov64 r9 r10\nadd64 r9 -300\nldxb r5 r1 0\nadd64 r9 r5\n",
@@ -90,6 +90,15 @@ const WORKS: [Work; 8] = [
         turn: "jge64 r4 r2 +1\nstxdw r9 0 r4\n",
         turns: 2000,
         tail: "exit\n",
+    },
+    // the worst that was found: four cases, in each of which six registers are linked with the one that is compared
+    Work {
+        name: "links and four cases",
+        head: "mov64 r0 1\nldxdw r2 r1 8\nldxdw r3 r1 16\nmov64 r7 0\nmov64 r8 0\njgt64 r2 7 +1\nmov64 r7 1\njgt64 r3 7 +1\nmov64 r8 1\nldxdw r0 r1 0\nmov64 r2 r0\nadd64 r2 2\nmov64 r3 r0\nadd64 r3 3\nmov64 r4 r0\nadd64 r4 4\nmov64 r5 r0\nadd64 r5 5\nmov64 r6 r0\nadd64 r6 6\nmov64 r9 r0\nadd64 r9 9\n",
+        stored: 64,
+        turn: "jge64 r0 r4 +1\n",
+        turns: 4000,
+        tail: "mov64 r0 0\nexit\n",
     },
 ];
 

@@ -23,6 +23,8 @@ pub mod FirstLook
 pub mod Refusals
 pub mod FaultTexts
 pub mod PossibleStates
+-- What the code of the first look keeps; a reader may skip it.
+pub mod Starts
 -- Laws, each proved: a reader may skip them.
 pub mod WordLaws
 pub mod SlotLaws

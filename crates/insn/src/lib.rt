@@ -6,6 +6,7 @@
 
 pub mod action;
 pub mod fault;
+pub mod first_look;
 pub mod instruction;
 pub mod laws;
 pub mod layout;
@@ -13,5 +14,6 @@ pub mod operation;
 pub mod places;
 pub mod program;
 pub mod register;
+mod starts;
 pub mod state;
 pub mod verify_fault;

@@ -112,13 +112,7 @@ impl Domain for Scalar {
     {
         match (a.only(), b.only()) {
             (Some(left), Some(right)) => Scalar::exact(alu(width, op, left, right)),
-            _ => Scalar {
-                unsigned: URange::apply(op, width, a.unsigned, b.unsigned),
-                signed: Scalar::signed_result(op, width, a, b),
-                bits: KnownBits::apply(op, width, a.bits, b.bits),
-                half: HalfRange::apply(op, width, a.half, b.half),
-            }
-            .exchanged(),
+            _ => Scalar::result_of_parts(op, width, a, b).exchanged(),
         }
     }
 
@@ -168,6 +162,38 @@ impl Domain for Scalar {
     ghost words = { InScalar-words };
 
     ghost single_is = { shows_one };
+}
+
+impl Scalar {
+    ghost use Rattle.scalar.specs.Members.{InScalar, ShowsOne};
+    ghost use Rattle.scalar.specs.Narrowed.{LiesInLeastSum};
+    ghost use Rattle.range.specs.Domain.{IsSoundResult, IsSingleResult};
+
+    /// What an operation gives of each of the four by itself. Where its result is met with another value, that narrows
+    /// the four by each other anyway, and what `apply` does beyond this would be done twice.
+    pub fn apply_by_parts(op: BinOp, width: Width, a: Scalar, b: Scalar) -> Scalar
+        ensures sound { IsSoundResult InScalar op width a b result }
+        ensures single { IsSingleResult ShowsOne op width a b result }
+        ensures sums { LiesInLeastSum op width a b result }
+    {
+        match (a.only(), b.only()) {
+            (Some(x), Some(y)) => Scalar::exact(alu(width, op, x, y)),
+            _ => Scalar::result_of_parts(op, width, a, b),
+        }
+    }
+
+    /// The same, of values that are not single words both.
+    fn result_of_parts(op: BinOp, width: Width, a: Scalar, b: Scalar) -> Scalar
+        ensures sound { IsSoundResult InScalar op width a b result }
+        ensures sums { LiesInLeastSum op width a b result }
+    {
+        Scalar {
+            unsigned: URange::apply(op, width, a.unsigned, b.unsigned),
+            signed: Scalar::signed_result(op, width, a, b),
+            bits: KnownBits::apply(op, width, a.bits, b.bits),
+            half: HalfRange::apply(op, width, a.half, b.half),
+        }
+    }
 }
 
 impl Scalar {

@@ -16,10 +16,11 @@ use Rattle.insn.specs.declared.register.RegNo.{RegNo}
 use Rattle.insn.specs.declared.state.Value.{Value}
 use Rattle.insn.specs.declared.state.Value.TheVariants.{Number, Address}
 use Rattle.insn.specs.Instruction.{reg_number}
-use Rattle.range.specs.Domain.{IsRefined}
+use Rattle.range.specs.Sets.{IsWithin}
 use Rattle.scalar.specs.declared.scalar.Scalar.{Scalar}
-use Rattle.scalar.specs.MemberLaws.{InScalar-words}
+use Rattle.scalar.specs.MemberLaws.{InScalar-words, shows_one}
 use Rattle.scalar.specs.Members.{InScalar}
+use Rattle.scalar.specs.Narrowed.{AreNarrowed}
 use Rattle.insn.specs.Word.{word_holds, word_result, wrapped}
 use Rattle.verifier.specs.declared.link.Bits.{Bits}
 use Rattle.verifier.specs.declared.link.Bits.TheVariants.{Lowest, Shifted}
@@ -28,6 +29,7 @@ use Rattle.verifier.specs.declared.link.Links.{Links}
 use Rattle.verifier.specs.declared.link.Relation.{Relation}
 use Rattle.verifier.specs.declared.link.Relation.TheVariants.{Sum, Difference}
 use Rattle.verifier.specs.Learnt.{IsDerived, IsTraced}
+use Rattle.verifier.specs.LinksParts.{IsEqualKept}
 use Rattle.verifier.specs.Links.{AreLeft, AreLinked, AreLinksJoined, AreMade, AreRelated, IsLinkJoin, LinkHolds, LinksHold, bits_after, lesser, link_at, link_left, plus_after}
 
 -- ---- numbers
@@ -281,15 +283,48 @@ module _ (link : Link) (w : Width) (lowest : link.bits ≡ Lowest w) (plus : Sca
     traces = linked_traced link.relation w link.plus x y (InScalar-words a x at_a) (InScalar-words b y at_b) (InScalar-words plus link.plus is_plus) (related x y l)
 
   module _ (derived : Scalar) (given : IsDerived link.relation w a plus derived) where
-    pub none_derived : IsRefined InScalar Eq w true b derived None → (x y : ℕ) → InScalar a x → InScalar b y → AreLinked link x y → ⊥
+    pub none_derived : IsEqualKept w b derived None → (x y : ℕ) → InScalar a x → InScalar b y → AreLinked link x y → ⊥
     none_derived h x y at_a at_b l = h y (derived_word link.relation w x link.plus) at_b (derived_in link.relation w a plus derived given x link.plus at_a is_plus) (derives x y at_a at_b l)
 
-    pub derived_met : (r : Scalar × Scalar) → IsRefined InScalar Eq w true b derived (Some r) → (x y : ℕ) → InScalar a x → InScalar b y → AreLinked link x y → InScalar r.0 y
-    derived_met r h x y at_a at_b l = (h y (derived_word link.relation w x link.plus) at_b (derived_in link.relation w a plus derived given x link.plus at_a is_plus) (derives x y at_a at_b l)).0
+    pub derived_met : (r : Scalar) → IsEqualKept w b derived (Some r) → (x y : ℕ) → InScalar a x → InScalar b y → AreLinked link x y → InScalar r y
+    derived_met r h x y at_a at_b l = h y (derived_word link.relation w x link.plus) at_b (derived_in link.relation w a plus derived given x link.plus at_a is_plus) (derives x y at_a at_b l)
 
   module _ (traced : Scalar) (given : IsTraced link.relation w b plus traced) where
-    pub none_traced : IsRefined InScalar Eq w true a traced None → (x y : ℕ) → InScalar a x → InScalar b y → AreLinked link x y → ⊥
+    pub none_traced : IsEqualKept w a traced None → (x y : ℕ) → InScalar a x → InScalar b y → AreLinked link x y → ⊥
     none_traced h x y at_a at_b l = h x (traced_word link.relation w y link.plus) at_a (traced_in link.relation w b plus traced given y link.plus at_b is_plus) (traces x y at_a at_b l)
 
-    pub traced_met : (r : Scalar × Scalar) → IsRefined InScalar Eq w true a traced (Some r) → (x y : ℕ) → InScalar a x → InScalar b y → AreLinked link x y → InScalar r.0 x
-    traced_met r h x y at_a at_b l = (h x (traced_word link.relation w y link.plus) at_a (traced_in link.relation w b plus traced given y link.plus at_b is_plus) (traces x y at_a at_b l)).0
+    pub traced_met : (r : Scalar) → IsEqualKept w a traced (Some r) → (x y : ℕ) → InScalar a x → InScalar b y → AreLinked link x y → InScalar r x
+    traced_met r h x y at_a at_b l = h x (traced_word link.relation w y link.plus) at_a (traced_in link.relation w b plus traced given y link.plus at_b is_plus) (traces x y at_a at_b l)
+
+-- ---- numbers that others cover
+
+same_holds : (w : Width) (x : ℕ) → word_holds w Eq x x ≡ true
+same_holds W64 x = same_is x x refl
+same_holds W32 x = same_is (x % 2 ^ 32) (x % 2 ^ 32) refl
+
+-- a set in which there is a number is left as it is by one that it is within
+pub within_narrowed : (w : Width) (a b : Scalar) (n : ℕ) → InScalar a n → IsWithin InScalar a b → AreNarrowed (record { cond = Eq; width = w; taken = true }) a b (a, a)
+within_narrowed w a b n at_n inside = record {
+  within = (λ x h. h, inside);
+  words = λ sees said. record {
+    left = λ s all x h. all x (x, h.unsigned, (inside x h).unsigned, same_holds W64 x);
+    right = λ s all x h. all x (x, h.unsigned, (inside x h).unsigned, same_holds W64 x);
+    some = (n, (n, at_n.unsigned, (inside n at_n).unsigned, same_holds W64 n));
+  };
+  numbers = λ whole said. record {
+    left = λ s all x h. all x (x, h.signed, (inside x h).signed, same_holds W64 x);
+    right = λ s all x h. all x (x, h.signed, (inside x h).signed, same_holds W64 x);
+    some = (n, (n, at_n.signed, (inside n at_n).signed, same_holds W64 n));
+  };
+  halves = λ half said. record {
+    left = λ s all x h. all x (x, h.half, (inside x h).half, same_holds W32 x);
+    right = λ s all x h. all x (x, h.half, (inside x h).half, same_holds W32 x);
+    some = (n, (n, at_n.half, (inside n at_n).half, same_holds W32 n));
+  };
+  equal = λ sees said. (inside, λ x h. h);
+  bits = λ said. (
+    λ x h. record { partner = x; there = (inside x h).bits; alike = refl },
+    λ x h. record { partner = x; there = h.bits; alike = refl },
+  );
+  single = λ x y one other. subst (λ (z : ℕ). word_holds w Eq x z ≡ true) ((shows_one b y other x).0 (inside x ((shows_one a x one x).1 refl))) (same_holds w x);
+}

@@ -115,18 +115,9 @@ comes_to_place old xs i b known same four lt (free, inl e) =
     rw (← same) (inl (inl beside))
 comes_to_place old xs i b known same four lt (free, inr m) = rw (← same) (inr (cases_of xs, m, placed xs i b four lt free))
 
--- no place holds one where nothing waits
-none_held : (xs : Boxes) (i : ℕ) → length (cases_of xs) ≡ 0 → get_or xs i None ≡ None
-none_held [] i e = refl
-none_held (None ∷ xs) zero e = refl
-none_held (None ∷ xs) (suc i) e = none_held xs i e
-none_held (Some b ∷ xs) i e = absurd (omega arith)
-
--- a case has come where nothing waits
-pub comes_alone : (xs : Boxes) (old : List Known) (b : Box Known Global) (known : Known) → cases_of xs ≡ old → b.value ≡ known → length xs ≡ 4 → (length old == 0) ≡ true → IsAdded old known (cases_of (set xs 0 (Some b)))
-comes_alone xs old b known view same four none =
-    let nothing : length (cases_of xs) ≡ 0 = ap (length {A = Known}) view ∙ eqb-true (length old) 0 none in
-    rw (← view, ← same) (inl (inl (placed xs 0 b four (omega arith) (none_held xs 0 nothing))))
+-- a case is joined with one that waits alone
+pub joined_alone : (old : List Known) (one joined known : Known) → old ≡ one ∷ [] → IsJoined one known joined → IsAdded old known (joined ∷ [])
+joined_alone old one joined known was join = inl (inr (record { before = []; one = one; joined = joined; after = []; was = was; is = refl; join = join }))
 
 -- ---- the first
 

@@ -1,5 +1,5 @@
 -- One instruction, passed in the cases that wait at its slot.
-use Rattle.std.proofs.Common.{FitsSigned, w32, ◌≡◌, ◌≢◌, ℕ, ℤ, pos, suc, ◌+◌, ◌<◌, ◌≤◌, ◌++◌, Bool, true, false, List, [], ◌∷◌, Option, Some, None, Ok, refl, sym, ap, ◌∙◌, arith, get_or, length, map, inl, inr, ◌⊎◌}
+use Rattle.std.proofs.Common.{FitsSigned, w32, ◌≡◌, ◌≢◌, ℕ, ℤ, pos, suc, ◌+◌, ◌<◌, ◌≤◌, ◌++◌, ◌||◌, Bool, true, false, List, [], ◌∷◌, Option, Some, None, Ok, refl, sym, ap, ◌∙◌, arith, get_or, length, map, inl, inr, ◌⊎◌}
 use Rattle.std.specs.Option.{option_map, option_to_list}
 use Rattle.std.specs.Box.{box_value}
 use Rattle.std.proofs.lemmas.Int.{ints}
@@ -31,15 +31,14 @@ passes_more layout i slot (a ∷ rest) known v mid w' p q = (p.0, p.1, passes_mo
 either_assoc : (a b c : Onward) → either (either a b) c ≡ either a (either b c)
 either_assoc a b c = rw (or_assoc a.behind b.behind c.behind, or_assoc a.ahead b.ahead c.ahead) refl
 
+either_nowhere : (b : Onward) → either b nowhere ≡ b
+either_nowhere b = rw (or_false b.behind, or_false b.ahead) refl where
+  or_false : (x : Bool) → (x || false) ≡ x
+  or_false true = refl
+  or_false false = refl
+
 goes_more : (layout : Layout) (i : Insn) (cases : List Known) (known : Known) (a b : Onward) → EachGoesOn layout i cases a → GoesOn layout i known b → EachGoesOn layout i (cases ++ known ∷ []) (either a b)
-goes_more layout i [] known a b g h = rw g (b, nowhere, h, refl, either_nowhere b) where
-  either_nowhere : (b : Onward) → either nowhere b ≡ either b nowhere
-  either_nowhere b = both b.behind b.ahead where
-    both : (x y : Bool) → either nowhere (record { behind = x; ahead = y }) ≡ either (record { behind = x; ahead = y }) nowhere
-    both true true = refl
-    both true false = refl
-    both false true = refl
-    both false false = refl
+goes_more layout i [] known a b g h = rw g (b, nowhere, h, refl, sym (either_nowhere b))
 goes_more layout i (c ∷ rest) known a b g h =
     let more = goes_more layout i rest known g.1 b g.3 h in
     (g.0, either g.1 b, g.2, more, ap (λ (o : Onward). either o b) g.4 ∙ either_assoc g.0 g.1 b)
@@ -99,6 +98,19 @@ pub all_visited : (layout : Layout) (i : Insn) (slot : ℕ) (old : List (List Kn
 all_visited layout i slot old left kept now onward none v =
     let taken : IsTaken old slot v.before v.between = rw (none, append-nil v.before) at v.taken in
     (record { there = v.before; between = v.between; taken = taken; goes = v.passed }, rw taken.here v.goes)
+
+-- ---- a case that waits alone
+
+module _ (layout : Layout) (i : Insn) (slot : ℕ) (old between : List (List Known)) (cases : List Known) (known : Known) (one : cases ≡ known ∷ []) (taken : IsTaken old slot cases between) where
+  pub passed_alone : (now : List (List Known)) (here : Onward) → IsPassed layout i slot known between now × GoesOn layout i known here → IsVisited layout i slot old now × EachGoesOn layout i (get_or old slot []) here
+  passed_alone now here p =
+      let all : IsTaken old slot (known ∷ []) between = rw one at taken in
+      (record { there = known ∷ []; between = between; taken = all; goes = (now, p.0, refl) }, rw all.here (here, nowhere, p.1, refl, sym (either_nowhere here)))
+
+  pub refused_alone : (before : Known) (fault : WalkFault) (others : List Known) → others ≡ [] → IsRefusedAt layout i slot known (length between) fault × (before ≡ known)
+      → (r : IsRefusedHere layout i slot old (walk_fault_at fault slot)) × (r.known ≡ before) × (others ≡ r.before ++ r.after)
+  refused_alone before fault others none p =
+      one_refused layout i slot old cases [] [] between nowhere known one (begins_visit layout i slot old between cases taken) before fault others p none
 
 -- ---- one case
 

@@ -1,8 +1,11 @@
 -- Beside Links: only the contracts of this crate's own parts and their proofs cite this, no public clause.
 use Rattle.std.specs.Prelude.{◌≡◌, ℕ, Bool, true, false, Option, Some, None}
 use Rattle.insn.specs.declared.layout.Layout.{Layout}
+use Rattle.insn.specs.declared.operation.Cond.TheVariants.{Eq}
+use Rattle.insn.specs.declared.operation.Width.{Width}
 use Rattle.insn.specs.declared.state.Value.{Value}
 use Rattle.insn.specs.Values.{State}
+use Rattle.range.specs.Conditions.{HasAnswer}
 use Rattle.scalar.specs.declared.scalar.Scalar.{Scalar}
 use Rattle.scalar.specs.Members.{InScalar}
 use Rattle.reg_kind.specs.declared.reg.Reg.{Reg as Kind}
@@ -14,6 +17,11 @@ use Rattle.verifier.specs.Links.{AreLinked, AreValuesLinked}
 use Rattle.verifier.specs.Learnt.{IsLearnt, KeepsAnswered}
 use Rattle.verifier.specs.declared.known.Test.{Test}
 use Rattle.verifier.specs.Shows.{StateShows}
+
+-- a set keeps all numbers that equal one of another in a width; none where there are no such numbers
+abbrev pub IsEqualKept : Width → Scalar → Scalar → Option Scalar → Type 0
+IsEqualKept w a b None = (x y : ℕ) → InScalar a x → InScalar b y → HasAnswer w Eq true x y → ⊥
+IsEqualKept w a b (Some r) = (x y : ℕ) → InScalar a x → InScalar b y → HasAnswer w Eq true x y → InScalar r x
 
 -- two sets keep all numbers that are linked; none where there are no such numbers
 abbrev pub AreNumbersRefined : Link → Scalar → Scalar → Option (Scalar × Scalar) → Type 0

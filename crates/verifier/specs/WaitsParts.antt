@@ -7,6 +7,8 @@ use Rattle.std.specs.declared.alloc.Global.{Global}
 use Rattle.insn.specs.declared.instruction.Insn.{Insn}
 use Rattle.insn.specs.declared.layout.Layout.{Layout}
 use Rattle.insn.specs.Refusals.{walk_fault_at}
+use Rattle.verifier.specs.declared.cases.Held.{Held}
+use Rattle.verifier.specs.declared.cases.Held.TheVariants.{Nothing, One, Several}
 use Rattle.verifier.specs.declared.known.Known.{Known}
 use Rattle.verifier.specs.declared.known.Flow.TheVariants.{Exit}
 use Rattle.verifier.specs.declared.walk.Passage.{Passage}
@@ -62,6 +64,12 @@ IsFirstPlace places (Some place) =
 -- the cases in some places
 abbrev pub cases_in : List (Option (Box Known Global)) → List Known
 cases_in places = filter_map (option_map box_value) places
+
+-- the cases that are held so
+abbrev pub cases_held : Held → List Known
+cases_held Nothing = []
+cases_held (One known) = known.value ∷ []
+cases_held (Several places) = cases_in places.value
 
 -- of some cases none is joined, or one with another
 abbrev pub HasRoomMade : List Known → List Known → Type 0

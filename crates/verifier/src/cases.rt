@@ -1,35 +1,45 @@
 //! What waits at a slot: a few cases of what is known.
 
-ghost use Rattle.std.specs.Prelude.{◌≡◌, ◌<◌, ◌==◌, ℕ, [], ◌∷◌, IfSome, IsOk, IsSome, None, length, slice_index_or, true, false};
+ghost use Rattle.std.specs.Prelude.{◌≡◌, ◌<◌, ◌==◌, ℕ, [], ◌∷◌, IfNone, IfOk, IfSome, IsOk, IsSome, None, length, slice_index_or, true, false};
 ghost use Rattle.std.specs.Option.{option_map};
 ghost use Rattle.std.specs.Box.{box_value};
 ghost use Rattle.verifier.specs.Waits.{IsAdded};
-ghost use Rattle.verifier.specs.WaitsParts.{IsFirst, IsFirstPlace, IsRoomFor};
+ghost use Rattle.verifier.specs.WaitsParts.{cases_held, cases_in, IsFirst, IsFirstPlace, IsRoomFor};
 
 use crate::known::Known;
 use stack_state::difference::{MUCH, of_registers, of_stacks};
 use std::alloc::{AllocError, Global};
 use std::marker::Model;
+use std::mem;
 
 /// How many cases may wait at a slot.
 const MOST: usize = 4;
 
+/// How a few cases are held.
+#[derive(Drop)]
+enum Held {
+    /// There is none.
+    Nothing,
+    /// One alone.
+    One(Box<Known>),
+    /// Those in some places.
+    Several(Box<[Option<Box<Known>>; MOST]>),
+}
+
 /// What is known of the runs that come to a slot: of each of them one of at most four cases.
 #[derive(Drop)]
 pub(crate) struct Cases {
-    places: [Option<Box<Known>>; MOST],
+    held: Held,
 }
 
 impl Model for Cases {
     ghost use Rattle.std.specs.Prelude.{List};
-    ghost use Rattle.std.specs.List.{filter_map};
-    ghost use Rattle.std.specs.Option.{option_map};
-    ghost use Rattle.std.specs.Box.{box_value};
     ghost use Rattle.verifier.specs.declared.known.Known.{Known};
+    ghost use Rattle.verifier.specs.WaitsParts.{cases_held};
 
     ghost Value = { List Known };
 
-    ghost view = { λ c. filter_map (option_map box_value) c.places };
+    ghost view = { λ c. cases_held c.held };
 }
 
 /// A number of a place: the last one's for those that are greater.
@@ -180,13 +190,54 @@ fn room_for(places: &mut [Option<Box<Known>>; MOST], known: &Known) -> Option<us
     }
 }
 
+/// Adds a case to those in some places, and says whether it stands beside them.
+fn place(places: &mut [Option<Box<Known>>; MOST], known: Box<Known>) -> bool
+    ensures { IsAdded (cases_in places.old) known.value (cases_in places.new) }
+{
+    match room_for(places, &known) {
+        Some(place) => {
+            places[place] = Some(known);
+            true
+        }
+        None => false,
+    }
+}
+
+/// The same, of a copy.
+fn place_copy(
+    places: &mut [Option<Box<Known>>; MOST],
+    alloc: Global,
+    known: &Known,
+) -> Result<bool, AllocError>
+    ensures { IsOk result → IsAdded (cases_in places.old) known.now (cases_in places.new) }
+{
+    match room_for(places, known) {
+        Some(place) => {
+            places[place] = Some(Box::new(alloc, *known)?);
+            Ok(true)
+        }
+        None => Ok(false),
+    }
+}
+
+/// A case is joined with the first of those in some places. Says whether there is one.
+fn settle_first(places: &mut [Option<Box<Known>>; MOST], known: &Known) -> bool
+    ensures joined { result ≡ true → IsAdded (cases_in places.old) known.now (cases_in places.new) }
+    ensures kept { result ≡ false → places.new ≡ places.old }
+{
+    match first_place(places) {
+        Some(place) => settle(places, place, known).is_none(),
+        None => false,
+    }
+}
+
 impl Cases {
     /// None.
     pub(crate) fn new() -> Cases
         ensures { result ≡ [] }
     {
         Cases {
-            places: [None, None, None, None],
+            held: Held::Nothing,
         }
     }
 
@@ -195,7 +246,7 @@ impl Cases {
         ensures { result ≡ known.value ∷ [] }
     {
         Cases {
-            places: [Some(known), None, None, None],
+            held: Held::One(known),
         }
     }
 
@@ -203,17 +254,53 @@ impl Cases {
     pub(crate) fn is_empty(&self) -> bool
         ensures { result ≡ (length self.now == 0) }
     {
-        first_place(&self.places).is_none()
+        match &self.held {
+            Held::Nothing => true,
+            Held::One(_) => false,
+            Held::Several(places) => first_place(places).is_none(),
+        }
     }
 
     /// Takes the first.
     pub(crate) fn next(&mut self) -> Option<Box<Known>>
         ensures { IsFirst self.old (option_map box_value result) self.new }
     {
-        match first_place(&self.places) {
-            Some(place) => self.places[place].take(),
-            None => None,
+        match mem::replace(&mut self.held, Held::Nothing) {
+            Held::Nothing => None,
+            Held::One(known) => Some(known),
+            Held::Several(mut places) => {
+                let place = first_place(&places)?;
+                let first = places[place].take();
+                self.held = Held::Several(places);
+                first
+            }
         }
+    }
+
+    /// Takes the one that is alone, where one is.
+    pub(crate) fn only_one(&mut self) -> Option<Box<Known>>
+        ensures one { IfSome result (λ known. (self.old ≡ known.value ∷ []) × (self.new ≡ [])) }
+        ensures kept { IfNone result (self.new ≡ self.old) }
+    {
+        match mem::replace(&mut self.held, Held::Nothing) {
+            Held::One(known) => Some(known),
+            held => {
+                self.held = held;
+                None
+            }
+        }
+    }
+
+    /// Takes all of them, in their places.
+    fn take_places(&mut self, alloc: Global) -> Result<Box<[Option<Box<Known>>; MOST]>, AllocError>
+        ensures { IfOk result (λ places. cases_in places.value ≡ self.old) }
+    {
+        let first = match mem::replace(&mut self.held, Held::Nothing) {
+            Held::Nothing => None,
+            Held::One(known) => Some(known),
+            Held::Several(places) => return Ok(places),
+        };
+        Ok(Box::new(alloc, [first, None, None, None])?)
     }
 
     /// Joins a case with the first of them, and says whether there is one.
@@ -221,28 +308,34 @@ impl Cases {
         ensures joined { result ≡ true → IsAdded self.old known.now self.new }
         ensures kept { result ≡ false → self.new ≡ self.old }
     {
-        match first_place(&self.places) {
-            Some(place) => settle(&mut self.places, place, known).is_none(),
-            None => false,
+        match mem::replace(&mut self.held, Held::Nothing) {
+            Held::Nothing => false,
+            Held::One(mut one) => {
+                one.join(known);
+                self.held = Held::One(one);
+                true
+            }
+            Held::Several(mut places) => {
+                let joined = settle_first(&mut places, known);
+                self.held = Held::Several(places);
+                joined
+            }
         }
     }
 
     /// Adds a case: beside them, or joined with one of them, or beside them with two of them joined. Says whether it stands
     /// beside others.
-    pub(crate) fn push(&mut self, known: Box<Known>) -> bool
-        ensures { IsAdded self.old known.value self.new }
+    pub(crate) fn push(&mut self, alloc: Global, known: Box<Known>) -> Result<bool, AllocError>
+        ensures { IsOk result → IsAdded self.old known.value self.new }
     {
         if self.is_empty() {
-            self.places[0] = Some(known);
-            return false;
+            self.held = Held::One(known);
+            return Ok(false);
         }
-        match room_for(&mut self.places, &known) {
-            Some(place) => {
-                self.places[place] = Some(known);
-                true
-            }
-            None => false,
-        }
+        let mut places = self.take_places(alloc)?;
+        let stands = place(&mut places, known);
+        self.held = Held::Several(places);
+        Ok(stands)
     }
 
     /// Adds a copy of a case in the same way.
@@ -250,15 +343,12 @@ impl Cases {
         ensures { IsOk result → IsAdded self.old known.now self.new }
     {
         if self.is_empty() {
-            self.places[0] = Some(Box::new(alloc, *known)?);
+            self.held = Held::One(Box::new(alloc, *known)?);
             return Ok(false);
         }
-        match room_for(&mut self.places, known) {
-            Some(place) => {
-                self.places[place] = Some(Box::new(alloc, *known)?);
-                Ok(true)
-            }
-            None => Ok(false),
-        }
+        let mut places = self.take_places(alloc)?;
+        let stands = place_copy(&mut places, alloc, known)?;
+        self.held = Held::Several(places);
+        Ok(stands)
     }
 }

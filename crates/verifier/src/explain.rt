@@ -6,9 +6,9 @@ ghost use Rattle.verifier.specs.Findings.{IsFinding, IsWalkFinding};
 ghost use Rattle.verifier.specs.Follows.{reg_of};
 ghost use Rattle.verifier.specs.WaitsParts.{IsNoted};
 
-use crate::first_look::first_look;
 use crate::known::Known;
 use crate::walk::{NOWHERE, Onward, Upshot, Waiting, visit};
+use insn::first_look::first_look;
 use insn::instruction::Insn;
 use insn::layout::Layout;
 use insn::program::Program;

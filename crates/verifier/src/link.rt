@@ -3,8 +3,8 @@
 ghost use Rattle.std.specs.Prelude.{◌≡◌, ◌<◌, ℕ, None, Some, if◌then◌else◌, IfNone, IfSome, length, slice_index_or, true};
 ghost use Rattle.insn.specs.Instruction.{reg_number};
 ghost use Rattle.verifier.specs.Links.{AreLeft, AreLinksJoined, AreMade, IsLinkJoin, bits_after, copied, difference_made, joining as spec_joining, less, lesser, link_after, link_at, link_kept, link_left, link_made, link_of as spec_link_of};
-ghost use Rattle.verifier.specs.LinksParts.{AreNumbersRefined, IsLinkRefined};
-ghost use Rattle.verifier.specs.Learnt.{AreLinkNarrowed, AreLowestNarrowed, IsDerived, IsLinkNarrowed, IsTraced};
+ghost use Rattle.verifier.specs.LinksParts.{AreNumbersRefined, IsEqualKept, IsLinkRefined};
+ghost use Rattle.verifier.specs.Learnt.{AreLinkNarrowed, IsDerived, IsLinkNarrowed, IsNarrowedTo, IsTraced};
 
 use insn::action::Action;
 use insn::instruction::Operand;
@@ -29,8 +29,8 @@ impl Relation {
         ensures { IsDerived self width of plus result }
     {
         match self {
-            Relation::Sum => Scalar::apply(BinOp::Add, width, of, plus),
-            Relation::Difference => Scalar::apply(BinOp::Sub, width, plus, of),
+            Relation::Sum => Scalar::apply_by_parts(BinOp::Add, width, of, plus),
+            Relation::Difference => Scalar::apply_by_parts(BinOp::Sub, width, plus, of),
         }
     }
 
@@ -39,8 +39,8 @@ impl Relation {
         ensures { IsTraced self width register plus result }
     {
         match self {
-            Relation::Sum => Scalar::apply(BinOp::Sub, width, register, plus),
-            Relation::Difference => Scalar::apply(BinOp::Sub, width, plus, register),
+            Relation::Sum => Scalar::apply_by_parts(BinOp::Sub, width, register, plus),
+            Relation::Difference => Scalar::apply_by_parts(BinOp::Sub, width, plus, register),
         }
     }
 }
@@ -171,23 +171,14 @@ impl Link {
         ensures right { AreNumbersRefined self a b result }
         ensures narrowed { IfSome result (AreLinkNarrowed self a b) }
     {
-        match self.bits {
-            Bits::Lowest(width) => self.refine_lowest(width, a, b),
-            Bits::Shifted => Some((a, b)),
-        }
-    }
-
-    /// The same, of a link that tells the lowest bits.
-    fn refine_lowest(self, width: Width, a: Scalar, b: Scalar) -> Option<(Scalar, Scalar)>
-        requires { self.bits ≡ Bits.Lowest width }
-        ensures right { AreNumbersRefined self a b result }
-        ensures narrowed { IfSome result (AreLowestNarrowed self width a b) }
-    {
+        let Bits::Lowest(width) = self.bits else {
+            return Some((a, b));
+        };
         let plus = Scalar::exact(self.plus);
         let derived = self.relation.derive(width, a, plus);
-        let (b, _) = Scalar::refine(Cond::Eq, width, b, derived, true)?;
+        let b = narrowed_to(width, b, derived)?;
         let traced = self.relation.trace(width, b, plus);
-        let (a, _) = Scalar::refine(Cond::Eq, width, a, traced, true)?;
+        let a = narrowed_to(width, a, traced)?;
         Some((a, b))
     }
 
@@ -203,6 +194,19 @@ impl Link {
         let (a, b) = self.refine_numbers(a, b)?;
         Some((Reg::Number(a), Reg::Number(b)))
     }
+}
+
+/// What numbers can still be that equal one of others in a width; `None` where there are none. They stay as they are
+/// where the others cover them and there is one of them at least.
+fn narrowed_to(width: Width, numbers: Scalar, others: Scalar) -> Option<Scalar>
+    ensures right { IsEqualKept width numbers others result }
+    ensures narrowed { IfSome result (IsNarrowedTo width numbers others) }
+{
+    if others.covers(numbers) && numbers.has(numbers.bounds().0) {
+        return Some(numbers);
+    }
+    let (numbers, _) = Scalar::refine(Cond::Eq, width, numbers, others, true)?;
+    Some(numbers)
 }
 
 /// The links of the registers. Where there are not any, what stands in the list is none.
