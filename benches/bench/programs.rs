@@ -91,7 +91,8 @@ const WORKS: [Work; 9] = [
         turns: 2000,
         tail: "exit\n",
     },
-    // the worst that was found: four cases, in each of which six registers are linked with the one that is compared
+    // four cases, in each of which six registers are linked with the one that is compared. The worst that was found is its
+    // like, with nine links and another constant in each turn: it takes one and a half times as long
     Work {
         name: "links and four cases",
         head: "mov64 r0 1\nldxdw r2 r1 8\nldxdw r3 r1 16\nmov64 r7 0\nmov64 r8 0\njgt64 r2 7 +1\nmov64 r7 1\njgt64 r3 7 +1\nmov64 r8 1\nldxdw r0 r1 0\nmov64 r2 r0\nadd64 r2 2\nmov64 r3 r0\nadd64 r3 3\nmov64 r4 r0\nadd64 r4 4\nmov64 r5 r0\nadd64 r5 5\nmov64 r6 r0\nadd64 r6 6\nmov64 r9 r0\nadd64 r9 9\n",
