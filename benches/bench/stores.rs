@@ -23,24 +23,22 @@ struct Trio {
 #[derive(Clone, Copy)]
 enum Work {
     Give,
-    Issue,
+    UseCode,
     Access,
     Code,
     Refresh,
-    SpendCode,
     SpendRefresh,
     End,
     Lower,
 }
 
 /// The works, in the order in which each store meets them.
-const WORKS: [Work; 9] = [
+const WORKS: [Work; 8] = [
     Work::Give,
-    Work::Issue,
+    Work::UseCode,
     Work::Access,
     Work::Code,
     Work::Refresh,
-    Work::SpendCode,
     Work::SpendRefresh,
     Work::End,
     Work::Lower,
@@ -86,8 +84,8 @@ impl Trio {
         )
     }
 
-    /// Issues both tokens for the code.
-    fn issue(&self, store: &mut Store, moment: Moment) -> bool {
+    /// Uses the code for both tokens.
+    fn use_code(&self, store: &mut Store, moment: Moment) -> bool {
         let of = self.code;
         if store.at(&of, moment).is_none() {
             return false;
@@ -112,12 +110,19 @@ impl Trio {
         };
         make(
             store,
-            &Changes::Two(
-                Change::Issued { of, token: access },
-                Change::Issued { of, token: refresh },
-            ),
+            &Changes::Used {
+                of,
+                access,
+                refresh: Some(refresh),
+            },
             moment,
         )
+    }
+
+    /// Spends the refresh token.
+    fn spend(&self, store: &mut Store, moment: Moment) -> bool {
+        let digest = self.refresh;
+        make(store, &Changes::One(Change::Spent { digest }), moment)
     }
 
     /// Ends the family of the access token.
@@ -142,20 +147,14 @@ impl Trio {
     }
 }
 
-// Spends what the digest names.
-fn spend(store: &mut Store, digest: Digest, moment: Moment) -> bool {
-    make(store, &Changes::One(Change::Spent { digest }), moment)
-}
-
 impl Work {
     fn name(self) -> &'static str {
         match self {
             Work::Give => "give a code",
-            Work::Issue => "look up a code and issue two tokens",
+            Work::UseCode => "look up a code and use it for two tokens",
             Work::Access => "look up an access token",
             Work::Code => "look up a code",
             Work::Refresh => "look up a refresh token",
-            Work::SpendCode => "spend a code",
             Work::SpendRefresh => "spend a refresh token",
             Work::End => "look up a token and end its family",
             Work::Lower => "lower a consent with one family",
@@ -166,12 +165,11 @@ impl Work {
     fn does(self, store: &mut Store, trio: &Trio, moment: Moment) -> bool {
         match self {
             Work::Give => trio.give(store, moment),
-            Work::Issue => trio.issue(store, moment),
+            Work::UseCode => trio.use_code(store, moment),
             Work::Access => store.at(&trio.access, moment).is_some(),
             Work::Code => store.at(&trio.code, moment).is_some(),
             Work::Refresh => store.at(&trio.refresh, moment).is_some(),
-            Work::SpendCode => spend(store, trio.code, moment),
-            Work::SpendRefresh => spend(store, trio.refresh, moment),
+            Work::SpendRefresh => trio.spend(store, moment),
             Work::End => trio.end(store, moment),
             Work::Lower => trio.lower(store, moment),
         }

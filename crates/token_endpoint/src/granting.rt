@@ -91,19 +91,22 @@ pub(crate) fn access_for<'c>(
         (λ s used. access_for s used (record { scope = scope; life = life })) }
     ensures short { IsShortAnswer result.answer }
 {
-    let token = access_token(view, scope, life);
-    let first = token.digest;
+    let access = access_token(view, scope, life);
+    let first = access.digest;
     if !view.is_free(&[first]) {
         return Decision::unavailable(view.want(&[first]));
     }
-    let of = *digest;
     Decision {
         answer: Answer::Access {
             draw: view.draws.first,
             scope,
             life,
         },
-        changes: Changes::Two(Change::Issued { of, token }, Change::Spent { digest: of }),
+        changes: Changes::Used {
+            of: *digest,
+            access,
+            refresh: None,
+        },
     }
 }
 
@@ -121,22 +124,23 @@ pub(crate) fn both_for<'c>(
         (λ s g. both_for s g (record { scope = scope; life = life }) kept) }
     ensures short { IsShortAnswer result.answer }
 {
-    let token = access_token(view, scope, life);
-    let other = refresh_token(view, kept);
-    let first = token.digest;
-    let second = other.digest;
+    let access = access_token(view, scope, life);
+    let refresh = refresh_token(view, kept);
+    let first = access.digest;
+    let second = refresh.digest;
     if !view.is_free(&[first, second]) {
         return Decision::unavailable(view.want(&[first, second]));
     }
-    let of = *digest;
-    let access = Change::Issued { of, token };
-    let refresh = Change::Issued { of, token: other };
     Decision {
         answer: Answer::Both {
             draws: *view.draws,
             scope,
             life,
         },
-        changes: Changes::Three(access, refresh, Change::Spent { digest: of }),
+        changes: Changes::Used {
+            of: *digest,
+            access,
+            refresh: Some(refresh),
+        },
     }
 }

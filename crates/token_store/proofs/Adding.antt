@@ -1,23 +1,12 @@
 -- A store that keeps one code or token more fits the history in which it is given.
 use Rattle.std.proofs.Common.{◌≡◌, ◌≤◌, ℕ, List, [], ◌∷◌, ◌++◌, Option, Some, None, false, cond, length, refl, ap, ◌∙◌, sym, arith}
-use Rattle.std.specs.Prelude.{count_by, option_map}
-use Rattle.std.specs.Option.{option_or}
-use Rattle.std.proofs.lemmas.List.Folds.{find-append}
-use Rattle.std.proofs.lemmas.Slice.Eq.{bytes_eq-Decides}
-use Rattle.consent.specs.ListLaws.{count_by-none}
-use Rattle.consent.specs.History.{Event, Grant, grant_of, grant_at, is_named, is_unexpired, spends, has_ended, code_terms, IsHistory, terms_of, with_change}
-use Rattle.consent.specs.Growth.{may_end}
-use Rattle.consent.specs.GrowthLaws.{grant_at-push, unexpired_count-push, is_spent-push_other, is_spent-unnamed, has_ended-push_other, code_terms-push, code_terms-push_other}
-use Rattle.consent.specs.HistoryLaws.{grant_at-placed, code_terms-fresh, has_ended-fresh, is_history-push}
-use Rattle.token_store.specs.Kept.{Kept, kept_at}
-use Rattle.token_store.specs.Fits.{FitsBy, to_keep}
-use Rattle.token_store.specs.FitsParts.{with_family_number}
+use Rattle.token_store.proofs.Names.{count_by, option_or, find-append, bytes_eq-Decides, count_by-none, Event, Grant, grant_of, grant_at, is_named, is_unexpired, spends, has_ended, code_terms}
+use Rattle.token_store.proofs.Names.{IsHistory, terms_of, with_change, may_end, grant_at-push, unexpired_count-push, is_spent-push_other, is_spent-unnamed, has_ended-push_other, code_terms-push}
+use Rattle.token_store.proofs.Names.{code_terms-push_other, grant_at-placed, code_terms-fresh, has_ended-fresh, is_history-push, Kept, kept_at, FitsBy, to_keep, with_family_number, nat_tests, ne_eqb}
+use Rattle.token_store.proofs.Names.{eq-eqb, code_given, code_kept, IsUnused}
+use Rattle.std.specs.Prelude.{option_map}
 use Rattle.token_store.proofs.Looking.{count-push}
-use Rattle.std.proofs.lemmas.Bool.Decides.{nat_tests}
-use Rattle.std.proofs.lemmas.Bool.{ne_eqb, eq-eqb}
 use Rattle.consent.specs.declared.change.CodeFacts.{CodeFacts}
-use Rattle.consent.specs.Changes.{code_given}
-use Rattle.token_store.specs.RecordsParts.{code_kept, IsUnused}
 
 -- where the history names nothing, nothing is kept
 pub unkept : (kept : List Kept) (history : List Event) (number : ℕ → ℕ) (moment : ℕ) (digest : List ℕ) → FitsBy kept history moment number → grant_at history digest moment ≡ None → kept_at kept digest moment ≡ None

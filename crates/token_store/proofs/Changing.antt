@@ -1,25 +1,13 @@
 -- What the store fits as a change is made.
 use Rattle.std.proofs.Common.{◌≡◌, ◌≢◌, ◌<◌, ℕ, List, [], ◌∷◌, ◌++◌, Option, Some, None, true, append-nil, refl, ap, ◌∙◌, sym, subst, arith}
-use Rattle.std.specs.Prelude.{◌==◌, map, option_map, slice_index_or, is_some}
-use Rattle.std.specs.Str.{bytes_eq}
-use Rattle.std.specs.Option.{option_and_then}
-use Rattle.std.proofs.lemmas.Bool.{eq-eqb, and_parts, and_from}
-use Rattle.consent.specs.ListLaws.{find-some, find-passes}
-use Rattle.consent.specs.History.{Event, Change, Grant, grant_at, is_named, is_unexpired, CanFollow, with_change, with_changes}
-use Rattle.consent.specs.GrowthLaws.{with_changes-cons}
-use Rattle.consent.specs.Changes.{change_of, changes_of, AllFollow}
-use Rattle.consent.specs.declared.change.Change.{Change as Made}
-use Rattle.token_store.specs.declared.record.Shared.{Shared}
-use Rattle.token_store.specs.Kept.{Kept, kept_at, is_in, HasFamily, Expected}
-use Rattle.token_store.specs.Fits.{FitsBy, FitsHistory, MakesChanges}
-use Rattle.token_store.specs.Records.{shared_at, all_kept, Tied, kept_of, IsTied}
-use Rattle.token_store.specs.RecordsParts.{TellsSame}
-use Rattle.token_store.specs.Room.{Waits, NextIs, expected_of}
+use Rattle.token_store.proofs.Names.{◌==◌, slice_index_or, is_some, bytes_eq, eq-eqb, and_parts, and_from, find-some, find-passes, Event, Grant, grant_at, is_named, is_unexpired, CanFollow}
+use Rattle.token_store.proofs.Names.{with_change, AllFollow, Made, Shared, Kept, kept_at, is_in, HasFamily, Expected, FitsBy, FitsHistory, MakesChanges, shared_at, all_kept, Tied, kept_of, IsTied}
+use Rattle.token_store.proofs.Names.{TellsSame, Waits, NextIs, expected_of, MakesChange, Coming, Tables}
+use Rattle.std.specs.Prelude.{map, option_map}
+use Rattle.consent.specs.History.{Change}
+use Rattle.consent.specs.ChangesLaws.{begins}
 use Rattle.token_store.proofs.Looking.{found}
 use Rattle.token_store.proofs.Families.{unseen, vacant_count, tied_changed}
-use Rattle.token_store.specs.FitsParts.{MakesChange}
-use Rattle.token_store.specs.declared.tables.Coming.{Coming}
-use Rattle.token_store.specs.declared.tables.Tables.{Tables}
 use Rattle.token_store.proofs.Adding.{unkept}
 use Rattle.token_store.proofs.Telling.{fits_same}
 use Rattle.token_store.proofs.Waiting.{taken_waits}
@@ -78,23 +66,10 @@ fits_put kept mid k x t' history history' m number number' digest same is keeps 
 
 -- a change, and those after it
 pub makes_first : (old mid new : List Kept) (m : ℕ) (c : Made) (cs : List Made) → MakesChange old mid m c → MakesChanges mid new m cs → MakesChanges old new m (c ∷ cs)
-makes_first old mid new m c cs one more history next fits means follows = first_cases (change_of history m c) refl means
-  where
-    made : (x : Change) (xs : List Change) → change_of history m c ≡ Some x → changes_of (with_change history m x) m cs ≡ Some xs → x ∷ xs ≡ next → FitsHistory new (with_changes history m next) m
-    made x xs first later whole =
-        let follow : CanFollow history m x × AllFollow (with_change history m x) m xs = subst (AllFollow history m) (sym whole) follows in
-        subst (λ (l : List Change). FitsHistory new (with_changes history m l) m) whole
-        (rw (with_changes-cons history m x xs) (more (with_change history m x) xs (one history x fits first follow.0) later follow.1))
-
-    later_cases : (x : Change) → change_of history m c ≡ Some x → (o : Option (List Change)) → changes_of (with_change history m x) m cs ≡ o → option_map (λ later. x ∷ later) o ≡ Some next →
-        FitsHistory new (with_changes history m next) m
-    later_cases x is None at h = cc
-    later_cases x is (Some xs) at h = made x xs is at (cc)
-
-    first_cases : (o : Option Change) → change_of history m c ≡ o →
-        option_and_then (λ change. option_map (λ later. change ∷ later) (changes_of (with_change history m change) m cs)) o ≡ Some next → FitsHistory new (with_changes history m next) m
-    first_cases None is h = cc
-    first_cases (Some x) is h = later_cases x is (changes_of (with_change history m x) m cs) refl h
+makes_first old mid new m c cs one more history next fits means follows =
+    let b = begins history m c cs next means in
+    let follow : CanFollow history m b.first × AllFollow (with_change history m b.first) m b.later = subst (AllFollow history m) b.told_is follows in
+    subst (λ h. FitsHistory new h m) (sym b.leads_on) (more (with_change history m b.first) b.later (one history b.first fits b.first_is follow.0) b.later_are follow.1)
 
 -- and none
 pub makes_none : (kept : List Kept) (m : ℕ) → MakesChanges kept kept m []
@@ -110,9 +85,6 @@ pub record Named {A : Type 0} (o : Option Grant) (f : Grant → A) (x : A) : Typ
 pub named_by : {A : Type 0} (o : Option Grant) (f : Grant → A) (x : A) → option_map f o ≡ Some x → Named o f x
 named_by None f x h = cc
 named_by (Some g) f x h = record { grant = g; at = refl; is = cc }
-
-pub same_some : {A : Type 0} (x y : A) → Some x ≡ Some y → x ≡ y
-same_some x y h = cc
 
 -- so it is of what the change means
 pub means_so : (kept : List Kept) (history : List Event) (m : ℕ) (change next : Change) → change ≡ next → CanFollow history m next →

@@ -1,20 +1,10 @@
 -- The tables without a record that has expired.
 use Rattle.std.proofs.Common.{◌≡◌, ◌<◌, ◌≤◌, ℕ, ◌+◌, List, [], Option, Some, None, Bool, true, false, cond, refl, ap, ◌∙◌, sym, arith}
-use Rattle.std.specs.Prelude.{◌==◌, slice_index_or, count_by, option_map, unwrap_or, is_some}
-use Rattle.std.specs.List.{IsDistinct}
-use Rattle.std.specs.List.Sorted.{IsPermutation}
-use Rattle.std.specs.Str.{bytes_eq}
-use Rattle.std.specs.Map.{lookup, remove_entry, values_of, keys_of}
-use Rattle.std.proofs.lemmas.Map.Entries.{sum_by-remove_entry, sum_by_values_permutation}
-use Rattle.std.proofs.lemmas.Slice.Eq.{bytes_eq-Decides}
-use Rattle.token_store.specs.declared.record.Record.{Record}
-use Rattle.token_store.specs.declared.record.Shared.{Shared}
-use Rattle.token_store.specs.Kept.{Kept, kept_at, kept_unexpired}
-use Rattle.token_store.specs.Records.{shared_at, kept_in, kept_under, all_kept, member_count, IsCounted}
-use Rattle.token_store.specs.RecordsParts.{is_live_at, HasLeft, TellsSame}
+use Rattle.token_store.proofs.Names.{◌==◌, slice_index_or, count_by, unwrap_or, is_some, IsDistinct, IsPermutation, bytes_eq, lookup, remove_entry, values_of, keys_of, sum_by-remove_entry}
+use Rattle.token_store.proofs.Names.{sum_by_values_permutation, bytes_eq-Decides, Record, Shared, Kept, kept_at, kept_unexpired, shared_at, kept_in, kept_under, all_kept, member_count, IsCounted}
+use Rattle.token_store.proofs.Names.{is_live_at, HasLeft, TellsSame, is_unexpired, nat_tests}
+use Rattle.std.specs.Prelude.{option_map}
 use Rattle.token_store.proofs.Looking.{shown, found, count-map}
-use Rattle.consent.specs.History.{is_unexpired}
-use Rattle.std.proofs.lemmas.Bool.Decides.{nat_tests}
 
 -- a count of the others
 pub count_without : (p : Record → Bool) (digest : List ℕ) (es es' : List (List ℕ × Record)) (r : Record) → lookup (bytes_eq digest) es ≡ Some r →

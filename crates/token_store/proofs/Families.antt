@@ -1,14 +1,8 @@
 -- Families that are ended, opened or let go of.
 use Rattle.std.proofs.Common.{◌≡◌, ◌≢◌, ◌≤◌, ℕ, List, [], ◌∷◌, Option, Some, None, Bool, true, false, eqb, refl, ◌∙◌, sym, arith}
-use Rattle.std.specs.Prelude.{map, slice_index_or, option_map, nat_le, if◌then◌else◌}
-use Rattle.std.specs.Map.{values_of}
-use Rattle.consent.specs.ListLaws.{count_by-cons}
-use Rattle.token_store.specs.declared.record.Record.{Record}
-use Rattle.token_store.specs.declared.record.Shared.{Shared}
-use Rattle.token_store.specs.declared.agenda.Agenda.{Agenda}
-use Rattle.token_store.specs.Records.{shared_at, all_kept, member_count, is_coded, Tied, IsOwned}
-use Rattle.token_store.specs.RecordsParts.{RecordChange, changed, HasEnded, HasLowered, IsNextOwned, lowered_by, lowered_shared}
-use Rattle.std.proofs.lemmas.Bool.Decides.{nat_tests}
+use Rattle.token_store.proofs.Names.{slice_index_or, nat_le, if◌then◌else◌, values_of, count_by-cons, Record, Shared, Agenda, shared_at, all_kept, member_count, is_coded, Tied, IsOwned, RecordChange}
+use Rattle.token_store.proofs.Names.{changed, HasEnded, HasLowered, IsNextOwned, lowered_by, lowered_shared, nat_tests}
+use Rattle.std.specs.Prelude.{map, option_map}
 
 -- ENDING
 

@@ -1,19 +1,12 @@
 -- A store that changes what it keeps fits the history with the event that the change is for.
 use Rattle.std.proofs.Common.{◌≡◌, ◌≤◌, ℕ, ◌+◌, List, [], ◌∷◌, ◌++◌, Option, Some, None, Bool, true, false, cond, eqb, length, refl, ap, ◌∙◌, sym, arith}
-use Rattle.std.specs.Prelude.{◌||◌, option_map, map, find, count_by}
-use Rattle.std.specs.Str.{bytes_eq}
-use Rattle.std.proofs.lemmas.Bool.{lt-ltb}
-use Rattle.std.proofs.lemmas.Slice.Eq.{bytes_eq-Decides}
-use Rattle.consent.specs.ListLaws.{find-passes, find-map}
-use Rattle.consent.specs.History.{Event, Grant, grant_of, grants, grant_at, is_named, is_unexpired, is_spent, has_ended, code_terms, is_beyond, is_placed, with_change, Change, event_at, spends}
+use Rattle.token_store.proofs.Names.{◌||◌, find, count_by, bytes_eq, lt-ltb, bytes_eq-Decides, find-passes, find-map, Event, Grant, grant_of, grants, grant_at, is_named, is_unexpired, is_spent}
+use Rattle.token_store.proofs.Names.{has_ended, code_terms, is_beyond, is_placed, with_change, event_at, spends, grant_at-push_none, unexpired_count-push_none, code_terms-push_none, is_spent-push}
+use Rattle.token_store.proofs.Names.{is_spent-push_other, has_ended-push, has_ended-push_other, grant_at-now, grant_at-placed, is_history-push_none, Kept, RecordChange, changed, FitsBy, to_keep}
+use Rattle.token_store.proofs.Names.{may_end, nat_tests}
+use Rattle.std.specs.Prelude.{option_map, map}
+use Rattle.consent.specs.History.{Change}
 use Rattle.consent.specs.History.Change.{Consented, Spent, FamilyEnded}
-use Rattle.consent.specs.GrowthLaws.{grant_at-push_none, unexpired_count-push_none, code_terms-push_none, is_spent-push, is_spent-push_other, has_ended-push, has_ended-push_other}
-use Rattle.consent.specs.HistoryLaws.{grant_at-now, grant_at-placed, is_history-push_none}
-use Rattle.token_store.specs.Kept.{Kept}
-use Rattle.token_store.specs.RecordsParts.{RecordChange, changed}
-use Rattle.token_store.specs.Fits.{FitsBy, to_keep}
-use Rattle.consent.specs.Growth.{may_end}
-use Rattle.std.proofs.lemmas.Bool.Decides.{nat_tests}
 use Rattle.token_store.proofs.Looking.{count-map}
 
 -- a change that keeps the grant leaves what is found

@@ -1,26 +1,14 @@
 -- A store that keeps new tokens fits the history in which they are issued.
 use Rattle.std.proofs.Common.{◌≡◌, inl, inr, ℕ, List, [], ◌∷◌, ◌++◌, Option, Some, None, true, cond, eqb, length, refl, ap, ◌∙◌, sym, arith}
-use Rattle.std.specs.Prelude.{find, option_map, ◌==◌}
-use Rattle.std.specs.Str.{bytes_eq}
-use Rattle.std.proofs.lemmas.Bool.{eqb-true, eq-eqb, and_parts, and_from}
-use Rattle.std.proofs.lemmas.Slice.Eq.{bytes_eq-Decides}
-use Rattle.consent.specs.ListLaws.{find-passes, find-one, find-some, find-map}
-use Rattle.consent.specs.History.{Event, Grant, grants, grant_at, is_named, is_unexpired, is_code, is_code_of, code_terms, has_ended, opener, is_of, IsHome, with_change}
-use Rattle.consent.specs.GrowthLaws.{code_terms-push_other, has_ended-push_other}
-use Rattle.consent.specs.HistoryLaws.{grant_at-kin, opener-of_one, code_terms-kin, code_terms-fresh, has_ended-fresh, is_history-push}
+use Rattle.token_store.proofs.Names.{find, ◌==◌, bytes_eq, eqb-true, eq-eqb, and_parts, and_from, bytes_eq-Decides, find-passes, find-one, find-some, find-map, Event, Grant, grants, grant_at}
+use Rattle.token_store.proofs.Names.{is_named, is_unexpired, is_code, is_code_of, code_terms, has_ended, opener, is_of, IsHome, with_change, code_terms-push_other, has_ended-push_other, grant_at-kin}
+use Rattle.token_store.proofs.Names.{opener-of_one, code_terms-kin, code_terms-fresh, has_ended-fresh, is_history-push, Record, Shared, Kept, is_in, HasFamily, FitsBy, to_keep, IsMember}
+use Rattle.token_store.proofs.Names.{with_family_number, token_issued, issued_with, own_shared, kind_in, owner_in, kept_in, terms_by, shared_at, kept_under, all_kept, token_kept, IsUnused, nat_tests}
+use Rattle.std.specs.Prelude.{option_map}
 use Rattle.consent.specs.declared.change.NewToken.{NewToken}
-use Rattle.token_store.specs.declared.record.Record.{Record}
-use Rattle.token_store.specs.declared.record.Shared.{Shared}
 use Rattle.token_store.specs.declared.record.Given.{Given}
 use Rattle.token_store.specs.declared.record.Given.TheVariants.{Code, Token}
-use Rattle.token_store.specs.Kept.{Kept, is_in, HasFamily}
-use Rattle.token_store.specs.Fits.{FitsBy, to_keep}
-use Rattle.token_store.specs.FitsParts.{IsMember, with_family_number}
-use Rattle.consent.specs.Changes.{token_issued, issued_with}
-use Rattle.token_store.specs.Records.{own_shared, kind_in, owner_in, kept_in, terms_by, shared_at, kept_under, all_kept}
-use Rattle.token_store.specs.RecordsParts.{token_kept, IsUnused}
 use Rattle.token_store.proofs.Adding.{Gives, fits_given, fits_named, own_unused}
-use Rattle.std.proofs.lemmas.Bool.Decides.{nat_tests}
 
 -- ONE TOKEN
 

@@ -13,3 +13,4 @@ pub mod Telling
 pub mod Timing
 pub mod Tying
 pub mod Waiting
+pub mod Names

@@ -1,22 +1,8 @@
 -- What look-ups and counts say of the tables' records.
 use Rattle.std.proofs.Common.{◌≡◌, ℕ, ◌+◌, List, [], ◌∷◌, ◌++◌, Option, Some, None, Bool, true, cond, refl, ap, ◌∙◌, sym, arith}
-use Rattle.std.specs.Prelude.{count_by, map}
-use Rattle.std.specs.List.{IsDistinct}
-use Rattle.std.specs.Str.{bytes_eq}
-use Rattle.std.specs.Map.{lookup, keys_of}
-use Rattle.std.proofs.lemmas.Cmp.{nat_list_eq_equiv}
-use Rattle.std.proofs.lemmas.Map.{lookup-none}
-use Rattle.std.proofs.lemmas.Map.Entries.{none_past_head}
-use Rattle.std.proofs.lemmas.Map.Keys.{IsDistinct-tail}
-use Rattle.std.proofs.lemmas.Slice.Eq.{bytes_eq-Decides}
-use Rattle.std.proofs.lemmas.List.Folds.{find-append}
-use Rattle.std.proofs.lemmas.List.Sums.{sum_by_push}
-use Rattle.token_store.specs.declared.record.Record.{Record}
-use Rattle.token_store.specs.declared.record.Shared.{Shared}
-use Rattle.token_store.specs.Kept.{Kept, kept_at}
-use Rattle.token_store.specs.Records.{kept_in, all_kept}
-use Rattle.token_store.specs.RecordsParts.{is_live_at, TellsSame}
-use Rattle.consent.specs.ListLaws.{count_by-cons}
+use Rattle.token_store.proofs.Names.{count_by, IsDistinct, bytes_eq, lookup, keys_of, nat_list_eq_equiv, lookup-none, none_past_head, IsDistinct-tail, bytes_eq-Decides, find-append, sum_by_push}
+use Rattle.token_store.proofs.Names.{Record, Shared, Kept, kept_at, kept_in, all_kept, is_live_at, TellsSame, count_by-cons}
+use Rattle.std.specs.Prelude.{map}
 
 -- what is seen of the record of the digest
 abbrev pub shown : List (Option Shared) → List ℕ → ℕ → Option Record → Option Kept

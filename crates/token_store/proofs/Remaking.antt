@@ -1,26 +1,13 @@
 -- How tables are made of records.
 use Rattle.std.proofs.Common.{◌≡◌, ◌≤◌, ◌<◌, ◌⊎◌, ℕ, ◌+◌, List, [], ◌∷◌, ◌++◌, Option, Some, Bool, true, false, cond, refl, ap, ◌∙◌, sym, arith, map, take, drop, get_or, length, append_assoc, add-one, drop-cons}
-use Rattle.std.specs.Prelude.{count_by, filter, is_some, nat_eq, option_map}
-use Rattle.std.proofs.lemmas.Slice.Eq.{bytes_eq-Decides}
-use Rattle.std.proofs.lemmas.List.{take-append-drop, map-append}
-use Rattle.std.proofs.lemmas.List.Folds.{find-append}
-use Rattle.consent.specs.ListLaws.{count_by-cons, find-map, find-uncounted}
-use Rattle.consent.specs.History.{Event, is_named, is_unexpired}
+use Rattle.token_store.proofs.Names.{count_by, is_some, nat_eq, bytes_eq-Decides, take-append-drop, map-append, find-append, count_by-cons, find-map, find-uncounted, Event, is_named, is_unexpired}
+use Rattle.token_store.proofs.Names.{Record, Shared, Tables, Kept, kept_at, kept_unexpired, FitsBy, to_keep, HasDigestTwice, as_kept, kept_record, is_unexpired_record, renumbered, IsRestored}
+use Rattle.token_store.proofs.Names.{AreHomes, HasHome, AllHome, HasGrown, number_of_family, renumber_by, IsTied, kept_of, kept_in, all_kept, HasOpened, TellsSame, is_live_at, nat_tests}
+use Rattle.token_store.proofs.Names.{sum_by-append}
+use Rattle.std.specs.Prelude.{filter, option_map}
 use Rattle.consent.specs.declared.kept_record.KeptRecord.{KeptRecord}
-use Rattle.token_store.specs.declared.record.Record.{Record}
-use Rattle.token_store.specs.declared.record.Shared.{Shared}
-use Rattle.token_store.specs.declared.tables.Tables.{Tables}
-use Rattle.token_store.specs.Kept.{Kept, kept_at, kept_unexpired}
-use Rattle.token_store.specs.Fits.{FitsBy, to_keep}
-use Rattle.token_store.specs.Image.{HasDigestTwice, as_kept, kept_record}
-use Rattle.token_store.specs.ImageParts.{is_unexpired_record, renumbered, IsRestored}
-use Rattle.token_store.specs.Homes.{AreHomes, HasHome, AllHome, HasGrown, number_of_family, renumber_by}
-use Rattle.token_store.specs.Records.{IsTied, kept_of, kept_in, all_kept}
-use Rattle.token_store.specs.RecordsParts.{HasOpened, TellsSame, is_live_at}
 use Rattle.token_store.proofs.Looking.{count-push, same_push, same_on, count-map}
 use Rattle.token_store.proofs.Telling.{fits_same}
-use Rattle.std.proofs.lemmas.Bool.Decides.{nat_tests}
-use Rattle.std.proofs.lemmas.List.Sums.{sum_by-append}
 
 -- FAMILIES
 

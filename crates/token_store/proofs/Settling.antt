@@ -1,35 +1,14 @@
 -- The tables as a record that was about to come has come.
 use Rattle.std.proofs.Common.{◌≡◌, ◌<◌, ◌≤◌, ℕ, ◌+◌, List, [], ◌∷◌, ◌++◌, Option, Some, None, Bool, true, false, cond, length, refl, ap, ◌∙◌, sym, subst, arith}
-use Rattle.std.specs.Prelude.{◌==◌, is_some, slice_index_or, count_by}
-use Rattle.std.specs.List.{AllByRecursion, IsDistinct, list_any}
-use Rattle.std.specs.List.Sorted.{IsPermutation}
-use Rattle.std.specs.Option.{option_or, MatchOption}
-use Rattle.std.specs.Str.{bytes_eq}
-use Rattle.std.specs.Map.{lookup, remove_entry, set_value, values_of, keys_of}
-use Rattle.std.proofs.lemmas.List.Folds.{find-append, list_any-append}
-use Rattle.std.proofs.lemmas.List.Sums.{count_by-le-length}
-use Rattle.std.proofs.lemmas.List.{length-map}
+use Rattle.token_store.proofs.Names.{◌==◌, is_some, slice_index_or, count_by, AllByRecursion, IsDistinct, list_any, IsPermutation, option_or, MatchOption, bytes_eq, lookup, remove_entry, set_value}
+use Rattle.token_store.proofs.Names.{values_of, keys_of, find-append, list_any-append, count_by-le-length, length-map, nat_list_eq_equiv, lookup-remove_entry, IsDistinct-head, IsDistinct-tail}
+use Rattle.token_store.proofs.Names.{IsDistinct-cons, sum_by_values_permutation, bytes_eq-Decides, count_by-cons, is_named, is_unexpired, Record, Shared, Agenda, Deadline, deadlines_of, is_deadline}
+use Rattle.token_store.proofs.Names.{IsExact, Kept, kept_at, shared_at, expiry, expiry_of, kept_under, all_kept, AllListed, IsCounted, IsOwned, Tied, is_live_at, HasLeft, HasEntered, TellsSame}
+use Rattle.token_store.proofs.Names.{SharesSame, Waits, nat_tests}
 use Rattle.std.proofs.lemmas.List.Sorted.{IsPermutation-refl, IsPermutation-trans, IsPermutation-swap, IsPermutation-cons, IsPermutation-map, sum_by_pushed}
-use Rattle.std.proofs.lemmas.Cmp.{nat_list_eq_equiv}
-use Rattle.std.proofs.lemmas.Map.{lookup-remove_entry}
-use Rattle.std.proofs.lemmas.Map.Keys.{IsDistinct-head, IsDistinct-tail, IsDistinct-cons}
-use Rattle.std.proofs.lemmas.Map.Entries.{sum_by_values_permutation}
-use Rattle.std.proofs.lemmas.Slice.Eq.{bytes_eq-Decides}
-use Rattle.consent.specs.ListLaws.{count_by-cons}
-use Rattle.consent.specs.History.{is_named, is_unexpired}
-use Rattle.token_store.specs.declared.record.Record.{Record}
-use Rattle.token_store.specs.declared.record.Shared.{Shared}
-use Rattle.token_store.specs.declared.agenda.Agenda.{Agenda}
-use Rattle.token_store.specs.declared.agenda.Deadline.{Deadline}
-use Rattle.token_store.specs.Agenda.{deadlines_of, is_deadline, IsExact}
-use Rattle.token_store.specs.Kept.{Kept, kept_at}
-use Rattle.token_store.specs.Records.{shared_at, expiry, expiry_of, kept_under, all_kept, AllListed, IsCounted, IsOwned, Tied}
-use Rattle.token_store.specs.RecordsParts.{is_live_at, HasLeft, HasEntered, TellsSame, SharesSame}
-use Rattle.token_store.specs.Room.{Waits}
 use Rattle.token_store.proofs.Looking.{shown, found, count-push, same_as_is, same_on, same_push, absent_on}
 use Rattle.token_store.proofs.Waiting.{waits_other}
 use Rattle.token_store.proofs.Dropping.{counted_without, dropped_one, same_shared, count_seen, member_counted}
-use Rattle.std.proofs.lemmas.Bool.Decides.{nat_tests}
 
 -- FORGETTING
 

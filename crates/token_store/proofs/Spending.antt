@@ -1,19 +1,8 @@
 -- The tables with a record that is spent.
 use Rattle.std.proofs.Common.{◌≡◌, ℕ, List, [], ◌∷◌, Option, Some, None, true, cond, refl, ap, ◌∙◌, sym, arith}
-use Rattle.std.specs.Prelude.{◌==◌, is_some, map}
-use Rattle.std.specs.List.{IsDistinct}
-use Rattle.std.specs.Str.{bytes_eq}
-use Rattle.std.specs.Map.{lookup, set_value, keys_of}
-use Rattle.std.proofs.lemmas.Cmp.{nat_list_eq_equiv}
-use Rattle.std.proofs.lemmas.Map.{lookup-none, keys-set_value}
-use Rattle.std.proofs.lemmas.Map.Entries.{none_past_head, sum_by-set_value}
-use Rattle.std.proofs.lemmas.Map.Keys.{IsDistinct-tail}
-use Rattle.token_store.specs.declared.record.Record.{Record}
-use Rattle.token_store.specs.declared.record.Shared.{Shared}
-use Rattle.token_store.specs.Kept.{Kept, kept_at}
-use Rattle.token_store.specs.declared.agenda.Agenda.{Agenda}
-use Rattle.token_store.specs.Records.{all_kept, member_count, expiry_of, Tied}
-use Rattle.token_store.specs.RecordsParts.{RecordChange, changed, is_live_at, spent_in}
+use Rattle.token_store.proofs.Names.{◌==◌, is_some, IsDistinct, bytes_eq, lookup, set_value, keys_of, nat_list_eq_equiv, lookup-none, keys-set_value, none_past_head, sum_by-set_value}
+use Rattle.token_store.proofs.Names.{IsDistinct-tail, Record, Shared, Kept, kept_at, Agenda, all_kept, member_count, expiry_of, Tied, RecordChange, changed, is_live_at, spent_in}
+use Rattle.std.specs.Prelude.{map}
 use Rattle.token_store.proofs.Looking.{shown, found}
 
 -- FOUND

@@ -1,22 +1,11 @@
 -- The tables as what has expired goes.
 use Rattle.std.proofs.Common.{◌≡◌, ◌<◌, ℕ, List, [], ◌∷◌, ◌++◌, Option, Some, None, false, cond, refl, arith}
-use Rattle.std.specs.List.{IsDistinct}
-use Rattle.std.specs.List.Sorted.{IsPermutation}
-use Rattle.std.specs.Str.{bytes_eq}
-use Rattle.std.specs.Map.{lookup, keys_of, remove_entry}
-use Rattle.std.proofs.lemmas.List.Folds.{list_any-append}
-use Rattle.std.proofs.lemmas.Slice.Eq.{bytes_eq-Decides}
-use Rattle.token_store.specs.declared.agenda.Deadline.{Deadline}
-use Rattle.token_store.specs.declared.record.Record.{Record}
-use Rattle.token_store.specs.declared.record.Shared.{Shared}
-use Rattle.token_store.specs.Agenda.{least_from, is_deadline}
-use Rattle.token_store.specs.Records.{all_kept, expiry_of, IsCounted, IsOwned}
-use Rattle.token_store.specs.RecordsParts.{is_live_at, HasLeft, HasTaken, IsNoneExpired, AllGone, Sheds}
+use Rattle.token_store.proofs.Names.{IsDistinct, IsPermutation, bytes_eq, lookup, keys_of, remove_entry, list_any-append, bytes_eq-Decides, Deadline, Record, Shared, least_from, is_deadline}
+use Rattle.token_store.proofs.Names.{all_kept, expiry_of, IsCounted, IsOwned, is_live_at, HasLeft, HasTaken, IsNoneExpired, AllGone, Sheds, nat_tests}
 use Rattle.token_store.proofs.Looking.{same_as_is, same_on}
 use Rattle.token_store.proofs.Dropping.{counted_without, dropped_one}
 use Rattle.token_store.proofs.Settling.{fewer_found}
 use Rattle.token_store.proofs.Timing.{least_at}
-use Rattle.std.proofs.lemmas.Bool.Decides.{nat_tests}
 
 -- WHICH ARE GONE
 

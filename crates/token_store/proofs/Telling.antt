@@ -1,29 +1,13 @@
 -- What the store fits, by what is seen of its tables.
 use Rattle.std.proofs.Common.{◌≡◌, ◌≤◌, ℕ, ◌+◌, List, [], ◌∷◌, Option, Some, None, true, cond, length, refl, ap, ◌∙◌, sym, arith}
-use Rattle.std.specs.Prelude.{count_by, option_map}
-use Rattle.std.specs.List.{IsDistinct}
-use Rattle.std.specs.Str.{bytes_eq}
-use Rattle.std.specs.Map.{lookup, keys_of, values_of}
-use Rattle.std.proofs.lemmas.Cmp.{nat_list_eq_equiv}
-use Rattle.std.proofs.lemmas.List.{length-map}
-use Rattle.std.proofs.lemmas.Map.{lookup-none}
-use Rattle.std.proofs.lemmas.Map.Entries.{none_past_head}
-use Rattle.std.proofs.lemmas.Map.Keys.{IsDistinct-tail}
-use Rattle.std.proofs.lemmas.Slice.Eq.{bytes_eq-Decides}
-use Rattle.consent.specs.ListLaws.{count_by-cons, count_by-none}
-use Rattle.consent.specs.History.{Event, is_named}
+use Rattle.token_store.proofs.Names.{count_by, IsDistinct, bytes_eq, lookup, keys_of, values_of, nat_list_eq_equiv, length-map, lookup-none, none_past_head, IsDistinct-tail, bytes_eq-Decides}
+use Rattle.token_store.proofs.Names.{count_by-cons, count_by-none, Event, is_named, Record, Shared, Tables, Kept, kept_at, kept_unexpired, FitsBy, shared_at, expiry, kept_in, kept_of, all_kept}
+use Rattle.token_store.proofs.Names.{IsTied, is_live_at, IsUnused, AllLive, TellsSame, nat_tests}
+use Rattle.std.specs.Prelude.{option_map}
 use Rattle.consent.specs.Seen.{seen_at}
 use Rattle.token_store.specs.Found.{kept_seen}
-use Rattle.token_store.specs.declared.record.Record.{Record}
-use Rattle.token_store.specs.declared.record.Shared.{Shared}
-use Rattle.token_store.specs.declared.tables.Tables.{Tables}
-use Rattle.token_store.specs.Kept.{Kept, kept_at, kept_unexpired}
-use Rattle.token_store.specs.Fits.{FitsBy}
-use Rattle.token_store.specs.Records.{shared_at, expiry, kept_in, kept_of, all_kept, IsTied}
-use Rattle.token_store.specs.RecordsParts.{is_live_at, IsUnused, AllLive, TellsSame}
 use Rattle.token_store.proofs.Looking.{shown, found}
 use Rattle.token_store.proofs.Dropping.{count_seen, kept_counted}
-use Rattle.std.proofs.lemmas.Bool.Decides.{nat_tests}
 
 -- at most one is seen of a digest
 seen_once : (families : List (Option Shared)) (es : List (List ℕ × Record)) (digest : List ℕ) (t : ℕ) → IsDistinct bytes_eq (keys_of es) →

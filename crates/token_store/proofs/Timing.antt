@@ -1,14 +1,9 @@
 -- Deadlines: the least of them, and those that are still to come.
 use Rattle.std.proofs.Common.{◌≡◌, ◌<◌, ◌≤◌, ℕ, List, [], ◌∷◌, ◌++◌, Bool, true, false, cond, set, zero, suc, refl, ap, ◌∙◌, arith}
-use Rattle.std.specs.Prelude.{◌==◌, not, min, filter}
-use Rattle.std.specs.List.{list_any, list_all, AllByRecursion}
-use Rattle.std.proofs.lemmas.List.{append-nil, nil_from_length}
+use Rattle.token_store.proofs.Names.{◌==◌, not, min, list_any, list_all, AllByRecursion, nil_from_length, Deadline, Page, least_from, least, IsBounded, deadlines_in, is_deadline, is_ahead, nat_tests}
+use Rattle.std.specs.Prelude.{filter}
+use Rattle.std.proofs.lemmas.List.{append-nil}
 use Rattle.std.proofs.lemmas.List.Concat.{flat_map-append}
-use Rattle.token_store.specs.declared.agenda.Deadline.{Deadline}
-use Rattle.token_store.specs.declared.agenda.Page.{Page}
-use Rattle.token_store.specs.Agenda.{least_from, least, IsBounded, deadlines_in, is_deadline}
-use Rattle.token_store.specs.AgendaParts.{is_ahead}
-use Rattle.std.proofs.lemmas.Bool.Decides.{nat_tests}
 
 -- THE LEAST
 

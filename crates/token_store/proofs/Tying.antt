@@ -1,14 +1,6 @@
 -- What ties the tables, through a change of them.
 use Rattle.std.proofs.Common.{◌≡◌, ◌≢◌, ◌≤◌, ℕ, List, Option, Some, None, Bool, true, false, cond, arith}
-use Rattle.std.specs.Prelude.{slice_index_or}
-use Rattle.std.specs.List.{list_any}
-use Rattle.std.specs.Ordering.{is_gt}
-use Rattle.std.specs.BTreeMap.{is_at}
-use Rattle.std.specs.BTreeMap.Range.{IsFromStart}
-use Rattle.token_store.specs.declared.record.Shared.{Shared}
-use Rattle.token_store.specs.Records.{or_nothing, owner_cmp, IsOwned}
-use Rattle.token_store.specs.RecordsParts.{IsAfter, start_of}
-use Rattle.std.proofs.lemmas.Bool.Decides.{nat_tests}
+use Rattle.token_store.proofs.Names.{slice_index_or, list_any, is_gt, is_at, IsFromStart, Shared, or_nothing, owner_cmp, IsOwned, IsAfter, start_of, nat_tests}
 
 -- ORDERS
 

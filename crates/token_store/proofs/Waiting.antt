@@ -1,17 +1,10 @@
 -- Families that wait for what is about to come.
 use Rattle.std.proofs.Common.{◌≡◌, ◌≢◌, ℕ, List, [], ◌∷◌, ◌++◌, Option, Some, None, ap, ◌∙◌, sym, subst, arith}
-use Rattle.std.specs.Prelude.{map, slice_index_or}
-use Rattle.std.proofs.lemmas.List.{map-append, same_from_push}
-use Rattle.std.specs.List.{AllByRecursion}
+use Rattle.token_store.proofs.Names.{slice_index_or, map-append, same_from_push, AllByRecursion, CodeGiven, IssuedAlone, Shared, code_shared, own_shared, texts_given, HasEnded, HasLowered, HasOpened}
+use Rattle.token_store.proofs.Names.{Expected, Room, Waits, NextIs, AreReady, HasRoomFor, expected_of, Coming}
+use Rattle.std.specs.Prelude.{map}
 use Rattle.consent.specs.declared.change.Change.{Change}
-use Rattle.consent.specs.declared.change.Change.TheVariants.{CodeGiven, IssuedAlone}
-use Rattle.token_store.specs.declared.record.Shared.{Shared}
-use Rattle.token_store.specs.Records.{code_shared, own_shared, texts_given}
-use Rattle.token_store.specs.RecordsParts.{HasEnded, HasLowered, HasOpened}
-use Rattle.token_store.specs.Kept.{Expected, Room}
-use Rattle.token_store.specs.Room.{Waits, NextIs, AreReady, HasRoomFor, expected_of}
 use Rattle.token_store.specs.RoomParts.{IsFirstReady, HasRoomFirst}
-use Rattle.token_store.specs.declared.tables.Coming.{Coming}
 
 -- one whose slot is as it was
 pub waits_other : (families families' : List (Option Shared)) (n : ℕ) (s : Shared) → slice_index_or families' n None ≡ slice_index_or families n None → Waits families n s → Waits families' n s

@@ -123,14 +123,16 @@ impl Tables {
         match changes {
             Changes::Nothing => {}
             Changes::One(one) => self.apply_one(one, moment),
-            Changes::Two(one, two) => {
-                self.apply_one(one, moment);
-                self.apply_one(two, moment);
-            }
-            Changes::Three(one, two, three) => {
-                self.apply_one(one, moment);
-                self.apply_one(two, moment);
-                self.apply_one(three, moment);
+            Changes::Used {
+                of,
+                access,
+                refresh,
+            } => {
+                self.issue_with(of, access, moment);
+                if let Some(refresh) = refresh {
+                    self.issue_with(of, refresh, moment);
+                }
+                self.spend_at(of, moment);
             }
         }
     }

@@ -35,8 +35,11 @@ fn records_of(changes: &Changes<'_>) -> usize
     match changes {
         Changes::Nothing => 0,
         Changes::One(one) => records_by(one),
-        Changes::Two(one, two) => records_by(one) + records_by(two),
-        Changes::Three(one, two, three) => records_by(one) + records_by(two) + records_by(three),
+        Changes::Used { refresh: None, .. } => 1,
+        Changes::Used {
+            refresh: Some(_),
+            ..
+        } => 2,
     }
 }
 
@@ -95,7 +98,7 @@ impl Tables {
         }
     }
 
-    // Makes ready for the changes, the last first.
+    // Makes ready for the changes. No family is opened for what is issued with something that is used.
     fn prepare_all(&mut self, alloc: Global, changes: &Changes<'_>) -> Result<(), AllocError>
         requires tied { IsTied self.old [] }
         requires none { self.old.coming.items ≡ [] }
@@ -106,17 +109,8 @@ impl Tables {
         ensures ready { OnOk result (AreReady self.new.families.slots (room_of self.new).coming (as_list changes.now)) }
     {
         match changes {
-            Changes::Nothing => Ok(()),
             Changes::One(one) => self.prepare(alloc, one),
-            Changes::Two(one, two) => {
-                self.prepare(alloc, two)?;
-                self.prepare(alloc, one)
-            }
-            Changes::Three(one, two, three) => {
-                self.prepare(alloc, three)?;
-                self.prepare(alloc, two)?;
-                self.prepare(alloc, one)
-            }
+            Changes::Nothing | Changes::Used { .. } => Ok(()),
         }
     }
 

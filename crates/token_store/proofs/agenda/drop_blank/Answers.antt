@@ -1,7 +1,6 @@
 use Rattle.std.proofs.Common.{◌≡◌, rules}
+use Rattle.token_store.proofs.Names.{filter_same, is_filled}
 use Rattle.std.specs.Prelude.{filter}
-use Rattle.std.proofs.lemmas.Fn.{filter_same}
-use Rattle.token_store.specs.AgendaParts.{is_filled}
 use Rattle.token_store.proofs.Timing.{left_all, not_blank, bounded_not_blank}
 use Rattle.token_store.proofs.agenda.drop_blank.Goals as goal
 

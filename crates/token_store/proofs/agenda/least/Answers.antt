@@ -1,7 +1,5 @@
 use Rattle.std.proofs.Common.{◌∙◌, ◌++◌, ◌∷◌, [], take, ap, sym}
-use Rattle.std.specs.Prelude.{min}
-use Rattle.std.proofs.lemmas.List.{take_more}
-use Rattle.token_store.specs.Agenda.{least}
+use Rattle.token_store.proofs.Names.{min, take_more, least}
 use Rattle.token_store.proofs.Timing.{least_pushed}
 use Rattle.token_store.proofs.agenda.least.Goals as goal
 

@@ -1,6 +1,5 @@
 use Rattle.std.proofs.Common.{rules}
-use Rattle.std.proofs.lemmas.Fn.{filter_same}
-use Rattle.token_store.specs.AgendaParts.{is_ahead}
+use Rattle.token_store.proofs.Names.{filter_same, is_ahead}
 use Rattle.token_store.proofs.agenda.strike_out.Goals as goal
 
 pub returns : goal.returns

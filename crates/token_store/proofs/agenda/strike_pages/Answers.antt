@@ -1,10 +1,6 @@
 use Rattle.std.proofs.Common.{◌≡◌, ◌<◌, ◌∙◌, ◌++◌, ◌∷◌, ◌+◌, [], take, drop, get_or, set, length, ap, sym, arith}
-use Rattle.std.specs.Prelude.{min, filter}
-use Rattle.std.proofs.lemmas.List.{take_more, take_more_set, drop_more, drop-set-lt, length-set}
-use Rattle.std.proofs.lemmas.List.Elements.{filter-append}
-use Rattle.token_store.specs.declared.agenda.Page.{Page}
-use Rattle.token_store.specs.Agenda.{least, deadlines_in}
-use Rattle.token_store.specs.AgendaParts.{is_ahead}
+use Rattle.token_store.proofs.Names.{min, take_more, take_more_set, drop_more, drop-set-lt, length-set, filter-append, Page, least, deadlines_in, is_ahead}
+use Rattle.std.specs.Prelude.{filter}
 use Rattle.token_store.proofs.Timing.{pages_pushed, bounded_set, least_both}
 use Rattle.token_store.proofs.agenda.strike_pages.Goals as goal
 

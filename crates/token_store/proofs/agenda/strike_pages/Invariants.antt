@@ -1,7 +1,5 @@
 use Rattle.std.proofs.Common.{◌≡◌, take, drop, length, filter}
-use Rattle.std.specs.List.{AllByRecursion}
-use Rattle.token_store.specs.Agenda.{least, IsBounded, deadlines_in}
-use Rattle.token_store.specs.AgendaParts.{is_ahead}
+use Rattle.token_store.proofs.Names.{AllByRecursion, least, IsBounded, deadlines_in, is_ahead}
 use Rattle.token_store.proofs.agenda.strike_pages.Given as goal
 
 abbrev pub invariant-loop-page : goal.invariant-loop-page

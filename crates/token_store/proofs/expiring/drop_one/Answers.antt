@@ -1,6 +1,5 @@
 use Rattle.std.proofs.Common.{[], ◌∷◌}
-use Rattle.std.specs.Str.{bytes_eq}
-use Rattle.std.specs.Map.{lookup}
+use Rattle.token_store.proofs.Names.{bytes_eq, lookup}
 use Rattle.token_store.proofs.Sweeping.{sheds_none, sheds_one, gone_one, none_late}
 use Rattle.token_store.proofs.expiring.drop_one.Goals as goal
 

@@ -1,6 +1,5 @@
 use Rattle.std.proofs.Common.{take}
-use Rattle.token_store.specs.Agenda.{deadlines_in}
-use Rattle.token_store.specs.RecordsParts.{Sheds}
+use Rattle.token_store.proofs.Names.{deadlines_in, Sheds}
 use Rattle.token_store.proofs.expiring.drop_pages.Given as goal
 
 abbrev pub invariant-loop-page : goal.invariant-loop-page

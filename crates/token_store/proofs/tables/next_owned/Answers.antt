@@ -1,11 +1,5 @@
 use Rattle.std.proofs.Common.{◌≡◌, ◌<◌, ℕ, true, false, None, arith, subst}
-use Rattle.std.specs.List.{list_any}
-use Rattle.std.specs.Ordering.{is_gt}
-use Rattle.std.specs.BTreeMap.{is_at}
-use Rattle.std.specs.BTreeMap.Range.{IsFromStart}
-use Rattle.std.proofs.lemmas.Bool.Decides.{nat_tests}
-use Rattle.token_store.specs.Records.{owner_cmp}
-use Rattle.token_store.specs.RecordsParts.{IsAfter, IsNextOwned, start_of}
+use Rattle.token_store.proofs.Names.{list_any, is_gt, is_at, IsFromStart, nat_tests, owner_cmp, IsAfter, IsNextOwned, start_of}
 use Rattle.token_store.proofs.Tying.{le_owner, squeezed, not_among, after_start, start_after}
 use Rattle.token_store.proofs.tables.next_owned.Goals as goal
 

@@ -1,8 +1,6 @@
 use Rattle.std.proofs.Common.{◌∙◌, ◌++◌, ◌∷◌, [], ap, sym}
-use Rattle.std.specs.Prelude.{min}
+use Rattle.token_store.proofs.Names.{min, Deadline, least, deadlines_in, deadlines_of}
 use Rattle.std.proofs.lemmas.List.{append_assoc}
-use Rattle.token_store.specs.declared.agenda.Deadline.{Deadline}
-use Rattle.token_store.specs.Agenda.{least, deadlines_in, deadlines_of}
 use Rattle.token_store.proofs.Timing.{least_pushed}
 use Rattle.token_store.proofs.agenda.Agenda.add.Goals as goal
 

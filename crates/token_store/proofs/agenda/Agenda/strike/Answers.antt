@@ -1,8 +1,5 @@
 use Rattle.std.proofs.Common.{◌≡◌, ◌∙◌, ◌++◌, length, ap, sym}
-use Rattle.std.specs.Prelude.{min}
-use Rattle.std.specs.Vec.{with_items}
-use Rattle.std.proofs.lemmas.List.{with_items_is}
-use Rattle.token_store.specs.Agenda.{least, deadlines_in}
+use Rattle.token_store.proofs.Names.{min, with_items, with_items_is, least, deadlines_in}
 use Rattle.token_store.proofs.Timing.{least_both}
 use Rattle.token_store.proofs.agenda.Agenda.strike.Goals as goal
 

@@ -1,6 +1,5 @@
 use Rattle.std.proofs.Common.{◌∙◌, ap, sym, arith}
-use Rattle.std.specs.Prelude.{min}
-use Rattle.token_store.specs.Agenda.{least}
+use Rattle.token_store.proofs.Names.{min, least}
 use Rattle.token_store.proofs.Timing.{least_pushed}
 use Rattle.token_store.proofs.agenda.Page.add.Goals as goal
 

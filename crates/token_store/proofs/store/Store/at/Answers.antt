@@ -1,8 +1,6 @@
 use Rattle.std.proofs.Common.{◌≡◌, ap, ◌∙◌, sym, subst, Some}
+use Rattle.token_store.proofs.Names.{Held, kept_at, FitsHistory, kept_under, kept_of}
 use Rattle.std.specs.Option.{option_map}
-use Rattle.token_store.specs.Kept.{Held, kept_at}
-use Rattle.token_store.specs.Fits.{FitsHistory}
-use Rattle.token_store.specs.Records.{kept_under, kept_of}
 use Rattle.token_store.proofs.Telling.{seen_kept}
 use Rattle.token_store.proofs.store.Store.at.Goals as goal
 

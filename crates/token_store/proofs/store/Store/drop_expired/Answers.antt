@@ -1,7 +1,5 @@
 use Rattle.std.proofs.Common.{◌∙◌, List, arith}
-use Rattle.consent.specs.History.{Event}
-use Rattle.token_store.specs.Fits.{FitsHistory}
-use Rattle.token_store.specs.Records.{kept_of}
+use Rattle.token_store.proofs.Names.{Event, FitsHistory, kept_of}
 use Rattle.token_store.proofs.Telling.{fits_same, all_unexpired}
 use Rattle.token_store.proofs.store.Store.drop_expired.Goals as goal
 

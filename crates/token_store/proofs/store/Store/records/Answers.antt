@@ -1,8 +1,5 @@
 use Rattle.std.proofs.Common.{List, sym, subst}
-use Rattle.std.proofs.lemmas.Result.{IfOk-weaker}
-use Rattle.token_store.specs.Kept.{Kept, Held}
-use Rattle.token_store.specs.Fits.{FitsHistory}
-use Rattle.token_store.specs.Records.{kept_of}
+use Rattle.token_store.proofs.Names.{IfOk-weaker, Kept, Held, FitsHistory, kept_of}
 use Rattle.token_store.proofs.Remaking.{fits_unexpired}
 use Rattle.token_store.proofs.store.Store.records.Goals as goal
 

@@ -1,7 +1,5 @@
 use Rattle.std.proofs.Common.{sym, subst}
-use Rattle.token_store.specs.Kept.{Held}
-use Rattle.token_store.specs.Fits.{FitsHistory}
-use Rattle.token_store.specs.Records.{kept_of}
+use Rattle.token_store.proofs.Names.{Held, FitsHistory, kept_of}
 use Rattle.token_store.proofs.Telling.{fits_same}
 use Rattle.token_store.proofs.store.Store.reserve.Goals as goal
 

@@ -1,7 +1,6 @@
 use Rattle.std.proofs.Common.{arith, ◌<◌}
+use Rattle.token_store.proofs.Names.{as_kept, kept_unexpired}
 use Rattle.consent.specs.Limits.{record_limit}
-use Rattle.token_store.specs.Image.{as_kept}
-use Rattle.token_store.specs.Kept.{kept_unexpired}
 use Rattle.token_store.proofs.Remaking.{count_renumbered, fits_restored}
 use Rattle.token_store.proofs.store.Store.restored.Goals as goal
 

@@ -1,27 +1,20 @@
-use Rattle.std.proofs.Common.{[], ◌∷◌}
-use Rattle.token_store.proofs.Waiting.{room_first}
+use Rattle.std.proofs.Common.{◌∷◌, [], None, ◌≡◌, arith}
+use Rattle.token_store.proofs.Names.{rest_of_use, Issued, MakesChanges, kept_of}
+use Rattle.consent.specs.declared.change.Change.TheVariants.{Spent}
 use Rattle.token_store.proofs.Changing.{makes_first, makes_none}
 use Rattle.token_store.proofs.tables.Tables.apply.Goals as goal
+use Rattle.token_store.proofs.tables.Tables.apply.Goals.{in-Some, in_default}
 
-pub apply_one-requires-in-Two-2-clause-room : goal.apply_one-requires-in-Two-2-clause-room
-apply_one-requires-in-Two-2-clause-room c = room_first _ c.in-Two.two [] (c.apply_one-in-Two.ensures.room (c.in-Two.two ∷ []) (rw c.in-Two.is at c.requires.room))
-
-pub apply_one-requires-in-Three-2-clause-room : goal.apply_one-requires-in-Three-2-clause-room
-apply_one-requires-in-Three-2-clause-room c =
-    room_first _ c.in-Three.two (c.in-Three.three ∷ []) (c.apply_one-in-Three.ensures.room (c.in-Three.two ∷ c.in-Three.three ∷ []) (rw c.in-Three.is at c.requires.room))
-
-pub apply_one-requires-in-Three-3-clause-room : goal.apply_one-requires-in-Three-3-clause-room
-apply_one-requires-in-Three-3-clause-room c =
-    room_first _ c.in-Three.three []
-    (c.apply_one-in-Three-2.ensures.room (c.in-Three.three ∷ []) (c.apply_one-in-Three.ensures.room (c.in-Three.two ∷ c.in-Three.three ∷ []) (rw c.in-Three.is at c.requires.room)))
-
-pub returns-in-Two-clause-makes : goal.returns-in-Two-clause-makes
-returns-in-Two-clause-makes c =
-    let w = c.in-Two in
-    rw w.is (makes_first _ _ _ _ w.one (w.two ∷ []) c.apply_one-in-Two.ensures.makes (makes_first _ _ _ _ w.two [] c.apply_one-in-Two-2.ensures.makes (makes_none _ _)))
-
-pub returns-in-Three-clause-makes : goal.returns-in-Three-clause-makes
-returns-in-Three-clause-makes c =
-    let w = c.in-Three in
-    rw w.is (makes_first _ _ _ _ w.one (w.two ∷ w.three ∷ []) c.apply_one-in-Three.ensures.makes
-    (makes_first _ _ _ _ w.two (w.three ∷ []) c.apply_one-in-Three-2.ensures.makes (makes_first _ _ _ _ w.three [] c.apply_one-in-Three-3.ensures.makes (makes_none _ _))))
+pub returns-after-refresh-clause-makes : goal.returns-after-refresh-clause-makes
+returns-after-refresh-clause-makes c =
+    let w = c.in-Used in
+    let last : MakesChanges (kept_of c.match-refresh.self) (kept_of c.spend_at.new.self) c.args.moment (Spent w.of ∷ []) =
+    makes_first _ _ _ _ (Spent w.of) [] c.spend_at.ensures.makes (makes_none _ _) in
+    let more : MakesChanges (kept_of c.issue_with.new.self) (kept_of c.spend_at.new.self) c.args.moment (rest_of_use w.of w.refresh) =
+    elim c.match-refresh.branch [
+      | in-Some v ↦ rw v.in-Some.is (makes_first _ _ _ _ (Issued w.of v.in-Some.refresh) (Spent w.of ∷ []) v.issue_with-in-Some.ensures.makes (rw v.self-is at last))
+      | in_default v ↦ (let never = v.in_default.not-Some in
+          let none : w.refresh ≡ None = grind (arith, never) in
+          rw none (rw v.self-is at last))
+    ] in
+    rw w.is (makes_first _ _ _ _ (Issued w.of w.access) (rest_of_use w.of w.refresh) c.issue_with.ensures.makes more)

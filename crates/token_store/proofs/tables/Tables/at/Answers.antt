@@ -1,7 +1,6 @@
 use Rattle.std.proofs.Common.{◌≡◌, ◌∙◌, sym, ap, Some, arith}
-use Rattle.std.specs.Option.{option_copied, option_map}
-use Rattle.token_store.specs.Kept.{kept_at}
-use Rattle.token_store.specs.Records.{kept_in, kept_of}
+use Rattle.token_store.proofs.Names.{option_copied, kept_at, kept_in, kept_of}
+use Rattle.std.specs.Option.{option_map}
 use Rattle.token_store.proofs.Dropping.{has_slot, kept_counted}
 use Rattle.token_store.proofs.tables.Tables.at.Goals as goal
 

@@ -1,6 +1,5 @@
 use Rattle.std.proofs.Common.{◌≡◌, ◌∙◌, sym, ap}
-use Rattle.std.specs.Option.{option_copied}
-use Rattle.token_store.specs.Records.{or_nothing, shared_at}
+use Rattle.token_store.proofs.Names.{option_copied, or_nothing, shared_at}
 use Rattle.token_store.proofs.Families.{unseen, vacant_count}
 use Rattle.token_store.proofs.tables.Tables.close_if_empty.Goals as goal
 

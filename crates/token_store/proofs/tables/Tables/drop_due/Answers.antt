@@ -1,7 +1,5 @@
 use Rattle.std.proofs.Common.{◌∙◌, ap}
-use Rattle.std.specs.List.{list_any}
-use Rattle.token_store.specs.Agenda.{deadlines_in, deadlines_of, is_deadline}
-use Rattle.token_store.specs.RecordsParts.{AllLive}
+use Rattle.token_store.proofs.Names.{list_any, deadlines_in, deadlines_of, is_deadline, AllLive}
 use Rattle.token_store.proofs.Timing.{ahead_any}
 use Rattle.token_store.proofs.Sweeping.{sheds_on}
 use Rattle.token_store.proofs.tables.Tables.drop_due.Goals as goal

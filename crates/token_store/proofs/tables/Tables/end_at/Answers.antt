@@ -1,10 +1,6 @@
 use Rattle.std.proofs.Common.{◌≡◌, ◌∙◌, ap, sym, Some}
+use Rattle.token_store.proofs.Names.{option_copied, grant_at, family_ended, kept_at, kept_of, kept_in}
 use Rattle.std.specs.Prelude.{option_map}
-use Rattle.std.specs.Option.{option_copied}
-use Rattle.consent.specs.History.{grant_at}
-use Rattle.consent.specs.Changes.{family_ended}
-use Rattle.token_store.specs.Kept.{kept_at}
-use Rattle.token_store.specs.Records.{kept_of, kept_in}
 use Rattle.token_store.proofs.Following.{fits_ended}
 use Rattle.token_store.proofs.Changing.{family_found, means_so, named_by}
 use Rattle.token_store.proofs.tables.Tables.end_at.Goals as goal

@@ -1,9 +1,6 @@
 use Rattle.std.proofs.Common.{◌≡◌, ◌∙◌, ◌∷◌, ◌++◌, [], ap}
-use Rattle.std.specs.Prelude.{is_some, map}
-use Rattle.std.proofs.lemmas.List.{map-append}
-use Rattle.token_store.specs.declared.tables.Coming.{Coming}
-use Rattle.token_store.specs.Records.{or_nothing, is_coded}
-use Rattle.token_store.specs.Room.{room_of, expected_of}
+use Rattle.token_store.proofs.Names.{is_some, map-append, Coming, or_nothing, is_coded, room_of, expected_of}
+use Rattle.std.specs.Prelude.{map}
 use Rattle.token_store.proofs.Waiting.{waits_opened, ready_all, ready_other}
 use Rattle.token_store.proofs.tables.Tables.expect.Goals as goal
 

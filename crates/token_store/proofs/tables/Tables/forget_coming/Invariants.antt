@@ -1,6 +1,5 @@
 use Rattle.std.proofs.Common.{◌≡◌, []}
-use Rattle.std.specs.Vec.{vec_len}
-use Rattle.token_store.specs.Records.{IsTied, kept_of}
+use Rattle.token_store.proofs.Names.{vec_len, IsTied, kept_of}
 use Rattle.token_store.proofs.tables.Tables.forget_coming.Given as goal
 
 abbrev pub invariant-loop-coming : goal.invariant-loop-coming

@@ -1,16 +1,10 @@
 use Rattle.std.proofs.Common.{◌≡◌, ◌∙◌, ap, refl, ℕ, Some, length, arith}
-use Rattle.consent.specs.Changes.{code_given}
-use Rattle.consent.specs.History.{with_change}
-use Rattle.token_store.specs.declared.record.Shared.{Shared}
-use Rattle.token_store.specs.Kept.{Expected}
-use Rattle.token_store.specs.FitsParts.{with_family_number}
-use Rattle.token_store.specs.Room.{records_of}
-use Rattle.token_store.specs.Records.{or_nothing, shared_at, kept_of, kept_under, code_shared, texts_given}
-use Rattle.token_store.specs.RecordsParts.{code_kept}
+use Rattle.token_store.proofs.Names.{same_Some, code_given, with_change, Shared, Expected, with_family_number, records_of, or_nothing, shared_at, kept_of, kept_under, code_shared, texts_given}
+use Rattle.token_store.proofs.Names.{code_kept}
 use Rattle.token_store.proofs.Adding.{fits_opened}
 use Rattle.token_store.proofs.Telling.{unused_empty}
 use Rattle.token_store.proofs.Waiting.{waits_other, taken, ready_taken}
-use Rattle.token_store.proofs.Changing.{comes, fits_put, means_so, same_some}
+use Rattle.token_store.proofs.Changing.{comes, fits_put, means_so}
 use Rattle.token_store.proofs.tables.Tables.give_code.Goals as goal
 
 pub unreachable-requires-in_default-texts : goal.unreachable-requires-in_default-texts
@@ -47,7 +41,7 @@ returns c =
     ap (λ i. kept_under (shared_at slots' i) d r) c.of_code-2.ensures.family ∙ ap (λ o. kept_under (or_nothing o) d r) came.here ∙ c.of_code-2.ensures.kept d 0 in
     record {
       tied = c.put.ensures.tied;
-      makes = λ history next fits means follows. means_so (kept_of c.put.new.self) history m _ next (same_some _ _ means) follows (λ can. record {
+      makes = λ history next fits means follows. means_so (kept_of c.put.new.self) history m _ next (same_Some _ _ means) follows (λ can. record {
         number = with_family_number fits.number (length history) n;
         fits = fits_put (kept_of t) _ _ _ c.put.new.self history (with_change history m (code_given (length history) c.args.facts.now d)) m fits.number (with_family_number fits.number (length history) n) d came.same is (c.put.ensures.keeps m) fits.fits can.1 c.put.ensures.tied
             (fits_opened (kept_of t) history fits.number n m c.args.facts.now d (unused_empty t n m c.requires.tied came.waits.empty) can.1 fits.fits);

@@ -1,6 +1,5 @@
 use Rattle.std.proofs.Common.{sym, ◌∙◌, arith}
-use Rattle.std.proofs.lemmas.Bool.{ltb-true}
-use Rattle.token_store.specs.Agenda.{least, deadlines_of}
+use Rattle.token_store.proofs.Names.{ltb-true, least, deadlines_of}
 use Rattle.token_store.proofs.Timing.{least_at}
 use Rattle.token_store.proofs.tables.Tables.is_none_expired.Goals as goal
 

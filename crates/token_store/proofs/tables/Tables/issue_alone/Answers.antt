@@ -1,15 +1,9 @@
 use Rattle.std.proofs.Common.{◌≡◌, ◌∙◌, ap, refl, ℕ, length, arith}
-use Rattle.consent.specs.Changes.{token_issued}
-use Rattle.consent.specs.History.{with_change}
-use Rattle.token_store.specs.declared.record.Shared.{Shared}
-use Rattle.token_store.specs.FitsParts.{with_family_number}
-use Rattle.token_store.specs.Room.{records_of}
-use Rattle.token_store.specs.Records.{or_nothing, shared_at, kept_of, kept_under, own_shared}
-use Rattle.token_store.specs.RecordsParts.{token_kept}
+use Rattle.token_store.proofs.Names.{same_Some, token_issued, with_change, Shared, with_family_number, records_of, or_nothing, shared_at, kept_of, kept_under, own_shared, token_kept}
 use Rattle.token_store.proofs.Issuing.{fits_alone}
 use Rattle.token_store.proofs.Telling.{unused_empty}
 use Rattle.token_store.proofs.Waiting.{waits_other, ready_taken}
-use Rattle.token_store.proofs.Changing.{comes, fits_put, means_so, same_some}
+use Rattle.token_store.proofs.Changing.{comes, fits_put, means_so}
 use Rattle.token_store.proofs.tables.Tables.issue_alone.Goals as goal
 
 pub put-requires-clause-tied : goal.put-requires-clause-tied
@@ -37,7 +31,7 @@ returns c =
     ap (λ i. kept_under (shared_at slots' i) d r) c.of_token.ensures.family ∙ ap (λ o. kept_under (or_nothing o) d r) came.here ∙ c.of_token.ensures.kept s in
     record {
       tied = c.put.ensures.tied;
-      makes = λ history next fits means follows. means_so (kept_of c.put.new.self) history m _ next (same_some _ _ means) follows (λ can. record {
+      makes = λ history next fits means follows. means_so (kept_of c.put.new.self) history m _ next (same_Some _ _ means) follows (λ can. record {
         number = with_family_number fits.number (length history) n;
         fits = fits_put (kept_of t) _ _ _ c.put.new.self history (with_change history m (token_issued (length history) c.args.client 0 c.args.token.now)) m fits.number (with_family_number fits.number (length history) n) d came.same is (c.put.ensures.keeps m) fits.fits can.1 c.put.ensures.tied
             (fits_alone (kept_of t) history fits.number m c.args.client n c.args.token.now (unused_empty t n m c.requires.tied came.waits.empty) can.1 fits.fits);

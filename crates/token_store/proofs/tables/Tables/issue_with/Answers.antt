@@ -1,12 +1,6 @@
 use Rattle.std.proofs.Common.{◌≡◌, ◌∙◌, ap, sym, refl, ℕ, Some, arith}
+use Rattle.token_store.proofs.Names.{option_copied, issued_with, with_change, grant_at, kept_at, records_of, shared_at, kept_of, kept_under, kept_in, token_kept}
 use Rattle.std.specs.Prelude.{option_map}
-use Rattle.std.specs.Option.{option_copied}
-use Rattle.consent.specs.Changes.{issued_with}
-use Rattle.consent.specs.History.{with_change, grant_at}
-use Rattle.token_store.specs.Kept.{kept_at}
-use Rattle.token_store.specs.Room.{records_of}
-use Rattle.token_store.specs.Records.{shared_at, kept_of, kept_under, kept_in}
-use Rattle.token_store.specs.RecordsParts.{token_kept}
 use Rattle.token_store.proofs.Issuing.{fits_joined}
 use Rattle.token_store.proofs.Dropping.{has_slot, kept_counted}
 use Rattle.token_store.proofs.Waiting.{ready_all}

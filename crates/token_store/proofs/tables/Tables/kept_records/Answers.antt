@@ -1,14 +1,7 @@
 use Rattle.std.proofs.Common.{rules, ◌≡◌, ◌∷◌, ◌∙◌, ap, sym, ℕ, List, Some, None, true, false}
-use Rattle.std.specs.Prelude.{slice_index_or}
-use Rattle.std.specs.Str.{bytes_eq}
-use Rattle.std.specs.Map.{lookup}
+use Rattle.token_store.proofs.Names.{slice_index_or, bytes_eq, lookup, All-rest, Record, as_kept, kept_record, kept_in, kept_under, or_nothing, is_live_at}
 use Rattle.std.specs.Map.Iter.{deref_pair}
 use Rattle.std.proofs.lemmas.Map.Iter.{rest_more}
-use Rattle.std.proofs.lemmas.List.Elements.{All-rest}
-use Rattle.token_store.specs.declared.record.Record.{Record}
-use Rattle.token_store.specs.Image.{as_kept, kept_record}
-use Rattle.token_store.specs.Records.{kept_in, kept_under, or_nothing}
-use Rattle.token_store.specs.RecordsParts.{is_live_at}
 use Rattle.token_store.proofs.Remaking.{step_expired, step_kept}
 use Rattle.token_store.proofs.tables.Tables.kept_records.Goals as goal
 

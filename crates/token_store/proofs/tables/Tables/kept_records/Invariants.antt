@@ -1,10 +1,6 @@
 use Rattle.std.proofs.Common.{◌≡◌, ◌++◌, Some}
-use Rattle.std.specs.Prelude.{filter, All}
-use Rattle.std.specs.Str.{bytes_eq}
-use Rattle.std.specs.Map.{lookup}
-use Rattle.consent.specs.History.{is_unexpired}
-use Rattle.token_store.specs.Records.{kept_of, all_kept}
-use Rattle.token_store.specs.Image.{as_kept}
+use Rattle.token_store.proofs.Names.{All, bytes_eq, lookup, is_unexpired, kept_of, all_kept, as_kept}
+use Rattle.std.specs.Prelude.{filter}
 use Rattle.token_store.proofs.tables.Tables.kept_records.Given as goal
 
 abbrev pub invariant-loop-digest : goal.invariant-loop-digest

@@ -1,6 +1,5 @@
 use Rattle.std.proofs.Common.{◌≡◌, [], take}
-use Rattle.token_store.specs.Records.{IsTied}
-use Rattle.token_store.specs.Homes.{AreHomes, AllHome}
+use Rattle.token_store.proofs.Names.{IsTied, AreHomes, AllHome}
 use Rattle.token_store.proofs.tables.Tables.open_all.Given as goal
 
 abbrev pub invariant-loop-kept : goal.invariant-loop-kept

@@ -1,6 +1,5 @@
 use Rattle.std.proofs.Common.{◌≡◌, ◌∙◌, sym, ap, ℕ, None}
-use Rattle.std.specs.Prelude.{slice_index_or}
-use Rattle.token_store.specs.Records.{or_nothing}
+use Rattle.token_store.proofs.Names.{slice_index_or, or_nothing}
 use Rattle.token_store.proofs.Families.{unseen, vacant_count}
 use Rattle.token_store.proofs.tables.Tables.open_family.Goals as goal
 

@@ -1,6 +1,5 @@
 use Rattle.std.proofs.Common.{None}
-use Rattle.token_store.specs.Room.{room_of}
-use Rattle.std.proofs.lemmas.Result.{on_ok_weaker}
+use Rattle.token_store.proofs.Names.{room_of, on_ok_weaker}
 use Rattle.token_store.proofs.tables.Tables.prepare.Goals as goal
 
 pub returns-in_ok-texts-in-CodeGiven-clause-ready : goal.returns-in_ok-texts-in-CodeGiven-clause-ready

@@ -1,6 +1,5 @@
 use Rattle.std.proofs.Common.{◌≡◌, ◌∙◌, ◌∷◌, [], sym, None, Some, rules, arith}
-use Rattle.std.specs.Str.{bytes_eq}
-use Rattle.std.specs.Map.{remove_entry}
+use Rattle.token_store.proofs.Names.{bytes_eq, remove_entry}
 use Rattle.token_store.proofs.Waiting.{waits_other}
 use Rattle.token_store.proofs.Settling.{forgotten, forgot_none, replaced, settled, tied_awaiting, waits_left, count_few}
 use Rattle.token_store.proofs.tables.Tables.put.Goals as goal

@@ -1,9 +1,6 @@
 use Rattle.std.proofs.Common.{◌≡◌, ◌+◌, ◌∷◌, ◌++◌, [], take, drop, ap, ◌∙◌, sym, subst}
-use Rattle.std.proofs.lemmas.List.{take_more}
+use Rattle.token_store.proofs.Names.{take_more, kept_of, renumbered, AllHome, renumber_by}
 use Rattle.std.proofs.Math.Logic.{⊎_map}
-use Rattle.token_store.specs.Records.{kept_of}
-use Rattle.token_store.specs.ImageParts.{renumbered}
-use Rattle.token_store.specs.Homes.{AllHome, renumber_by}
 use Rattle.token_store.proofs.Remaking.{parts_at, all_split, all_mapped, two_from, tells_push, known_push}
 use Rattle.token_store.proofs.tables.Tables.put_all.Goals as goal
 

@@ -1,13 +1,5 @@
 use Rattle.std.proofs.Common.{◌≡◌, ℕ, List, [], take, map, true}
-use Rattle.std.specs.Prelude.{is_some}
-use Rattle.std.specs.Str.{bytes_eq}
-use Rattle.std.specs.Map.{lookup}
-use Rattle.token_store.specs.Kept.{kept_at}
-use Rattle.token_store.specs.Records.{IsTied, kept_of}
-use Rattle.token_store.specs.RecordsParts.{TellsSame}
-use Rattle.token_store.specs.Image.{as_kept}
-use Rattle.token_store.specs.ImageParts.{renumbered}
-use Rattle.token_store.specs.Homes.{AllHome, renumber_by}
+use Rattle.token_store.proofs.Names.{is_some, bytes_eq, lookup, kept_at, IsTied, kept_of, TellsSame, as_kept, renumbered, AllHome, renumber_by}
 use Rattle.token_store.proofs.tables.Tables.put_all.Given as goal
 
 abbrev pub invariant-loop-kept : goal.invariant-loop-kept

@@ -1,8 +1,5 @@
 use Rattle.std.proofs.Common.{rules, ◌≡◌, false}
-use Rattle.token_store.specs.Records.{kept_of}
-use Rattle.token_store.specs.Image.{kept_record}
-use Rattle.token_store.specs.ImageParts.{is_unexpired_record, renumbered}
-use Rattle.token_store.specs.Homes.{renumber_by}
+use Rattle.token_store.proofs.Names.{kept_of, kept_record, is_unexpired_record, renumbered, renumber_by}
 use Rattle.token_store.proofs.Remaking.{expired_push}
 use Rattle.token_store.proofs.tables.Tables.put_home.Goals as goal
 

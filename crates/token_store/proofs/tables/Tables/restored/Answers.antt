@@ -1,8 +1,5 @@
 use Rattle.std.proofs.Common.{◌≡◌, ◌∙◌, refl, List, [], ◌∷◌, ℕ, Option}
-use Rattle.token_store.specs.declared.record.Record.{Record}
-use Rattle.token_store.specs.declared.record.Shared.{Shared}
-use Rattle.token_store.specs.Records.{kept_of, all_kept}
-use Rattle.token_store.specs.Homes.{renumber_by}
+use Rattle.token_store.proofs.Names.{Record, Shared, kept_of, all_kept, renumber_by}
 use Rattle.token_store.proofs.Remaking.{restored_from}
 use Rattle.token_store.proofs.tables.Tables.restored.Goals as goal
 

@@ -1,14 +1,12 @@
 use Rattle.std.proofs.Common.{arith, ◌≡◌, true, None}
-use Rattle.std.specs.Prelude.{is_some}
-use Rattle.token_store.specs.Kept.{kept_at}
-use Rattle.token_store.specs.Records.{kept_of}
+use Rattle.token_store.proofs.Names.{is_some, same_Some, kept_at, kept_of}
 use Rattle.token_store.proofs.Spending.{unspent_same}
 use Rattle.token_store.proofs.Following.{fits_spent}
-use Rattle.token_store.proofs.Changing.{means_so, same_some}
+use Rattle.token_store.proofs.Changing.{means_so}
 use Rattle.token_store.proofs.tables.Tables.spend_at.Goals as goal
 
 pub returns-then-is_some-clause-makes : goal.returns-then-is_some-clause-makes
-returns-then-is_some-clause-makes c = λ history next fits means follows. means_so (kept_of c.spend.new.self) history c.args.moment _ next (same_some _ _ means) follows (λ can.
+returns-then-is_some-clause-makes c = λ history next fits means follows. means_so (kept_of c.spend.new.self) history c.args.moment _ next (same_Some _ _ means) follows (λ can.
     let t = c.args.self.now in
     let d = c.args.digest.now in
     let m = c.args.moment in
@@ -19,7 +17,7 @@ returns-then-is_some-clause-makes c = λ history next fits means follows. means_
     record { number = fits.number; fits = rw (c.spend.ensures.changed m there) (fits_spent (kept_of t) history fits.number m d fits.fits) })
 
 pub returns-else-is_some-clause-makes : goal.returns-else-is_some-clause-makes
-returns-else-is_some-clause-makes c = λ history next fits means follows. means_so (kept_of c.args.self.now) history c.args.moment _ next (same_some _ _ means) follows (λ can.
+returns-else-is_some-clause-makes c = λ history next fits means follows. means_so (kept_of c.args.self.now) history c.args.moment _ next (same_Some _ _ means) follows (λ can.
     let t = c.args.self.now in
     let d = c.args.digest.now in
     let m = c.args.moment in
