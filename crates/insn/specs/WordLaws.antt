@@ -10,9 +10,9 @@ use mir.Val.{bits, hbits}
 use Rattle.insn.specs.declared.operation.Width.{Width}
 use Rattle.insn.specs.declared.operation.Width.TheVariants.{W32, W64}
 use Rattle.insn.specs.declared.operation.BinOp.{BinOp}
-use Rattle.insn.specs.declared.operation.BinOp.TheVariants.{Add, Sub, Mul, Div, Sdiv, Or, And, Lsh, Rsh, Mod, Smod, Xor, Mov, Arsh}
+use Rattle.insn.specs.declared.operation.BinOp.TheVariants.{Div, Sdiv, Or, And, Rsh, Mod, Smod, Xor, Mov, Arsh}
 use Rattle.insn.specs.declared.operation.SwapKind.{SwapKind}
-use Rattle.insn.specs.declared.operation.SwapKind.TheVariants.{ToLittle, ToBig, Swap}
+use Rattle.insn.specs.declared.operation.SwapKind.TheVariants.{ToLittle}
 use Rattle.insn.specs.declared.operation.SwapBits.{SwapBits}
 use Rattle.insn.specs.declared.operation.SwapBits.TheVariants as swapped
 use Rattle.insn.specs.declared.operation.ExtendBits.{ExtendBits}
@@ -47,20 +47,17 @@ shifted_fits : (w : IntWidth) (a k : ℕ) → a < 2 ^ bits w → cast_unsigned w
 shifted_fits w a k h = smaller_fits w a (int_shr (cast_signed w a) k) h (mag_shr (cast_signed w a) (2 ^ k))
 
 result_in_fits : (w : IntWidth) (op : BinOp) (a b : ℕ) → a < 2 ^ bits w → b < 2 ^ bits w → result_in w op a b < 2 ^ bits w
-result_in_fits w Add a b h k = wrapped_fits w _
-result_in_fits w Sub a b h k = wrapped_fits w _
-result_in_fits w Mul a b h k = wrapped_fits w _
 result_in_fits w Div a b h k = lt_of_le_of_lt (div-le_self a b) h
 result_in_fits w Sdiv a b h k = quotient_fits w a b
 result_in_fits w Or a b h k = or_lt (bits w) a b h k
 result_in_fits w And a b h k = lt_of_le_of_lt (and_le_l a b) h
-result_in_fits w Lsh a b h k = wrapped_fits w _
 result_in_fits w Rsh a b h k = lt_of_le_of_lt (div-le_self a (2 ^ (b % bits w))) h
 result_in_fits w Mod a b h k = lt_of_le_of_lt (mod-le a b) h
 result_in_fits w Smod a b h k = remainder_fits w a b h
 result_in_fits w Xor a b h k = xor_lt (bits w) a b h k
 result_in_fits w Mov a b h k = k
 result_in_fits w Arsh a b h k = shifted_fits w a (b % bits w) h
+result_in_fits w op a b h k = wrapped_fits w _
 
 -- ---- words
 
@@ -84,28 +81,22 @@ word_negated_fits w a = wrapped_fits (int_width w) _
 
 swap_bytes_fits : (n : SwapBits) (a : ℕ) → swap_bytes (swap_width n) a < 2 ^ bits (swap_width n)
 swap_bytes_fits swapped.B16 a = omega arith
-swap_bytes_fits swapped.B32 a = omega arith
-swap_bytes_fits swapped.B64 a = omega arith
+swap_bytes_fits n a = omega arith
 
 -- a byte swap has no bits above those that it keeps
 pub word_swapped_fits : (kind : SwapKind) (n : SwapBits) (a : ℕ) → word_swapped kind n a < 2 ^ bits (swap_width n)
 word_swapped_fits ToLittle n a = wrapped_fits (swap_width n) a
-word_swapped_fits ToBig n a = swap_bytes_fits n (wrapped (swap_width n) a)
-word_swapped_fits Swap n a = swap_bytes_fits n (wrapped (swap_width n) a)
+word_swapped_fits kind n a = swap_bytes_fits n (wrapped (swap_width n) a)
 
 -- so it is a word
 pub word_swapped_is_word : (kind : SwapKind) (n : SwapBits) (a : ℕ) → word_swapped kind n a < 2 ^ 64
-word_swapped_is_word kind swapped.B16 a = let h = word_swapped_fits kind swapped.B16 a in omega (arith, h)
-word_swapped_is_word kind swapped.B32 a = let h = word_swapped_fits kind swapped.B32 a in omega (arith, h)
-word_swapped_is_word kind swapped.B64 a = word_swapped_fits kind swapped.B64 a
+word_swapped_is_word kind swapped.B16 a = omega (arith, word_swapped_fits kind swapped.B16 a)
+word_swapped_is_word kind n a = omega (arith, word_swapped_fits kind n a)
 
 part_widens : (w : Width) (n : ExtendBits) → T (leb (hbits (extend_width n)) (hbits (int_width w)))
 part_widens W32 extended.B8 = tt
-part_widens W32 extended.B16 = tt
-part_widens W32 extended.B32 = tt
 part_widens W64 extended.B8 = tt
-part_widens W64 extended.B16 = tt
-part_widens W64 extended.B32 = tt
+part_widens w n = tt
 
 -- a sign extension fits the width that it extends to
 pub word_extended_fits : (w : Width) (n : ExtendBits) (a : ℕ) → word_extended w n a < 2 ^ bits (int_width w)
