@@ -1,13 +1,8 @@
 -- Words that have the bits of a value outside a mask.
 use Rattle.std.proofs.Common.{◌≡◌, ℕ, ◌+◌, ◌-◌, ◌%◌, ◌^◌, ◌<◌, ◌≤◌, ◌↔◌, ◌⊎◌, min, max, refl, sym, ap, ◌∙◌, inl, inr, arith, w64}
-use Rattle.std.proofs.lemmas.Bool.{cases_lt}
-use Rattle.std.proofs.lemmas.Nat.{and_le_r, or_lt, pow_pos, pow_below, and_mask, mod_below}
-use Rattle.std.proofs.lemmas.Nat.Bits.{bit_at-lt, bit_at_and, bit_at_or, bit_at_xor, bit_at_not, bit_at-zero, bit_at_above, bit_at_ones, bit_at-pow_other, same_from_bits}
-use Rattle.std.specs.Int.{bit_at, bit_not}
-use Rattle.std.specs.Int.RustNames.{bit_and, bit_or, bit_xor}
-use Rattle.range.specs.Domain.{IsSingle}
-use Rattle.known_bits.specs.declared.bits.KnownBits.{KnownBits}
-use Rattle.known_bits.specs.Members.{Agrees, HasBits}
+use Rattle.known_bits.proofs.Names.{cases_lt, and_le_r, or_lt, pow_pos, pow_below, and_mask, mod_below, bit_at-lt, bit_at_and, bit_at_or, bit_at_xor, bit_at_not, bit_at-zero, bit_at_above}
+use Rattle.known_bits.proofs.Names.{bit_at_ones, bit_at-pow_other, same_from_bits, bit_at, bit_not, bit_and, bit_xor, IsSingle, KnownBits, Agrees, HasBits}
+use Rattle.std.specs.Int.RustNames.{bit_or}
 
 -- ---- bits of numbers
 
@@ -101,11 +96,8 @@ agrees_greatest b = record { word = or_lt 64 b.value b.mask b.fits b.mask_fits; 
 pub agrees_with_one : (b : KnownBits) (k : ℕ) → bit_at b.mask k ≡ 1 → HasBits b (bit_or b.value (2 ^ k))
 agrees_with_one b k set = record {
   word = or_lt 64 b.value (2 ^ k) b.fits (pow_below k 64 (set_below b.mask k b.mask_fits set));
-  same = λ i clear. omega (arith, bit_at_or b.value (2 ^ k) i, bit_at-lt b.value i, bit_at-pow_other k i (λ e. let bad = other i e clear in absurd (omega arith)));
+  same = λ i clear. omega (arith, bit_at_or b.value (2 ^ k) i, bit_at-lt b.value i, bit_at-pow_other k i (λ e. absurd (omega (arith, clear, set, ap (bit_at b.mask) e))));
 }
-  where
-    other : (i : ℕ) → i ≡ k → bit_at b.mask i ≡ 0 → ◌≡◌ {A = ℕ} 0 1
-    other i e clear = sym clear ∙ ap (bit_at b.mask) e ∙ set
 
 -- ---- single words
 

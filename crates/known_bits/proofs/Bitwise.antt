@@ -1,17 +1,8 @@
 -- Operations on the bits of two words, one by one.
 use Rattle.std.proofs.Common.{◌≡◌, ℕ, ◌-◌, ◌^◌, ◌<◌, ◌≤◌, min, max, sym, ap, ◌∙◌, inl, inr, arith, w64}
-use Rattle.std.proofs.lemmas.Nat.Bits.{bit_at-lt, bit_at_and, bit_at_or, bit_at_xor, bit_at-pow_same}
-use Rattle.std.specs.Int.{bit_at, bit_not}
-use Rattle.std.specs.Int.RustNames.{bit_and, bit_or, bit_xor}
-use Rattle.insn.specs.declared.operation.Width.TheVariants.{W64}
-use Rattle.insn.specs.declared.operation.BinOp.{BinOp}
-use Rattle.insn.specs.declared.operation.BinOp.TheVariants.{Or, And, Xor}
-use Rattle.insn.specs.Word.{word_result}
-use Rattle.insn.specs.WordLaws.{word_result_fits}
-use Rattle.range.specs.Domain.{IsSoundResult}
-use Rattle.known_bits.specs.declared.bits.KnownBits.{KnownBits}
-use Rattle.known_bits.specs.Members.{HasBits}
-use Rattle.known_bits.specs.Exact.{IsExact}
+use Rattle.known_bits.proofs.Names.{bit_at-lt, bit_at_and, bit_at_or, bit_at_xor, bit_at-pow_same, bit_at, bit_not, bit_and, bit_xor, W64, BinOp, Or, And, Xor, word_result, word_result_fits}
+use Rattle.known_bits.proofs.Names.{IsSoundResult, KnownBits, HasBits, IsExact}
+use Rattle.std.specs.Int.RustNames.{bit_or}
 use Rattle.known_bits.proofs.Agreeing.{apart_at, apart_from, bit_cases, bits_between, agrees_self, agrees_greatest, agrees_with_one, and_not_at}
 use Rattle.known_bits.proofs.Witnesses.{both_from}
 

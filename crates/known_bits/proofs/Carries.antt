@@ -1,13 +1,8 @@
 -- The carries of a sum.
 use Rattle.std.proofs.Common.{◌≡◌, ℕ, ◌+◌, ◌-◌, ◌*◌, ◌/◌, ◌%◌, ◌^◌, ◌<◌, ◌≤◌, sym, ap, ◌∙◌, arith}
-use Rattle.std.proofs.lemmas.Nat.{pow_pos, shr_split, mod_below, and_mod, le-div, div_below, or_disjoint}
-use Rattle.std.proofs.lemmas.Nat.Bits.{and_pow, bit_at-lt, bit_at_or, bit_at_xor}
-use Rattle.std.proofs.Math.Nat.{add-mul, zero-mul, mul-add-div_right}
-use Rattle.std.specs.Int.{bit_at}
-use Rattle.std.specs.Int.RustNames.{bit_and, bit_or, bit_xor}
-use Rattle.known_bits.specs.declared.bits.KnownBits.{KnownBits}
-use Rattle.known_bits.specs.Members.{HasBits}
-use Rattle.known_bits.specs.Exact.{carry}
+use Rattle.known_bits.proofs.Names.{pow_pos, shr_split, mod_below, and_mod, le-div, div_below, or_disjoint, and_pow, bit_at-lt, bit_at_or, bit_at_xor, add-mul, zero-mul, mul-add-div_right, bit_at}
+use Rattle.known_bits.proofs.Names.{bit_and, bit_xor, KnownBits, HasBits, carry}
+use Rattle.std.specs.Int.RustNames.{bit_or}
 use Rattle.known_bits.proofs.Agreeing.{bit_at_mod, subset_le, least_in, in_greatest, unlike_at}
 
 sum_shifted : (x y k : ℕ) → (x + y) / 2 ^ k ≡ x / 2 ^ k + y / 2 ^ k + carry k x y

@@ -10,3 +10,4 @@ pub mod Swaps
 pub mod Shifts
 pub mod Refining
 pub mod Between
+pub mod Names

@@ -1,12 +1,8 @@
 -- Words of two sets at once, and of either.
 use Rattle.std.proofs.Common.{◌≡◌, ℕ, ◌+◌, ◌-◌, ◌%◌, ◌^◌, ◌<◌, ◌↔◌, min, max, refl, sym, ap, ◌∙◌, inl, inr, arith, w64}
-use Rattle.std.proofs.lemmas.Nat.{or_lt, xor_lt}
-use Rattle.std.proofs.lemmas.Nat.Bits.{bit_at-lt, bit_at-zero, bit_at_and, bit_at_or, bit_at_xor, bit_at-pow_same, same_from_bits}
-use Rattle.std.specs.Int.{bit_at, bit_not}
-use Rattle.std.specs.Int.RustNames.{bit_and, bit_or, bit_xor}
-use Rattle.range.specs.Domain.{IsJoin}
-use Rattle.known_bits.specs.declared.bits.KnownBits.{KnownBits}
-use Rattle.known_bits.specs.Members.{Agrees, HasBits}
+use Rattle.known_bits.proofs.Names.{or_lt, xor_lt, bit_at-lt, bit_at-zero, bit_at_and, bit_at_or, bit_at_xor, bit_at-pow_same, same_from_bits, bit_at, bit_not, bit_and, bit_xor, IsJoin, KnownBits}
+use Rattle.known_bits.proofs.Names.{Agrees, HasBits}
+use Rattle.std.specs.Int.RustNames.{bit_or}
 use Rattle.known_bits.proofs.Agreeing.{apart_at, apart_bits, apart_from, bit_cases, admitted, agrees_at, agrees_self, agrees_with_one, and_not_at, unlike_at}
 
 -- ---- words of both
@@ -46,20 +42,10 @@ meet_has a b c x none value mask = (
   ),
   λ h. rw (value, mask) (record {
     word = h.0.word;
-    same = λ k clear. omega (
-      arith,
-      clear,
-      agrees_at a x k h.0,
-      agrees_at b x k h.1,
-      apart_bits a k,
-      apart_bits b k,
-      bit_at_and a.mask b.mask k,
-      bit_at_or a.value b.value k,
-      bit_at-lt a.mask k,
-      bit_at-lt b.mask k,
-      bit_at-lt a.value k,
-      bit_at-lt b.value k,
-    );
+    same = λ k clear.
+        let left = agrees_at a x k h.0 in
+        let right = agrees_at b x k h.1 in
+        omega (arith, apart_bits a k, apart_bits b k, bit_at_and a.mask b.mask k, bit_at_or a.value b.value k, bit_at-lt a.mask k, bit_at-lt b.mask k, bit_at-lt a.value k, bit_at-lt b.value k);
   }),
 )
   where
@@ -108,8 +94,6 @@ module _ (a b c : KnownBits) (mask : c.mask ≡ bit_or (bit_or a.mask b.mask) (b
     same = λ k clear.
         let left = knows_then_known a d k join.left clear in
         let right = knows_then_known b d k join.right clear in
-        let left_known = left.0 in
-        let right_known = right.0 in
         let known : bit_at c.mask k ≡ 0 = omega (arith, left.1, right.1, joined_at k) in
         h.same k known ∙ value k known ∙ left.1;
   }

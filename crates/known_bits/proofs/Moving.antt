@@ -1,18 +1,8 @@
 -- Functions that move bits take members to members.
 use Rattle.std.proofs.Common.{◌≡◌, ℕ, ◌+◌, ◌-◌, ◌*◌, ◌/◌, ◌%◌, ◌^◌, ◌≤◌, refl, sym, ap, ◌∙◌, inl, inr, lt_of_le_of_lt, div-le_self, arith}
-use Rattle.std.proofs.lemmas.Bool.{cases_lt}
-use Rattle.std.proofs.lemmas.Nat.{pow_pos, mod_below, shr-shr}
-use Rattle.std.proofs.lemmas.Nat.Bits.{bit_at-zero, bit_at_cat_low, bit_at_cat_high}
+use Rattle.known_bits.proofs.Names.{cases_lt, pow_pos, mod_below, shr-shr, bit_at-zero, bit_at_cat_low, bit_at_cat_high, bit_at, bit_and, Width, W32, W64, Lsh, Rsh, seen, word_result, KnownBits}
+use Rattle.known_bits.proofs.Names.{Agrees, HasBits, MovesBits}
 use native.Mathlib.Nat.{mod-le}
-use Rattle.std.specs.Int.{bit_at}
-use Rattle.std.specs.Int.RustNames.{bit_and}
-use Rattle.insn.specs.declared.operation.Width.{Width}
-use Rattle.insn.specs.declared.operation.Width.TheVariants.{W32, W64}
-use Rattle.insn.specs.declared.operation.BinOp.TheVariants.{Lsh, Rsh}
-use Rattle.insn.specs.Word.{seen, word_result}
-use Rattle.known_bits.specs.declared.bits.KnownBits.{KnownBits}
-use Rattle.known_bits.specs.Members.{Agrees, HasBits}
-use Rattle.known_bits.specs.Moves.{MovesBits}
 use Rattle.known_bits.proofs.Agreeing.{apart_bits, apart_from, bit_at_mod, bit_at_mod_above}
 
 pub moved_agrees : (f : ℕ → ℕ) (b : KnownBits) (x : ℕ) → MovesBits f → HasBits b x → Agrees (f b.value) (f b.mask) (f x)

@@ -1,19 +1,11 @@
 -- What is known of words for which a condition has an answer.
-use Rattle.std.proofs.Common.{◌≡◌, ℕ, suc, zero, ◌+◌, ◌-◌, ◌*◌, ◌/◌, ◌%◌, ◌^◌, ◌<◌, refl, sym, ap, subst, ◌∙◌, inl, inr, Bool, true, false, not, IsTrue, arith, w64}
-use Rattle.std.proofs.lemmas.Bool.{cases_lt, cases_eq}
-use Rattle.std.proofs.lemmas.Bool.Decides.{nat_tests}
-use Rattle.std.proofs.lemmas.Nat.{pow_pos, mod_below, mod_low, shr-shr}
-use Rattle.std.proofs.lemmas.Nat.Bits.{and_pow, bit_at-lt, bit_at-zero, bit_at-pow_same, bit_at-trailing_zeros, same_from_bits, bit_at_above, bit_at_and, bit_at_or, bit_at_not, bit_at-pow_other, bit_at_mask_below, bit_at_mask_inside, bit_at_cat_low, bit_at_cat_high}
-use Rattle.std.specs.Int.{bit_at, bit_not, trailing_zeros}
-use Rattle.std.specs.Int.RustNames.{bit_and, bit_or}
-use mathlib.Core.Bool.{beq}
-use Rattle.insn.specs.declared.operation.Width.{Width}
-use Rattle.insn.specs.declared.operation.Width.TheVariants.{W32, W64}
+use Rattle.std.proofs.Common.{◌≡◌, ℕ, ◌+◌, ◌-◌, ◌*◌, ◌/◌, ◌%◌, ◌^◌, ◌<◌, refl, sym, ap, subst, ◌∙◌, inl, inr, true, false, arith, w64}
+use Rattle.known_bits.proofs.Names.{cases_lt, cases_eq, nat_tests, pow_pos, mod_below, mod_low, shr-shr, and_pow, bit_at-lt, bit_at-zero, bit_at-pow_same, bit_at-trailing_zeros, same_from_bits}
+use Rattle.known_bits.proofs.Names.{bit_at_above, bit_at_and, bit_at_or, bit_at_not, bit_at-pow_other, bit_at_mask_below, bit_at_mask_inside, bit_at_cat_low, bit_at_cat_high, bit_at, bit_not}
+use Rattle.known_bits.proofs.Names.{trailing_zeros, bit_and, Width, W32, W64, seen, word_holds, KnownBits, Agrees, HasBits}
+use Rattle.std.specs.Int.RustNames.{bit_or}
 use Rattle.insn.specs.declared.operation.Cond.{Cond}
 use Rattle.insn.specs.declared.operation.Cond.TheVariants.{Set}
-use Rattle.insn.specs.Word.{seen, word_holds}
-use Rattle.known_bits.specs.declared.bits.KnownBits.{KnownBits}
-use Rattle.known_bits.specs.Members.{Agrees, HasBits}
 use Rattle.known_bits.specs.Refined.{HasPartner}
 use Rattle.known_bits.proofs.Agreeing.{apart_bits, apart_from, agrees_below, agrees_self, bit_at_mod, bit_cases, member_of_single, set_below}
 use Rattle.known_bits.proofs.Results.{cut_has, seen_set}
@@ -85,12 +77,9 @@ bit_of_power j k set = elim (cases_eq k j) [
 ]
 
 power_touches : (n j : ℕ) → 0 < bit_and n (2 ^ j) → bit_at n j ≡ 1
-power_touches n j some = elim (cases_lt (bit_at n j) 1) [
-  | inl low ↦
-      let none : bit_at n j ≡ 0 = omega arith in
-      let product : bit_and n (2 ^ j) ≡ 0 * 2 ^ j = and_pow n j ∙ ap (λ b. b * 2 ^ j) none in
-      absurd (omega arith)
-  | inr high ↦ omega (arith, bit_at-lt n j)
+power_touches n j some = elim (bit_cases n j) [
+  | inl clear ↦ absurd (omega (arith, and_pow n j ∙ ap (λ b. b * 2 ^ j) clear))
+  | inr set ↦ set
 ]
 
 -- the one bit that is tested, where a bit is common
@@ -129,16 +118,6 @@ seen_twice W64 x = refl
 pub holds_of_seen : (w : Width) (cond : Cond) (x y : ℕ) → word_holds w cond (seen w x) (seen w y) ≡ word_holds w cond x y
 holds_of_seen w cond x y = rw (seen_twice w x, seen_twice w y) refl
 
-pub differs_from_itself : (b : Bool) → IsTrue (not (beq b b)) → ⊥
-differs_from_itself true h = absurd (cc)
-differs_from_itself false h = absurd (cc)
-
-pub differ : (p q : Bool) → (p ≡ q → ⊥) → IsTrue (not (beq p q))
-differ true true h = absurd (h refl)
-differ true false h = refl
-differ false true h = refl
-differ false false h = absurd (h refl)
-
 pub seen_zero : (w : Width) → seen w 0 ≡ 0
 seen_zero W32 = refl
 seen_zero W64 = refl
@@ -168,12 +147,8 @@ settled_touching w r t v x j is power fits mask value h =
     let set : bit_at (seen w v) j ≡ 1 = ap (λ n. bit_at n j) power ∙ bit_at-pow_same j in
     let tested : bit_at t j ≡ 1 = ap (λ n. bit_at n j) is ∙ set in
     let here = limited_at r t t x j fits mask value h tested (set_below t j fits tested) in
-    let common : bit_at (bit_and (seen w x) (seen w v)) j ≡ 1 = omega (arith, here, tested, set, (seen_set w v j set).1 x, bit_at_and (seen w x) (seen w v) j) in
-    some_bit (bit_and (seen w x) (seen w v)) j common
-  where
-    some_bit : (n k : ℕ) → bit_at n k ≡ 1 → 0 < n
-    some_bit zero k one = let none = bit_at-zero k in absurd (omega arith)
-    some_bit (suc n) k one = omega arith
+    let common : bit_and (seen w x) (seen w v) ≡ 1 * 2 ^ j = ap (bit_and (seen w x)) power ∙ and_pow (seen w x) j ∙ ap (λ b. b * 2 ^ j) ((seen_set w v j set).1 x ∙ here ∙ tested) in
+    omega (arith, common, pow_pos j)
 
 -- the trailing zeros of a power of two are its exponent
 pub trailing_of_power : (n k : ℕ) → n < 2 ^ 64 → n ≡ 2 ^ k → (k < 64) × (trailing_zeros w64 n ≡ k)

@@ -1,22 +1,8 @@
 -- Results in a width, and results of single words.
-use Rattle.std.proofs.Common.{◌≡◌, ℕ, ◌*◌, ◌%◌, ◌^◌, ◌<◌, ◌⊎◌, refl, sym, ap, ◌∙◌, inl, inr, Bool, true, false, arith}
-use Rattle.std.proofs.lemmas.Bool.{cases_lt}
-use Rattle.std.proofs.lemmas.Nat.{and_mod, or_mod, xor_mod, mul-mod, le_or_l, le_or_r}
-use Rattle.std.proofs.lemmas.Nat.Bits.{bit_at-zero}
-use Rattle.std.specs.Int.{bit_at}
+use Rattle.std.proofs.Common.{◌≡◌, ℕ, ◌^◌, ◌<◌, ◌⊎◌, refl, sym, ap, ◌∙◌, inl, inr, true, arith}
+use Rattle.known_bits.proofs.Names.{cases_lt, and_mod, or_mod, xor_mod, mul-mod, le_or_l, le_or_r, bit_at-zero, bit_at, Width, W32, W64, BinOp, Add, Sub, Mul, Div, Or, And, Mod, Xor, Mov, Neg, seen}
+use Rattle.known_bits.proofs.Names.{word_result, word_negated, word_result_fits, IsSingle, seen_same, KnownBits, HasBits, is_low, Gives, IsExact, GivesImage, IsExactImage}
 use Rattle.std.specs.Int.RustNames.{bit_or}
-use mir.Val.{bits}
-use Rattle.insn.specs.declared.operation.Width.{Width}
-use Rattle.insn.specs.declared.operation.Width.TheVariants.{W32, W64}
-use Rattle.insn.specs.declared.operation.BinOp.{BinOp}
-use Rattle.insn.specs.declared.operation.BinOp.TheVariants.{Add, Sub, Mul, Div, Sdiv, Or, And, Lsh, Rsh, Mod, Smod, Xor, Mov, Arsh}
-use Rattle.insn.specs.declared.operation.UnOp.TheVariants.{Neg}
-use Rattle.insn.specs.Word.{int_width, seen, word_result, word_negated}
-use Rattle.insn.specs.WordLaws.{word_result_fits}
-use Rattle.range.specs.Domain.{IsSingle}
-use Rattle.known_bits.specs.declared.bits.KnownBits.{KnownBits}
-use Rattle.known_bits.specs.Members.{HasBits}
-use Rattle.known_bits.specs.Exact.{Gives, IsExact, GivesImage, IsExactImage}
 use Rattle.known_bits.proofs.Agreeing.{bit_at_mod, bit_at_mod_above, member_of_single, no_mask}
 use Rattle.known_bits.proofs.Witnesses.{gives}
 use Rattle.known_bits.proofs.Moving.{moved_agrees, seen_moves}
@@ -67,42 +53,24 @@ only_exact r n k single set =
 
 -- ---- results by the kind of operation
 
-abbrev pub is_low : BinOp → Bool
-is_low Div = false
-is_low Mod = false
-is_low Sdiv = false
-is_low Smod = false
-is_low Lsh = false
-is_low Rsh = false
-is_low Arsh = false
-is_low op = true
-
 -- the low half of a result needs only the low halves of the operands
 pub by_whole : (op : BinOp) → is_low op ≡ true → (w : Width) (x y : ℕ) → x < 2 ^ 64 → y < 2 ^ 64 → word_result w op x y ≡ seen w (word_result W64 op x y)
 by_whole op low W64 x y h k = refl
 by_whole Add low W32 x y h k = omega arith
 by_whole Sub low W32 x y h k = omega arith
-by_whole Mul low W32 x y h k = sym (mul-mod x y (2 ^ 32)) ∙ sym (low_of_low (x * y))
-  where
-    low_of_low : (n : ℕ) → n % 2 ^ 64 % 2 ^ 32 ≡ n % 2 ^ 32
-    low_of_low n = omega arith
+by_whole Mul low W32 x y h k = omega (arith, mul-mod x y (2 ^ 32))
 by_whole Or low W32 x y h k = sym (or_mod x y 32)
 by_whole And low W32 x y h k = sym (and_mod x y 32)
 by_whole Xor low W32 x y h k = sym (xor_mod x y 32)
 by_whole Mov low W32 x y h k = refl
 by_whole op low W32 x y h k = absurd cc
 
--- what fits a width is seen whole
-pub seen_small : (w : Width) (x : ℕ) → x < 2 ^ bits (int_width w) → seen w x ≡ x
-seen_small W32 x h = omega arith
-seen_small W64 x h = refl
-
 -- a quotient is that of what the width sees
 pub divided : (op : BinOp) → (op ≡ Div) ⊎ (op ≡ Mod) → (w : Width) (x y : ℕ) → x < 2 ^ 64 → y < 2 ^ 64 → word_result w op x y ≡ seen w (word_result W64 op (seen w x) (seen w y))
 divided op is W64 x y h k = refl
 divided op is W32 x y h k = elim is [
-  | inl e ↦ rw e (sym (seen_small W32 (word_result W32 Div x y) (word_result_fits W32 Div x y h k)))
-  | inr e ↦ rw e (sym (seen_small W32 (word_result W32 Mod x y) (word_result_fits W32 Mod x y h k)))
+  | inl e ↦ rw e (sym (seen_same W32 (word_result W32 Div x y) (word_result_fits W32 Div x y h k)))
+  | inr e ↦ rw e (sym (seen_same W32 (word_result W32 Mod x y) (word_result_fits W32 Mod x y h k)))
 ]
 
 -- a negation is a difference from 0

@@ -1,21 +1,12 @@
 -- Signed shifts and sign extensions move bits.
 use Rattle.std.proofs.Common.{◌≡◌, ℕ, ℤ, pos, negsuc, suc, ◌+◌, ◌-◌, ◌/◌, ◌%◌, ◌^◌, ◌<◌, ◌≤◌, refl, sym, ap, ◌∙◌, inl, inr, lt_of_le_of_lt, div-le_self, arith, w32, w64}
-use Rattle.std.proofs.lemmas.Bool.{cases_lt}
-use Rattle.std.proofs.lemmas.Nat.{pow_pos, mod_below, shr-shr, le-div, div_below}
-use Rattle.std.proofs.lemmas.Nat.Bits.{bit_at-lt, bit_at_above, bit_at_not}
+use Rattle.known_bits.proofs.Names.{cases_lt, pow_pos, mod_below, shr-shr, le-div, div_below, bit_at-lt, bit_at_above, bit_at_not, mod-eq_of_lt, IntWidth, bit_at, bit_not, cast_signed, cast_unsigned}
+use Rattle.known_bits.proofs.Names.{int_shr, Width, W32, W64, Arsh, int_width, word_result, extend_width, word_extended, word_result_fits, word_extended_fits, word_in_width, MovesBits}
 use Rattle.std.proofs.lemmas.Int.{to_z_pos}
-use Rattle.std.proofs.Math.Nat.{mod-eq_of_lt}
-use Rattle.std.specs.Int.{Width as IntWidth, bit_at, bit_not, cast_signed, cast_unsigned, int_shr}
 use mir.Val.{bits, hbits}
 use mir.ValLaws.{to_z-neg}
-use Rattle.insn.specs.declared.operation.Width.{Width}
-use Rattle.insn.specs.declared.operation.Width.TheVariants.{W32, W64}
-use Rattle.insn.specs.declared.operation.BinOp.TheVariants.{Arsh}
 use Rattle.insn.specs.declared.operation.ExtendBits.{ExtendBits}
 use Rattle.insn.specs.declared.operation.ExtendBits.TheVariants as extended
-use Rattle.insn.specs.Word.{int_width, word_result, extend_width, word_extended}
-use Rattle.insn.specs.WordLaws.{word_result_fits, word_extended_fits, word_in_width}
-use Rattle.known_bits.specs.Moves.{MovesBits}
 use Rattle.known_bits.proofs.Agreeing.{bit_at_mod}
 
 -- a part of a width, whose highest bit is its sign
@@ -34,14 +25,12 @@ module _ (w part : IntWidth) (j : ℕ) (is : IsPart w part) where
 
   shifted_negative : (a : ℕ) → 2 ^ hbits part ≤ a → a < 2 ^ bits part → shifted w part j a ≡ bit_not w (bit_not part a / 2 ^ j)
   shifted_negative a large fits =
-      let twice = is.twice in
       let back : 2 ^ bits part - suc (bit_not part a) ≡ a = omega arith in
       ap (λ n. cast_unsigned w (int_shr (cast_signed part n) j)) (sym back) ∙ ap (λ z. cast_unsigned w (int_shr z j)) (to_z-neg part (bit_not part a) (omega arith)) ∙ omega arith
 
   -- a bit of a number that is negative is one of its complement, turned
   negative_at : (a k : ℕ) → 2 ^ hbits part ≤ a → a < 2 ^ bits part → k < bits w → bit_at (shifted w part j a) k ≡ 1 - bit_at (bit_not part a) (j + k)
   negative_at a k large fits low =
-      let power = is.power in
       let small : bit_not part a / 2 ^ j < 2 ^ bits w = lt_of_le_of_lt (div-le_self (bit_not part a) (2 ^ j)) (omega arith) in
       ap (λ n. bit_at n k) (shifted_negative a large fits) ∙ bit_at_not w (bit_not part a / 2 ^ j) k small low ∙ ap (λ q. 1 - q % 2) (shr-shr (bit_not part a) j k)
 
@@ -56,7 +45,6 @@ module _ (w part : IntWidth) (j : ℕ) (is : IsPart w part) where
     | inl small ↦ ap (λ n. bit_at n k) (shifted_positive a small) ∙ ap (λ q. q % 2) (shr-shr a j k) ∙ bit_at_above a (bits part) (j + k) fits beyond
         ∙ sym (bit_at_above a (hbits part) (hbits part) small (omega arith))
     | inr large ↦
-        let twice = is.twice in
         let least : 1 ≤ a / 2 ^ hbits part = le-div 1 a (2 ^ hbits part) (pow_pos (hbits part)) (omega arith) in
         let most : a / 2 ^ hbits part < 2 = div_below a (2 ^ hbits part) 2 (pow_pos (hbits part)) (omega arith) in
         negative_at a k large fits low ∙ omega (arith, bit_at_above (bit_not part a) (bits part) (j + k) (omega arith) beyond)

@@ -1,17 +1,11 @@
 -- Byte swaps move bits.
 use Rattle.std.proofs.Common.{◌≡◌, ℕ, zero, suc, ◌+◌, ◌-◌, ◌*◌, ◌/◌, ◌%◌, ◌^◌, ◌<◌, ◌≤◌, refl, sym, ap, ◌∙◌, inl, inr, arith, w16, w32, w64}
-use Rattle.std.proofs.lemmas.Bool.{cases_lt}
-use Rattle.std.proofs.lemmas.Nat.{shr-shr}
-use Rattle.std.proofs.lemmas.Nat.Bits.{bit_at_above}
-use Rattle.std.specs.Int.{Width as IntWidth, bit_at, swap_bytes}
+use Rattle.known_bits.proofs.Names.{cases_lt, shr-shr, bit_at_above, IntWidth, bit_at, swap_bytes, swap_width, word_swapped, wrapped, word_swapped_fits, MovesBits}
 use mir.Val.{bits}
 use Rattle.insn.specs.declared.operation.SwapKind.{SwapKind}
 use Rattle.insn.specs.declared.operation.SwapKind.TheVariants.{ToLittle}
 use Rattle.insn.specs.declared.operation.SwapBits.{SwapBits}
 use Rattle.insn.specs.declared.operation.SwapBits.TheVariants as swapped
-use Rattle.insn.specs.Word.{swap_width, word_swapped, wrapped}
-use Rattle.insn.specs.WordLaws.{word_swapped_fits}
-use Rattle.known_bits.specs.Moves.{MovesBits}
 use Rattle.known_bits.proofs.Agreeing.{bit_at_mod}
 use Rattle.known_bits.proofs.Moving.{low_moves}
 

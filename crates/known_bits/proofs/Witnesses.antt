@@ -1,22 +1,12 @@
 -- Members for which an unknown bit of a result is 0, and such for which it is 1.
 use Rattle.std.proofs.Common.{◌≡◌, ℕ, ◌+◌, ◌-◌, ◌%◌, ◌^◌, ◌<◌, ◌↔◌, max, sym, ap, ◌∙◌, inl, inr, arith, w64}
-use Rattle.std.proofs.lemmas.Bool.{cases_lt}
-use Rattle.std.proofs.lemmas.Nat.{pow_pos, mod_below, or_lt}
-use Rattle.std.proofs.lemmas.Nat.Bits.{bit_at_above, bit_at-lt, bit_at_or, bit_at_not, bit_at-pow_same}
-use Rattle.std.specs.Int.{bit_at, bit_not}
-use Rattle.std.specs.Int.RustNames.{bit_and, bit_or, bit_xor}
-use Rattle.insn.specs.declared.operation.Width.{Width}
-use Rattle.insn.specs.declared.operation.Width.TheVariants.{W64}
-use Rattle.insn.specs.declared.operation.BinOp.{BinOp}
-use Rattle.insn.specs.declared.operation.BinOp.TheVariants.{Add, Sub, Mov}
+use Rattle.known_bits.proofs.Names.{cases_lt, pow_pos, mod_below, or_lt, bit_at_above, bit_at-lt, bit_at_or, bit_at_not, bit_at-pow_same, bit_at, bit_not, bit_and, bit_xor, Width, W64, BinOp, Add}
+use Rattle.known_bits.proofs.Names.{Sub, Mov, unary_result, word_result, IsSoundImage, KnownBits, HasBits, Gives, IsExact, IsExactImage, carry, MovesBits}
+use Rattle.std.specs.Int.RustNames.{bit_or}
 use Rattle.insn.specs.declared.operation.UnOp.{UnOp}
-use Rattle.insn.specs.Word.{unary_result, word_result}
-use Rattle.known_bits.specs.declared.bits.KnownBits.{KnownBits}
-use Rattle.known_bits.specs.Members.{HasBits}
-use Rattle.known_bits.specs.Exact.{Gives, IsExact, IsExactImage, carry}
-use Rattle.known_bits.specs.Moves.{MovesBits}
 use Rattle.known_bits.proofs.Agreeing.{apart_at, apart_from, bit_at_mod, set_below, bit_cases, agrees_below, agrees_self, agrees_greatest, agrees_with_one}
 use Rattle.known_bits.proofs.Carries.{sum_known, flips, carry_flips}
+use Rattle.known_bits.proofs.Moving.{moved_agrees}
 
 -- ---- two results that differ
 
@@ -141,10 +131,13 @@ moved_exact op w a b r moves mask k set =
     let u = has_unknown (λ (x : ℕ). word_result w op x b.value) a k moves (ap (λ m. bit_at m k) (sym mask) ∙ set) in
     both_from op w a b k u.x b.value u.member (agrees_self b) (u.one ∙ ap (λ i. 1 - i) (sym u.zero_at_least))
 
-pub moved_exact_image : (op : UnOp) (w : Width) (a r : KnownBits) → MovesBits (λ x. unary_result op w x) → r.mask ≡ unary_result op w a.mask → IsExactImage op w a r
-moved_exact_image op w a r moves mask k set =
-    let u = has_unknown (λ x. unary_result op w x) a k moves (ap (λ m. bit_at m k) (sym mask) ∙ set) in
-    (record { x = a.value; member = agrees_self a; is = u.zero_at_least }, record { x = u.x; member = u.member; is = u.one })
+pub moved_image : (op : UnOp) (w : Width) (a r : KnownBits) → MovesBits (λ x. unary_result op w x) → r.value ≡ unary_result op w a.value → r.mask ≡ unary_result op w a.mask → IsSoundImage HasBits op w a r × IsExactImage op w a r
+moved_image op w a r moves value mask = (
+  λ x h. rw (value, mask) (moved_agrees (λ n. unary_result op w n) a x moves h),
+  λ k set.
+      let u = has_unknown (λ n. unary_result op w n) a k moves (ap (λ m. bit_at m k) (sym mask) ∙ set) in
+      (record { x = a.value; member = agrees_self a; is = u.zero_at_least }, record { x = u.x; member = u.member; is = u.one }),
+)
 
 -- a moved operand is exact
 pub right_exact : (a b : KnownBits) → IsExact Mov W64 a b b

@@ -1,6 +1,6 @@
 //! Sums, differences and operations on bits, of whole words.
 
-ghost use Rattle.std.specs.Prelude.{◌≡◌, ◌<◌, ◌^◌, ◌*◌, ◌%◌, ◌↔◌, ℕ, IfNone, IfSome};
+ghost use Rattle.std.specs.Prelude.{◌≡◌, ◌<◌, ◌^◌, ◌*◌, ◌%◌, ◌↔◌, ℕ, IfNone, IfSome, true};
 ghost use Rattle.std.specs.Int.{bit_at, w64, bit_not};
 ghost use Rattle.std.specs.Int.RustNames.{bit_and};
 ghost use Rattle.range.specs.Domain.{IsSoundResult};
@@ -8,8 +8,10 @@ ghost use Rattle.known_bits.specs.Exact.{carry};
 
 use crate::bits::KnownBits;
 use insn::operation::{BinOp, Width};
+use range::domain::Domain;
 
 /// The carries into the bits of a sum.
+#[tactic(auto, using(crate::proofs::Carries::carries_at))]
 fn carries(x: u64, y: u64) -> u64
     ensures { (k : ℕ) → k < 64 → bit_at result k ≡ carry k x y }
 {
@@ -19,6 +21,7 @@ fn carries(x: u64, y: u64) -> u64
 impl KnownBits {
     ghost use Rattle.known_bits.specs.Members.{HasBits, Agrees};
     ghost use Rattle.known_bits.specs.Exact.{IsExact, HasExactBits};
+    ghost use Rattle.known_bits.specs.Moves.{is_low};
 
     /// The sums of two words.
     pub(crate) fn sum(a: KnownBits, b: KnownBits) -> KnownBits
@@ -32,6 +35,7 @@ impl KnownBits {
     }
 
     /// The words whose complements are in it.
+    #[tactic(auto, using(crate::proofs::Witnesses::complement_apart))]
     fn complement(self) -> KnownBits
         ensures has { (x : ℕ) → x < 2 ^ 64 → HasBits result x ↔ HasBits self (bit_not w64 x) }
         ensures mask { result.mask ≡ self.mask }
@@ -48,35 +52,12 @@ impl KnownBits {
     }
 
     /// The words that have the bits of a least one, and none but those of a greatest one.
+    #[tactic(auto, using(crate::proofs::Bitwise::without_apart))]
     fn between(least: u64, greatest: u64) -> KnownBits
         ensures value { result.value ≡ least }
         ensures mask { result.mask ≡ bit_and greatest (bit_not w64 least) }
     {
         KnownBits::new(least, greatest & !least)
-    }
-
-    /// The bits of both words.
-    pub(crate) fn both(a: KnownBits, b: KnownBits) -> KnownBits
-        ensures sound { IsSoundResult HasBits BinOp.And Width.W64 a b result }
-        ensures exact { IsExact BinOp.And Width.W64 a b result }
-    {
-        KnownBits::between(a.value & b.value, a.greatest() & b.greatest())
-    }
-
-    /// The bits of either word.
-    pub(crate) fn either(a: KnownBits, b: KnownBits) -> KnownBits
-        ensures sound { IsSoundResult HasBits BinOp.Or Width.W64 a b result }
-        ensures exact { IsExact BinOp.Or Width.W64 a b result }
-    {
-        KnownBits::between(a.value | b.value, a.greatest() | b.greatest())
-    }
-
-    /// The bits of one word alone.
-    pub(crate) fn unlike(a: KnownBits, b: KnownBits) -> KnownBits
-        ensures sound { IsSoundResult HasBits BinOp.Xor Width.W64 a b result }
-        ensures exact { IsExact BinOp.Xor Width.W64 a b result }
-    {
-        KnownBits::outside(a.value ^ b.value, a.mask | b.mask)
     }
 
     /// The words with their bits moved up.
@@ -95,7 +76,7 @@ impl KnownBits {
             Some(k) => a.raised(k),
             None => match a.exponent() {
                 Some(k) => b.raised(k),
-                None => KnownBits::all(),
+                None => KnownBits::any(),
             },
         }
     }
@@ -105,11 +86,11 @@ impl KnownBits {
         ensures { IsSoundResult HasBits BinOp.Div Width.W64 a b result }
     {
         if b.greatest() == 0 {
-            return KnownBits::only(0);
+            return KnownBits::exact(0);
         }
         match b.exponent() {
             Some(k) => KnownBits::new(a.value >> k, a.mask >> k),
-            None => KnownBits::all(),
+            None => KnownBits::any(),
         }
     }
 
@@ -122,7 +103,7 @@ impl KnownBits {
         }
         match b.exponent() {
             Some(k) => KnownBits::new(a.value % (1 << k), a.mask % (1 << k)),
-            None => KnownBits::all(),
+            None => KnownBits::any(),
         }
     }
 
@@ -139,23 +120,22 @@ impl KnownBits {
         }
     }
 
-    /// The results of an operation on whole words.
+    /// The results of an operation on whole words; every word for a shift.
     pub(crate) fn whole(op: BinOp, a: KnownBits, b: KnownBits) -> KnownBits
         ensures sound { IsSoundResult HasBits op Width.W64 a b result }
-        ensures exact { HasExactBits op Width.W64 a b result }
+        ensures exact { is_low op ≡ true → HasExactBits op Width.W64 a b result }
     {
         match op {
             BinOp::Add => KnownBits::sum(a, b),
             BinOp::Sub => KnownBits::difference(a, b),
             BinOp::Mul => KnownBits::product(a, b),
-            BinOp::Or => KnownBits::either(a, b),
-            BinOp::And => KnownBits::both(a, b),
-            BinOp::Xor => KnownBits::unlike(a, b),
+            BinOp::Or => KnownBits::between(a.value | b.value, a.greatest() | b.greatest()),
+            BinOp::And => KnownBits::between(a.value & b.value, a.greatest() & b.greatest()),
+            BinOp::Xor => KnownBits::outside(a.value ^ b.value, a.mask | b.mask),
             BinOp::Mov => b,
             BinOp::Div => KnownBits::quotient(a, b),
             BinOp::Mod => KnownBits::remainder(a, b),
-            BinOp::Lsh | BinOp::Rsh | BinOp::Arsh => KnownBits::shifted(op, Width::W64, a, b),
-            BinOp::Sdiv | BinOp::Smod => KnownBits::all(),
+            BinOp::Sdiv | BinOp::Smod | BinOp::Lsh | BinOp::Rsh | BinOp::Arsh => KnownBits::any(),
         }
     }
 }

@@ -1,14 +1,14 @@
 //! Words with bits that are known and bits that are not.
 
-ghost use Rattle.std.specs.Prelude.{◌≡◌, ◌<◌, ◌^◌, ◌↔◌, ℕ, IsTrue, true};
+ghost use Rattle.std.specs.Prelude.{◌≡◌, ◌<◌, ◌^◌, ℕ, true};
 ghost use Rattle.std.specs.Int.{bit_at};
 ghost use Rattle.std.specs.Int.RustNames.{bit_and, bit_or};
 ghost use mir.Val.{bits};
 ghost use Rattle.insn.specs.Word.{int_width, seen};
-ghost use Rattle.range.specs.Domain.{IsJoin};
-ghost use Rattle.range.specs.Sets.{IsLeastJoin, IsMeet, IsWithin};
+ghost use Rattle.range.specs.Sets.{IsMeet, IsWithin};
 
 use insn::operation::Width;
+use range::domain::Domain;
 
 /// The number of words that a low half has.
 const LOW_HALF: u64 = 0x1_0000_0000;
@@ -49,27 +49,6 @@ impl KnownBits {
         self.mask
     }
 
-    /// Every word.
-    pub(crate) fn all() -> KnownBits
-        ensures { (x : ℕ) → x < 2 ^ 64 → HasBits result x }
-    {
-        KnownBits::new(0, u64::MAX)
-    }
-
-    /// One word alone.
-    pub(crate) fn only(n: u64) -> KnownBits
-        ensures { (x : ℕ) → HasBits result x ↔ (x ≡ n) }
-    {
-        KnownBits::new(n, 0)
-    }
-
-    /// Whether a word has the known bits.
-    pub(crate) fn admits(self, n: u64) -> bool
-        ensures { IsTrue result ↔ HasBits self n }
-    {
-        n & !self.mask == self.value
-    }
-
     /// The words that have the bits of a word outside a mask.
     pub(crate) fn outside(n: u64, mask: u64) -> KnownBits
         ensures mask { result.mask ≡ mask }
@@ -100,18 +79,11 @@ impl KnownBits {
     pub(crate) fn all_of(width: Width) -> KnownBits
         ensures { (x : ℕ) → x < 2 ^ bits (int_width width) → HasBits result x }
     {
-        KnownBits::all().in_width(width)
-    }
-
-    /// The bits that are known of the words of both.
-    pub(crate) fn joined(a: KnownBits, b: KnownBits) -> KnownBits
-        ensures both { IsJoin HasBits a b result }
-        ensures least { IsLeastJoin HasBits a b result }
-    {
-        KnownBits::outside(a.value, a.mask | b.mask | (a.value ^ b.value))
+        KnownBits::any().in_width(width)
     }
 
     /// The words that are in both; `None` where there is none.
+    #[tactic(auto, using(crate::proofs::Meeting::meet_apart))]
     pub fn meet(a: KnownBits, b: KnownBits) -> Option<KnownBits>
         ensures { IsMeet HasBits a b result }
     {

@@ -9,7 +9,7 @@ ghost use Rattle.insn.specs.Word.{unary_result};
 use crate::bits::KnownBits;
 use insn::operation::{BinOp, Cond, UnOp, Width};
 use range::domain::Domain;
-use word::{alu, unary};
+use word::{alu, extend, swap, unary};
 
 impl Domain for KnownBits {
     ghost use Rattle.known_bits.specs.Members.{HasBits};
@@ -26,15 +26,15 @@ impl Domain for KnownBits {
     ghost single_is = { λ a x h. h };
 
     fn any() -> KnownBits {
-        KnownBits::all()
+        KnownBits::new(0, u64::MAX)
     }
 
     fn exact(n: u64) -> KnownBits {
-        KnownBits::only(n)
+        KnownBits::new(n, 0)
     }
 
     fn has(self, n: u64) -> bool {
-        self.admits(n)
+        n & !self.mask == self.value
     }
 
     fn apply(op: BinOp, width: Width, a: KnownBits, b: KnownBits) -> KnownBits
@@ -43,7 +43,7 @@ impl Domain for KnownBits {
         ensures exact { HasExactBits op width a b result }
     {
         if a.mask | b.mask == 0 {
-            KnownBits::only(alu(width, op, a.value, b.value))
+            KnownBits::exact(alu(width, op, a.value, b.value))
         } else {
             KnownBits::result(op, width, a, b)
         }
@@ -55,7 +55,7 @@ impl Domain for KnownBits {
         ensures exact { IsExactImage op width a result }
     {
         if a.mask == 0 {
-            KnownBits::only(unary(op, width, a.value))
+            KnownBits::exact(unary(op, width, a.value))
         } else {
             KnownBits::image(op, width, a)
         }
@@ -65,7 +65,7 @@ impl Domain for KnownBits {
         ensures both { IsJoin HasBits a b result }
         ensures least { IsLeastJoin HasBits a b result }
     {
-        KnownBits::joined(a, b)
+        KnownBits::outside(a.value, a.mask | b.mask | (a.value ^ b.value))
     }
 
     fn refine(
@@ -81,7 +81,16 @@ impl Domain for KnownBits {
         ensures single { (x y : ℕ) → IsUnanswered cond width taken a b x y → IsNone result }
         ensures settled { (k : ℕ) → cond ≡ Cond.Set → IsOneBit width b k → IfSome result (IsDecided cond width taken b) }
     {
-        KnownBits::refined(cond, width, a, b, taken)
+        if KnownBits::excludes(cond, width, a, b, taken) {
+            return None;
+        }
+        match (cond, taken) {
+            (Cond::Eq, true) => KnownBits::equal(width, a, b),
+            (Cond::Ne, false) => KnownBits::equal(width, a, b),
+            (Cond::Set, true) => KnownBits::touching(width, a, b),
+            (Cond::Set, false) => KnownBits::apart(width, a, b),
+            _ => Some((a, b)),
+        }
     }
 }
 
@@ -118,9 +127,13 @@ impl KnownBits {
         ensures exact { IsExactImage op width a result }
     {
         match op {
-            UnOp::Neg => KnownBits::difference(KnownBits::only(0), a).in_width(width),
-            UnOp::Swap(kind, bits) => KnownBits::swapped(kind, bits, width, a),
-            UnOp::Extend(bits) => KnownBits::extended(bits, width, a),
+            UnOp::Neg => KnownBits::difference(KnownBits::exact(0), a).in_width(width),
+            UnOp::Swap(kind, bits) => {
+                KnownBits::new(swap(kind, bits, a.value), swap(kind, bits, a.mask))
+            }
+            UnOp::Extend(bits) => {
+                KnownBits::new(extend(width, bits, a.value), extend(width, bits, a.mask))
+            }
         }
     }
 }

@@ -22,6 +22,7 @@ impl KnownBits {
     }
 
     /// From the word whose unknown bits are 0 to the one whose unknown bits are 1.
+    #[tactic(auto, using(std::proofs::lemmas::Nat::le_or_l))]
     pub fn range(self) -> URange
         ensures members { (x : ℕ) → HasBits self x → InRange result x }
         ensures least { result.least ≡ self.value }

@@ -1,10 +1,9 @@
 //! What is known of words for which a condition has an answer.
 
-ghost use Rattle.std.specs.Prelude.{◌≡◌, ◌<◌, ◌^◌, ℕ, IsTrue, IsNone, IfSome, true, false};
+ghost use Rattle.std.specs.Prelude.{◌≡◌, ◌<◌, ◌^◌, ℕ, IsTrue, IfSome, true, false};
 ghost use Rattle.insn.specs.Word.{seen, word_holds};
 ghost use Rattle.range.specs.Domain.{IsRefined};
 ghost use Rattle.range.specs.Sets.{AreWithin};
-ghost use Rattle.range.specs.Conditions.{says};
 
 use crate::bits::KnownBits;
 use insn::operation::{Cond, Width};
@@ -18,6 +17,7 @@ impl KnownBits {
     ghost use Rattle.known_bits.specs.Refined.{HasPartner, IsOneBit, IsDecided, IsTight, IsUnanswered};
 
     /// The words of which a width sees the same as of one of these.
+    #[tactic(auto, using(crate::proofs::Refining::alike_apart))]
     fn seen_alike(self, width: Width) -> KnownBits
         ensures alike { (x y : ℕ) → y < 2 ^ 64 → HasBits self x → seen width x ≡ seen width y → HasBits result y }
         ensures partner { (y : ℕ) → HasBits result y → HasPartner width self y }
@@ -37,13 +37,9 @@ impl KnownBits {
         ensures within { AreWithin HasBits a b result }
         ensures tight { IfSome result (IsTight width a b) }
     {
-        let left = KnownBits::meet(a, b.seen_alike(width));
-        let right = KnownBits::meet(b, a.seen_alike(width));
-        match (left, right) {
-            (Some(left), Some(right)) => Some((left, right)),
-            (None, _) => None,
-            (_, None) => None,
-        }
+        let left = KnownBits::meet(a, b.seen_alike(width))?;
+        let right = KnownBits::meet(b, a.seen_alike(width))?;
+        Some((left, right))
     }
 
     /// What two words can be with no common bit that a width sees, where the right word is known.
@@ -83,38 +79,18 @@ impl KnownBits {
     }
 
     /// Whether a condition cannot have an answer, as far as a width sees single words.
-    fn excludes(cond: Cond, width: Width, a: KnownBits, b: KnownBits, taken: bool) -> bool
+    pub(crate) fn excludes(
+        cond: Cond,
+        width: Width,
+        a: KnownBits,
+        b: KnownBits,
+        taken: bool,
+    ) -> bool
         ensures sound { IsTrue result → (x y : ℕ) → HasBits a x → HasBits b y → word_holds width cond x y ≡ taken → ⊥ }
         ensures single { (x y : ℕ) → IsUnanswered cond width taken a b x y → IsTrue result }
     {
         let left = a.in_width(width);
         let right = b.in_width(width);
         left.mask | right.mask == 0 && holds(width, cond, left.value, right.value) != taken
-    }
-
-    /// What two words can be for which a condition has an answer.
-    pub(crate) fn refined(
-        cond: Cond,
-        width: Width,
-        a: KnownBits,
-        b: KnownBits,
-        taken: bool,
-    ) -> Option<(KnownBits, KnownBits)>
-        ensures kept { IsRefined HasBits cond width taken a b result }
-        ensures within { AreWithin HasBits a b result }
-        ensures tight { IsTrue (says cond taken).equal → IfSome result (IsTight width a b) }
-        ensures single { (x y : ℕ) → IsUnanswered cond width taken a b x y → IsNone result }
-        ensures settled { (k : ℕ) → cond ≡ Cond.Set → IsOneBit width b k → IfSome result (IsDecided cond width taken b) }
-    {
-        if KnownBits::excludes(cond, width, a, b, taken) {
-            return None;
-        }
-        match (cond, taken) {
-            (Cond::Eq, true) => KnownBits::equal(width, a, b),
-            (Cond::Ne, false) => KnownBits::equal(width, a, b),
-            (Cond::Set, true) => KnownBits::touching(width, a, b),
-            (Cond::Set, false) => KnownBits::apart(width, a, b),
-            _ => Some((a, b)),
-        }
     }
 }

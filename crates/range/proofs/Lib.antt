@@ -9,3 +9,4 @@ pub mod Results
 pub mod SignedNumbers
 pub mod SignedRanges
 pub mod Signs
+pub mod Names

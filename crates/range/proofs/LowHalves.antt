@@ -1,27 +1,15 @@
 -- Low halves of words, and of results of operations on words.
-use Rattle.std.proofs.Common.{◌≡◌, ℕ, ℤ, pos, negsuc, zero, suc, lt_of_le_of_lt, ◌+◌, ◌-◌, ◌*◌, ◌%◌, ◌^◌, ◌<◌, ◌≤◌, ◌≤ℤ◌, ◌<ℤ◌, FitsSigned, ◌⊎◌, inl, inr, bit_and, bit_or, bit_xor, w8, w16, w32, w64, sym, ap, ◌∙◌, refl, arith}
+use Rattle.std.proofs.Common.{◌≡◌, ℕ, ℤ, pos, negsuc, zero, suc, lt_of_le_of_lt, ◌+◌, ◌-◌, ◌*◌, ◌%◌, ◌^◌, ◌<◌, ◌≤◌, ◌≤ℤ◌, ◌<ℤ◌, FitsSigned, ◌⊎◌, inl, inr, bit_and, w8, w16, w32, w64, sym, ap, ◌∙◌, refl, arith}
+use Rattle.range.proofs.Names.{IntWidth, cast_signed, cast_unsigned, int_shr, mag_shr, mag_rem, int_div, int_rem, sfits_to_z, sfits_widen, cases_lt, ints, to_z-of_z, of_z-to_z, to_z_pos, and_mod}
+use Rattle.range.proofs.Names.{or_mod, xor_mod, mul-mod, mul-mod_first, and_mask, pow-add, mul_assoc, div-le_self, Width, W32, W64, BinOp, Add, Sub, Mul, Sdiv, Or, And, Lsh, Smod, Xor, Mov, Arsh}
+use Rattle.range.proofs.Names.{ExtendBits, B8, B16, B32, extend_width, int_width, signed_quotient, signed_remainder, unary_result, word_extended, word_result, wrapped, word_extended_fits}
+use Rattle.range.proofs.Names.{word_in_width, word_negated_fits, word_result_fits, word_swapped_is_word, InHalfRange, IsDeterminedImage, IsHalf, IsTold, places_of, same_low, URange, LiesIn}
+use Rattle.range.proofs.Names.{signed_place, InRange}
 use mir.Val.{bits}
-use Rattle.std.specs.Int.{Width as IntWidth, cast_signed, cast_unsigned, int_shr}
-use Rattle.std.specs.Int.Signed.{mag_shr, mag_rem}
-use Rattle.std.specs.Int.RustNames.{int_div, int_rem}
-use Rattle.std.proofs.Math.Facts.{sfits_to_z, sfits_widen}
-use Rattle.std.proofs.lemmas.Bool.{cases_lt}
-use Rattle.std.proofs.lemmas.Int.{ints, to_z-of_z, of_z-to_z, to_z_pos}
-use Rattle.std.proofs.lemmas.Nat.{and_mod, or_mod, xor_mod, mul-mod, mul-mod_first, and_mask, pow-add}
-use Rattle.std.proofs.Math.Nat.{mul_assoc, div-le_self}
-use Rattle.insn.specs.declared.operation.Width.{Width}
-use Rattle.insn.specs.declared.operation.Width.TheVariants.{W32, W64}
-use Rattle.insn.specs.declared.operation.BinOp.{BinOp}
-use Rattle.insn.specs.declared.operation.BinOp.TheVariants.{Add, Sub, Mul, Sdiv, Or, And, Lsh, Smod, Xor, Mov, Arsh}
-use Rattle.insn.specs.declared.operation.ExtendBits.{ExtendBits}
-use Rattle.insn.specs.declared.operation.ExtendBits.TheVariants.{B8, B16, B32}
-use Rattle.insn.specs.Word.{extend_width, int_width, signed_quotient, signed_remainder, word_extended, word_negated, word_result, wrapped}
-use Rattle.insn.specs.WordLaws.{word_extended_fits}
+use Rattle.insn.specs.declared.operation.UnOp.{UnOp}
+use Rattle.insn.specs.declared.operation.UnOp.TheVariants.{Neg, Swap, Extend}
 use Rattle.range.specs.declared.half.HalfRange.{HalfRange}
-use Rattle.range.specs.Half.{InHalfRange, IsHalf, IsTold, places_of}
-use Rattle.range.specs.declared.unsigned.URange.{URange}
-use Rattle.range.specs.Places.{LiesIn, signed_place}
-use Rattle.range.specs.Unsigned.{InRange}
+use Rattle.range.specs.HalfParts.{HasResults}
 
 -- the low half of a word, read as a signed number
 abbrev low_reading : ℕ → ℤ
@@ -67,8 +55,6 @@ low_back x = omega arith
 -- a place of a low half is a word of the places
 pub place_lies : (r : HalfRange) (p : URange) (x : ℕ) → p ≡ places_of r → InHalfRange r x → InRange p (signed_place W32 x)
 place_lies r p x e h =
-    let above = h.above in
-    let below = h.below in
     rw e (record { word = omega arith; above = omega arith; below = omega arith })
 
 -- a place of a low half is that of the word
@@ -81,16 +67,13 @@ lies_at r x fits h = record { word = fits; above = h.above; below = h.below }
 -- the ends of a range of one low half are its place
 pub half_ends_same : (r : HalfRange) (x : ℕ) → r.greatest < 2 ^ 32 → IsHalf r x → (r.least ≡ signed_place W32 x) × (r.greatest ≡ signed_place W32 x)
 half_ends_same r x fits one =
-    let ordered = r.ordered in
     let low = (one ((r.least + 2 ^ 31) % 2 ^ 32) (omega arith)).0 (record { word = omega arith; above = omega arith; below = omega arith }) in
     let high = (one ((r.greatest + 2 ^ 31) % 2 ^ 32) (omega arith)).0 (record { word = omega arith; above = omega arith; below = omega arith }) in
     (omega arith, omega arith)
 
 pub half_by_ends : (r : HalfRange) (x : ℕ) → r.least ≡ signed_place W32 x → r.greatest ≡ signed_place W32 x → IsHalf r x
 half_by_ends r x low high y fits = (
-  (λ h. let above = h.above in
-      let below = h.below in
-      omega arith),
+  (λ h. omega arith),
   (λ e. record { word = fits; above = omega arith; below = omega arith }),
 )
 
@@ -99,43 +82,39 @@ same_half r x y e one = rw e one
 
 -- ---- operations
 
+-- what has the results of a function has those of an operation that have the same low halves
+pub by_low : (op : BinOp) (w : Width) (a b c : HalfRange) (f : ℕ → ℕ → ℕ) → HasResults f a b c → ((x y : ℕ) → y < 2 ^ 64 → word_result w op x y % 2 ^ 32 ≡ f x y % 2 ^ 32) → HasResults (word_result w op) a b c
+by_low op w a b c f h same = record {
+  has = λ x y hx hy. same_low c (f x y) (word_result w op x y) (word_in_width w _ (word_result_fits w op x y hx.word hy.word)) (same x y hy.word) (h.has x y hx hy);
+  single = λ x y hx hy ha hb. same_half c (f x y) (word_result w op x y) (same x y hy) (h.single x y hx hy ha hb);
+}
+
 shift_same : (y n : ℕ) → n % 2 ^ 32 ≡ y % 2 ^ 32 → 2 ^ (n % 64) ≡ 2 ^ (y % 64)
 shift_same y n e = ap (λ (k : ℕ). 2 ^ k) (omega arith)
-
-product_low : (x y : ℕ) → ((x * y) % 2 ^ 64) % 2 ^ 32 ≡ ((x % 2 ^ 32) * (y % 2 ^ 32)) % 2 ^ 32
-product_low x y = omega (arith, mul-mod x y (2 ^ 32))
 
 raised_low : (x k : ℕ) → ((x * k) % 2 ^ 64) % 2 ^ 32 ≡ ((x % 2 ^ 32) * k) % 2 ^ 32
 raised_low x k = omega (arith, mul-mod_first x k (2 ^ 32))
 
--- the low half of a result, by those of the operands
-pub told_low : (op : BinOp) (w : Width) (x y m n : ℕ) → IsTold op w → x < 2 ^ 64 → y < 2 ^ 64 → m < 2 ^ 64 → n < 2 ^ 64 → m % 2 ^ 32 ≡ x % 2 ^ 32 → n % 2 ^ 32 ≡ y % 2 ^ 32 → word_result w op x y % 2 ^ 32 ≡ word_result W64 op m n % 2 ^ 32
-told_low Add W32 x y m n told hx hy hm hn p q = omega arith
-told_low Add W64 x y m n told hx hy hm hn p q = omega arith
-told_low Sub W32 x y m n told hx hy hm hn p q = omega arith
-told_low Sub W64 x y m n told hx hy hm hn p q = omega arith
-told_low Mul W32 x y m n told hx hy hm hn p q = sym (product_low m n ∙ rw (p, q) (omega arith))
-told_low Mul W64 x y m n told hx hy hm hn p q = product_low x y ∙ sym (product_low m n ∙ rw (p, q) refl)
-told_low Or W32 x y m n told hx hy hm hn p q =
-    let e : bit_or (x % 2 ^ 32) (y % 2 ^ 32) ≡ bit_or m n % 2 ^ 32 = sym (or_mod m n 32 ∙ rw (p, q) refl) in
-    omega arith
-told_low Or W64 x y m n told hx hy hm hn p q = or_mod x y 32 ∙ sym (or_mod m n 32 ∙ rw (p, q) refl)
-told_low And W32 x y m n told hx hy hm hn p q =
-    let e : bit_and (x % 2 ^ 32) (y % 2 ^ 32) ≡ bit_and m n % 2 ^ 32 = sym (and_mod m n 32 ∙ rw (p, q) refl) in
-    omega arith
-told_low And W64 x y m n told hx hy hm hn p q = and_mod x y 32 ∙ sym (and_mod m n 32 ∙ rw (p, q) refl)
-told_low Lsh W64 x y m n told hx hy hm hn p q = raised_low x (2 ^ (y % 64)) ∙ sym (raised_low m (2 ^ (n % 64)) ∙ rw (p, shift_same y n q) refl)
-told_low Xor W32 x y m n told hx hy hm hn p q =
-    let e : bit_xor (x % 2 ^ 32) (y % 2 ^ 32) ≡ bit_xor m n % 2 ^ 32 = sym (xor_mod m n 32 ∙ rw (p, q) refl) in
-    omega arith
-told_low Xor W64 x y m n told hx hy hm hn p q = xor_mod x y 32 ∙ sym (xor_mod m n 32 ∙ rw (p, q) refl)
-told_low Mov W32 x y m n told hx hy hm hn p q = omega arith
-told_low Mov W64 x y m n told hx hy hm hn p q = omega arith
-told_low op w x y m n told hx hy hm hn p q = absurd told
+-- the low half of a result in 64 bits is that of the result in 32 bits
+narrow_low : (op : BinOp) (x y : ℕ) → IsTold op W32 → y < 2 ^ 64 → word_result W64 op x y % 2 ^ 32 ≡ word_result W32 op x y % 2 ^ 32
+narrow_low Add x y told h = omega arith
+narrow_low Sub x y told h = omega arith
+narrow_low Mul x y told h = omega (arith, mul-mod x y (2 ^ 32))
+narrow_low Or x y told h = omega (arith, or_mod x y 32)
+narrow_low And x y told h = omega (arith, and_mod x y 32)
+narrow_low Xor x y told h = omega (arith, xor_mod x y 32)
+narrow_low Mov x y told h = omega arith
+narrow_low op x y told h = absurd told
 
 -- in 32 bits the operands' upper halves are not read
-pub seen_low : (op : BinOp) (x y : ℕ) → word_result W32 op (word_extended W64 B32 x) (word_extended W64 B32 y) ≡ word_result W32 op x y
-seen_low op x y = rw (extended_low x, extended_low y) refl
+pub alike_low : (op : BinOp) (x y m n : ℕ) → m % 2 ^ 32 ≡ x % 2 ^ 32 → n % 2 ^ 32 ≡ y % 2 ^ 32 → word_result W32 op m n ≡ word_result W32 op x y
+alike_low op x y m n p q = rw (p, q) refl
+
+-- the low half of a result, by those of the operands
+pub told_low : (op : BinOp) (w : Width) (x y m n : ℕ) → IsTold op w → y < 2 ^ 64 → n < 2 ^ 64 → m % 2 ^ 32 ≡ x % 2 ^ 32 → n % 2 ^ 32 ≡ y % 2 ^ 32 → word_result w op x y % 2 ^ 32 ≡ word_result W64 op m n % 2 ^ 32
+told_low Lsh W64 x y m n told h k p q = raised_low x (2 ^ (y % 64)) ∙ sym (raised_low m (2 ^ (n % 64)) ∙ rw (p, shift_same y n q) refl)
+told_low op W32 x y m n told h k p q = sym (narrow_low op m n told k ∙ ap (λ r. r % 2 ^ 32) (alike_low op x y m n p q))
+told_low op W64 x y m n told h k p q = narrow_low op x y told h ∙ sym (narrow_low op m n told k ∙ ap (λ r. r % 2 ^ 32) (alike_low op x y m n p q))
 
 amount_low : (y : ℕ) → bit_and (word_extended W64 B32 y) 31 % 64 ≡ (y % 2 ^ 32) % 32
 amount_low y =
@@ -228,10 +207,6 @@ shifted_low op is x y = elim is [ inl e ↦ rw e (lsh_low x y) | inr e ↦ rw e 
 pub divided_low : (op : BinOp) → (op ≡ Sdiv) ⊎ (op ≡ Smod) → (x y : ℕ) → word_result W32 op x y % 2 ^ 32 ≡ word_result W64 op (word_extended W64 B32 x) (word_extended W64 B32 y) % 2 ^ 32
 divided_low op is x y = elim is [ inl e ↦ rw e (sdiv_low x y) | inr e ↦ rw e (smod_low x y) ]
 
-pub neg_low : (w : Width) (x m : ℕ) → x < 2 ^ 64 → m < 2 ^ 64 → m % 2 ^ 32 ≡ x % 2 ^ 32 → word_negated w x % 2 ^ 32 ≡ word_negated W64 m % 2 ^ 32
-neg_low W32 x m h k e = omega arith
-neg_low W64 x m h k e = omega arith
-
 extended_both : (w : Width) (z t : ℤ) → FitsSigned w32 z → z ≡ t → cast_unsigned (int_width w) z % 2 ^ 32 ≡ cast_unsigned w64 t % 2 ^ 32
 extended_both W32 z t fits e = sym (rw (← e) (wide_low z fits))
 extended_both W64 z t fits e = rw e refl
@@ -245,5 +220,13 @@ same_part : (n : ExtendBits) (x m : ℕ) → m % 2 ^ 32 ≡ x % 2 ^ 32 → wrapp
 same_part B8 x m e = omega arith
 same_part n x m e = omega arith
 
-pub extend_low : (w : Width) (n : ExtendBits) (x m : ℕ) → m % 2 ^ 32 ≡ x % 2 ^ 32 → word_extended w n x % 2 ^ 32 ≡ word_extended W64 n m % 2 ^ 32
-extend_low w n x m e = extended_both w _ _ (extended_fits n x) (ap (cast_signed (extend_width n)) (same_part n x m e))
+pub image_low : (op : UnOp) (w : Width) (x m : ℕ) → IsDeterminedImage op → x < 2 ^ 64 → m < 2 ^ 64 → m % 2 ^ 32 ≡ x % 2 ^ 32 → unary_result op w x % 2 ^ 32 ≡ unary_result op W64 m % 2 ^ 32
+image_low Neg W32 x m told h k e = omega arith
+image_low Neg W64 x m told h k e = omega arith
+image_low (Extend n) w x m told h k e = extended_both w _ _ (extended_fits n x) (ap (cast_signed (extend_width n)) (same_part n x m e))
+image_low (Swap kind n) w x m told h k e = absurd told
+
+pub image_fits : (op : UnOp) (w : Width) (x : ℕ) → unary_result op w x < 2 ^ 64
+image_fits Neg w x = word_in_width w _ (word_negated_fits w x)
+image_fits (Swap kind n) w x = word_swapped_is_word kind n x
+image_fits (Extend n) w x = word_in_width w _ (word_extended_fits w n x)

@@ -1,14 +1,6 @@
 -- Words by their places, and ranges by their ends.
 use Rattle.std.proofs.Common.{◌≡◌, ℕ, ◌+◌, ◌%◌, ◌^◌, ◌<◌, ◌≤◌, Some, refl, arith}
-use Rattle.insn.specs.declared.operation.Width.{Width}
-use Rattle.insn.specs.declared.operation.Width.TheVariants.{W32, W64}
-use Rattle.range.specs.declared.unsigned.URange.{URange}
-use Rattle.range.specs.Domain.{IsSingle}
-use Rattle.range.specs.Places.{LiesIn, signed_place}
-use Rattle.range.specs.Sets.{IsLeast, IsLeastPair, IsMeet}
-use Rattle.range.specs.Unsigned.{InRange, IsWordSum}
-use Rattle.range.specs.UnsignedParts.{IsReached}
-use Rattle.range.specs.WidthsParts.{modulus}
+use Rattle.range.proofs.Names.{Width, W32, W64, URange, IsSingle, LiesIn, signed_place, IsLeast, IsLeastPair, IsMeet, InRange, IsWordSum, IsReached, modulus}
 
 pub lies : (place : ℕ → ℕ) (r : URange) (x : ℕ) → x < 2 ^ 64 → r.least ≤ place x → place x ≤ r.greatest → LiesIn place r x
 lies place r x h k p = record { word = h; above = k; below = p }

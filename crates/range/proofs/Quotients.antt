@@ -1,12 +1,7 @@
 -- Quotients and remainders of signed numbers.
 use Rattle.std.proofs.Common.{◌≡◌, ℕ, zero, suc, ℤ, pos, negsuc, ◌^◌, ◌<◌, ◌+ℤ◌, ◌-ℤ◌, ◌≤ℤ◌, ◌<ℤ◌, FitsSigned, w64, ap, ◌∙◌, arith}
-use Rattle.std.specs.Int.{cast_signed, int_max, int_min}
-use Rattle.std.specs.Int.RustNames.{int_div, int_rem}
-use Rattle.std.proofs.Math.Facts.{Fits-of_z, sfits_to_z}
-use Rattle.std.proofs.Math.Nat.{mod-eq_of_lt, mod-le}
-use Rattle.std.proofs.lemmas.Int.{ints, clamps, to_z-of_z, quot_fits, rem_is}
-use Rattle.std.proofs.lemmas.Nat.{mod_below}
-use Rattle.insn.specs.Word.{signed_quotient, signed_remainder}
+use Rattle.range.proofs.Names.{cast_signed, int_max, int_min, int_div, int_rem, Fits-of_z, sfits_to_z, mod-eq_of_lt, mod-le, ints, clamps, to_z-of_z, quot_fits, rem_is, mod_below, signed_quotient}
+use Rattle.range.proofs.Names.{signed_remainder}
 use Rattle.range.proofs.Numbers.{div_mono}
 use Rattle.range.proofs.SignedNumbers.{fits_between}
 
@@ -54,16 +49,11 @@ remainder_is l g (negsuc i) (pos n) positive above low below high =
 
 pub within_ends : (l g d r : ℤ) → IsRemainder l g d r → (int_max l (pos 1 -ℤ d) ≤ℤ r) × (r ≤ℤ int_min g (d -ℤ pos 1))
 within_ends l g d r h =
-    let above = h.above in
-    let below = h.below in
-    let least = h.least in
-    let greatest = h.greatest in
     (omega (arith, ints, clamps), omega (arith, ints, clamps))
 
 -- the least and the greatest remainder by a number that fits
 pub ends_fit : (d : ℤ) → FitsSigned w64 d → pos 0 <ℤ d → FitsSigned w64 (pos 1 -ℤ d) × FitsSigned w64 (d -ℤ pos 1)
 ends_fit (pos n) fits positive =
-    let small = fits.sfits in
     let zero : FitsSigned w64 (pos 0) = record { sfits = omega arith } in
     let bottom : FitsSigned w64 (negsuc 9223372036854775807) = record { sfits = omega arith } in (
       fits_between (negsuc 9223372036854775807) (pos 1 -ℤ pos n) (pos 0) bottom zero (omega (arith, ints)) (omega (arith, ints)),

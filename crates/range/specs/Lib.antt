@@ -11,7 +11,7 @@ pub mod Half
 pub mod ConditionsParts
 pub mod WidthsParts
 pub mod UnsignedParts
-pub mod SignedParts
+pub mod HalfParts
 -- Laws, each proved: a reader may skip them.
 pub mod MemberLaws
 pub mod ConditionLaws

@@ -41,3 +41,8 @@ pub record AreCompared (Related : ℕ → ℕ → Type 0) (ordered : Bool) (a b 
 abbrev pub turned_round : Option (URange × URange) → Option (URange × URange)
 turned_round None = None
 turned_round (Some r) = Some (r.1, r.0)
+
+-- the words of a kind are kept; none means that there is no such word
+abbrev pub IsCutBy : {A : Type 0} → (A → ℕ → Type 0) → (ℕ → Type 0) → A → Option A → Type 0
+IsCutBy Has Kind a None = (x : ℕ) → Has a x → Kind x → ⊥
+IsCutBy Has Kind a (Some r) = (x : ℕ) → Has a x → Kind x → Has r x

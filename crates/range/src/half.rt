@@ -1,6 +1,6 @@
 //! Words by their low halves, read as signed numbers of 32 bits.
 
-ghost use Rattle.std.specs.Prelude.{◌≡◌, ◌<◌, ◌≤◌, ◌<ℤ◌, ◌≤ℤ◌, ◌%◌, ◌^◌, ◌↔◌, ℕ, IsTrue, pos, negsuc, true};
+ghost use Rattle.std.specs.Prelude.{◌≡◌, ◌<◌, ◌≤◌, ◌<ℤ◌, ◌≤ℤ◌, ◌%◌, ◌^◌, ◌↔◌, ℕ, IfSome, IsTrue, pos, negsuc, true};
 ghost use Rattle.insn.specs.Word.{word_extended, word_result};
 ghost use Rattle.range.specs.Sets.{IsMeet, IsWithin};
 
@@ -29,6 +29,7 @@ impl HalfRange {
     ghost use Rattle.range.specs.Half.{HaveOneEnds, InHalfRange, IsHalf, places_of};
     ghost use Rattle.range.specs.Signed.{greatest_of, InSignedRange, least_of};
     ghost use Rattle.range.specs.Unsigned.{InRange};
+    ghost use Rattle.range.specs.UnsignedParts.{IsCutBy};
 
     /// The places of the low halves.
     fn places(self) -> URange
@@ -100,14 +101,6 @@ impl HalfRange {
         self.places().turned(Width::W32)
     }
 
-    /// The words whose low halves are among these, and more where they have both signs.
-    fn of_low(low: URange) -> HalfRange
-        requires { low.greatest < 2 ^ 32 }
-        ensures { (x : ℕ) → x < 2 ^ 64 → InRange low (x % 2 ^ 32) → InHalfRange result x }
-    {
-        HalfRange::of_places(low.turned(Width::W32))
-    }
-
     /// The words of a signed range and all that share a low half with one; every word where these halves go past the
     /// greatest one.
     pub fn of_words(words: SRange) -> HalfRange
@@ -120,10 +113,9 @@ impl HalfRange {
         let least = low_place_of(first);
         let greatest = low_place_of(last);
         if last - first < 0x1_0000_0000 && least <= greatest {
-            HalfRange { least, greatest }
-        } else {
-            HalfRange::any()
+            return HalfRange { least, greatest };
         }
+        HalfRange::any()
     }
 
     /// The words of both ranges; `None` where there is none.
@@ -131,6 +123,15 @@ impl HalfRange {
         ensures { IsMeet InHalfRange a b result }
     {
         Some(HalfRange::of_places(URange::meet(a.places(), b.places())?))
+    }
+
+    /// The words whose low halves are in an unsigned range too, and more where these have both signs.
+    fn cut_by(self, low: URange) -> Option<HalfRange>
+        requires { low.greatest < 2 ^ 32 }
+        ensures kept { IsCutBy InHalfRange (λ x. InRange low (x % 2 ^ 32)) self result }
+        ensures within { IfSome result (λ r. IsWithin InHalfRange r self) }
+    {
+        HalfRange::meet(self, HalfRange::of_places(low.turned(Width::W32)))
     }
 
     /// Whether each word of another range is in this one.

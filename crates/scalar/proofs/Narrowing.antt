@@ -1,9 +1,8 @@
 -- What is left of two values, by what is left of their parts.
-use Rattle.std.specs.Prelude.{◌==◌, not}
-use Rattle.std.proofs.Common.{◌≡◌, ◌⊎◌, ℕ, ◌%◌, ◌^◌, Bool, true, false, IsTrue, refl, sym, ◌∙◌, subst, inl, inr, arith}
-use Rattle.std.proofs.lemmas.Bool.Decides.{nat_tests}
+use Rattle.std.proofs.Common.{◌≡◌, ◌⊎◌, ℕ, ◌%◌, ◌^◌, Bool, true, false, IsTrue, refl, sym, ◌∙◌, subst, inl, inr}
+use Rattle.std.proofs.lemmas.Bool.Decides.{Decides-eqb}
 use Rattle.insn.specs.declared.operation.Cond.{Cond}
-use Rattle.insn.specs.declared.operation.Cond.TheVariants.{Eq, Gt, Ge, Set, Ne, Sgt, Sge, Lt, Le, Slt, Sle}
+use Rattle.insn.specs.declared.operation.Cond.TheVariants.{Eq, Ne}
 use Rattle.insn.specs.declared.operation.Width.{Width}
 use Rattle.insn.specs.declared.operation.Width.TheVariants.{W32, W64}
 use Rattle.insn.specs.Word.{seen, word_holds}
@@ -28,21 +27,8 @@ use Rattle.scalar.proofs.Same.{AreSame}
 -- an answer that says that words are equal orders them
 pub equal_orders : (c : Cond) (taken : Bool) → IsTrue (says c taken).equal → IsTrue (says c taken).words × IsTrue (says c taken).numbers
 equal_orders Eq true h = (h, h)
-equal_orders Eq false h = absurd cc
-equal_orders Ne true h = absurd cc
 equal_orders Ne false h = (h, h)
-equal_orders Gt taken h = absurd cc
-equal_orders Ge taken h = absurd cc
-equal_orders Set taken h = absurd cc
-equal_orders Sgt taken h = absurd cc
-equal_orders Sge taken h = absurd cc
-equal_orders Lt taken h = absurd cc
-equal_orders Le taken h = absurd cc
-equal_orders Slt taken h = absurd cc
-equal_orders Sle taken h = absurd cc
-
-alike : (x y : ℕ) → (x == y) ≡ true → x ≡ y
-alike x y e = grind (arith, nat_tests)
+equal_orders c taken h = absurd cc
 
 -- what the least sets keep of equal words is in both
 pub equal_within : {A : Type 0} (Has : A → ℕ → Type 0) (R : ℕ → ℕ → Type 0) (a b c d : A) → ((x y : ℕ) → Has a x → Has b y → R x y → Has b x × Has a y) → IsLeastPair Has R a b c d → IsWithin Has c b × IsWithin Has d a
@@ -100,7 +86,7 @@ module _ (t : Answer) (asked : Width) (a b : Scalar) (p q r : Scalar × Scalar)
 
     by : (w : Width) → t.width ≡ w → IsWithin InHalfRange q.0.half b.half × IsWithin InHalfRange q.1.half a.half
     by W64 e = back (equal_within InHalfRange (HasAnswer W32 Eq true) p.0.half p.1.half q.0.half q.1.half
-        (λ x y hx hy k. low_both p.0.half p.1.half x y hx hy (alike (x % 2 ^ 32) (y % 2 ^ 32) k)) (halves.equal e says))
+        (λ x y hx hy k. low_both p.0.half p.1.half x y hx hy ((Decides-eqb (x % 2 ^ 32) (y % 2 ^ 32)).0 k)) (halves.equal e says))
     by W32 e = back (equal_within InHalfRange (HasAnswer W32 t.cond t.taken) p.0.half p.1.half q.0.half q.1.half
         (λ x y hx hy k. low_both p.0.half p.1.half x y hx hy (equal_seen t.cond t.taken W32 x y says k)) (halves.low e (equal_orders t.cond t.taken says).1))
 

@@ -1,7 +1,7 @@
 //! The operations of a machine on low halves between bounds.
 
-ghost use Rattle.std.specs.Prelude.{◌≡◌, ◌<◌, ◌^◌, ◌↔◌, ℕ, IsTrue, bit_and, true};
-ghost use Rattle.insn.specs.Word.{unary_result, word_extended, word_result};
+ghost use Rattle.std.specs.Prelude.{◌≡◌, ◌<◌, ◌^◌, ◌↔◌, ℕ, IsTrue, true};
+ghost use Rattle.insn.specs.Word.{unary_result};
 ghost use Rattle.range.specs.Conditions.{says};
 ghost use Rattle.range.specs.Domain.{IsSoundResult, IsSoundImage, IsJoin, IsRefined};
 ghost use Rattle.range.specs.Sets.{AreWithin, IsLeastAnswered, IsLeastJoin};
@@ -11,10 +11,11 @@ use crate::domain::Domain;
 use crate::half::HalfRange;
 use crate::signed::SRange;
 use crate::unsigned::URange;
-use insn::operation::{BinOp, Cond, ExtendBits, UnOp, Width};
+use insn::operation::{BinOp, Cond, UnOp, Width};
 
 impl HalfRange {
-    ghost use Rattle.range.specs.Half.{InHalfRange, IsHalf, IsSingleHalf, IsSingleHalfImage, IsTold};
+    ghost use Rattle.range.specs.Half.{InHalfRange, IsSingleHalf, IsSingleHalfImage, IsTold};
+    ghost use Rattle.range.specs.HalfParts.{HasResults, by_extended, shifted_by};
 
     /// Whether the low halves of the operands tell that of the result, as they do in 64 bits.
     fn is_told(op: BinOp, width: Width) -> bool
@@ -30,16 +31,14 @@ impl HalfRange {
 
     /// What an operation gives of the low halves as words.
     fn by_words(op: BinOp, width: Width, a: HalfRange, b: HalfRange) -> HalfRange
-        ensures has { (x y : ℕ) → InHalfRange a x → InHalfRange b y → InHalfRange result (word_result width op (word_extended Width.W64 ExtendBits.B32 x) (word_extended Width.W64 ExtendBits.B32 y)) }
-        ensures single { (x y : ℕ) → x < 2 ^ 64 → y < 2 ^ 64 → IsHalf a x → IsHalf b y → IsHalf result (word_result width op (word_extended Width.W64 ExtendBits.B32 x) (word_extended Width.W64 ExtendBits.B32 y)) }
+        ensures { HasResults (by_extended width op) a b result }
     {
         HalfRange::of_words(SRange::apply(op, width, a.signed(), b.signed()))
     }
 
     /// What a shift gives of the low halves as words, by amounts below 32.
     fn shifted(op: BinOp, a: HalfRange, b: HalfRange) -> HalfRange
-        ensures has { (x y : ℕ) → InHalfRange a x → InHalfRange b y → InHalfRange result (word_result Width.W64 op (word_extended Width.W64 ExtendBits.B32 x) (bit_and (word_extended Width.W64 ExtendBits.B32 y) 31)) }
-        ensures single { (x y : ℕ) → x < 2 ^ 64 → y < 2 ^ 64 → IsHalf a x → IsHalf b y → IsHalf result (word_result Width.W64 op (word_extended Width.W64 ExtendBits.B32 x) (bit_and (word_extended Width.W64 ExtendBits.B32 y) 31)) }
+        ensures { HasResults (shifted_by op) a b result }
     {
         let amounts = SRange::apply(BinOp::And, Width::W64, b.signed(), SRange::exact(31));
         HalfRange::of_words(SRange::apply(op, Width::W64, a.signed(), amounts))
@@ -72,9 +71,10 @@ impl HalfRange {
         ensures single { IsSingleHalfImage op width a result }
     {
         match op {
-            UnOp::Neg => HalfRange::of_words(SRange::unary(op, Width::W64, a.signed())),
-            UnOp::Extend(_) => HalfRange::of_words(SRange::unary(op, Width::W64, a.signed())),
             UnOp::Swap(..) => HalfRange::any(),
+            UnOp::Neg | UnOp::Extend(_) => {
+                HalfRange::of_words(SRange::unary(op, Width::W64, a.signed()))
+            }
         }
     }
 
@@ -97,8 +97,8 @@ impl HalfRange {
         ensures within { AreWithin InHalfRange a b result }
     {
         let (left, right) = URange::answered(cond, Width::W32, a.words(), b.words(), taken)?;
-        let left = HalfRange::meet(a, HalfRange::of_low(left))?;
-        let right = HalfRange::meet(b, HalfRange::of_low(right))?;
+        let left = a.cut_by(left)?;
+        let right = b.cut_by(right)?;
         Some((left, right))
     }
 

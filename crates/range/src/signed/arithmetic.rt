@@ -54,14 +54,6 @@ impl SRange {
         }
     }
 
-    /// The numbers from one to another, whichever is less.
-    fn between(first: i64, second: i64) -> SRange
-        ensures first { (least_of result ≤ℤ first) × (first ≤ℤ greatest_of result) }
-        ensures second { (least_of result ≤ℤ second) × (second ≤ℤ greatest_of result) }
-    {
-        SRange::new(first.min(second), first.max(second))
-    }
-
     /// The least range that has four numbers.
     fn spanning(first: i64, second: i64, third: i64, fourth: i64) -> SRange
         ensures first { (least_of result ≤ℤ first) × (first ≤ℤ greatest_of result) }
@@ -69,11 +61,9 @@ impl SRange {
         ensures third { (least_of result ≤ℤ third) × (third ≤ℤ greatest_of result) }
         ensures fourth { (least_of result ≤ℤ fourth) × (fourth ≤ℤ greatest_of result) }
     {
-        let left = SRange::between(first, second);
-        let right = SRange::between(third, fourth);
         SRange::new(
-            left.least().min(right.least()),
-            left.greatest().max(right.greatest()),
+            first.min(second).min(third.min(fourth)),
+            first.max(second).max(third.max(fourth)),
         )
     }
 

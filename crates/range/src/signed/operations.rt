@@ -71,7 +71,9 @@ impl Domain for SRange {
     ghost single_is = { λ a x h. h };
 
     fn any() -> SRange {
-        SRange::all()
+        SRange {
+            places: URange::new(0, u64::MAX),
+        }
     }
 
     fn exact(n: u64) -> SRange {

@@ -1,6 +1,5 @@
 use Rattle.std.proofs.Common.{◌≡◌, ap}
-use Rattle.std.proofs.lemmas.Bool.{eq-eqb}
-use Rattle.std.proofs.lemmas.Bool.Decides.{Decides-eqb}
+use Rattle.known_bits.proofs.Names.{eq-eqb, Decides-eqb}
 use Rattle.known_bits.proofs.Agreeing.{admitted, agrees_self}
 use Rattle.known_bits.proofs.Meeting.{covered_has, own_mask}
 use Rattle.known_bits.proofs.bits.KnownBits.covers.Goals as goal

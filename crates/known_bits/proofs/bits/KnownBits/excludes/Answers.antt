@@ -1,8 +1,9 @@
 use Rattle.std.proofs.Common.{◌≡◌, sym, ap, refl, ◌∙◌}
-use Rattle.insn.specs.Word.{seen, word_holds}
+use Rattle.known_bits.proofs.Names.{Decides-not, seen, word_holds}
+use Rattle.std.specs.Cmp.{booleans_Decides}
 use Rattle.known_bits.proofs.Agreeing.{member_of_single, single_value, no_mask}
 use Rattle.known_bits.proofs.Results.{cut_has, no_left, no_right}
-use Rattle.known_bits.proofs.Refining.{holds_of_seen, differs_from_itself, differ, seen_zero}
+use Rattle.known_bits.proofs.Refining.{holds_of_seen, seen_zero}
 use Rattle.known_bits.proofs.bits.KnownBits.excludes.Goals as goal
 
 pub returns-then-left-right-eq0-clause-sound : goal.returns-then-left-right-eq0-clause-sound
@@ -12,14 +13,14 @@ returns-then-left-right-eq0-clause-sound c differs x y hx hy taken =
     let one = member_of_single c.in_width-left.result (seen c.args.width x) (no_left _ _ c.if-left-right-eq0.true) seen_left in
     let other = member_of_single c.in_width-right.result (seen c.args.width y) (no_right _ _ c.if-left-right-eq0.true) seen_right in
     let same : c.holds.result ≡ c.args.taken = rw (← one, ← other, holds_of_seen c.args.width c.args.cond x y, taken) at c.holds.ensures in
-    differs_from_itself c.args.taken (rw same at differs)
+    (Decides-not _ (booleans_Decides c.holds.result c.args.taken)).0 differs same
 
 pub returns-then-left-right-eq0-clause-single : goal.returns-then-left-right-eq0-clause-single
 returns-then-left-right-eq0-clause-single c x y h =
     let held : c.holds.result ≡ word_holds c.args.width c.args.cond x y =
     (rw (c.in_width-left.ensures.value, c.in_width-right.ensures.value, single_value c.args.a x h.left, single_value c.args.b y h.right) at c.holds.ensures)
     ∙ holds_of_seen c.args.width c.args.cond x y in
-    differ c.holds.result c.args.taken (λ e. h.other (sym held ∙ e))
+    (Decides-not _ (booleans_Decides c.holds.result c.args.taken)).1 (λ e. h.other (sym held ∙ e))
 
 pub returns-else-left-right-eq0-clause-single : goal.returns-else-left-right-eq0-clause-single
 returns-else-left-right-eq0-clause-single c x y h =

@@ -1,8 +1,5 @@
-use Rattle.known_bits.proofs.Meeting.{no_member_of_both, meet_apart, meet_has}
+use Rattle.known_bits.proofs.Meeting.{no_member_of_both, meet_has}
 use Rattle.known_bits.proofs.bits.KnownBits.meet.Goals as goal
-
-pub new-requires : goal.new-requires
-new-requires c = meet_apart c.args.a c.args.b
 
 pub returns-then-differs-eq0 : goal.returns-then-differs-eq0
 returns-then-differs-eq0 c x = meet_has c.args.a c.args.b c.new.result x c.if-differs-eq0.true c.new.ensures.value c.new.ensures.mask

@@ -1,6 +1,5 @@
 use Rattle.std.proofs.Common.{arith, sym, ap, ◌∙◌}
-use Rattle.std.proofs.lemmas.Nat.Bits.{bit_at-lt}
-use Rattle.std.specs.Int.{bit_at}
+use Rattle.known_bits.proofs.Names.{bit_at-lt, bit_at}
 use Rattle.known_bits.proofs.Agreeing.{apart_from, and_not_at}
 use Rattle.known_bits.proofs.bits.KnownBits.outside.Goals as goal
 

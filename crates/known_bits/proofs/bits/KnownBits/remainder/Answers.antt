@@ -1,9 +1,5 @@
 use Rattle.std.proofs.Common.{◌≡◌, sym, ap, ◌∙◌, ◌%◌, ◌^◌}
-use Rattle.insn.specs.declared.operation.Width.TheVariants.{W64}
-use Rattle.insn.specs.declared.operation.BinOp.TheVariants.{Mod}
-use Rattle.insn.specs.WordLaws.{word_result_fits}
-use Rattle.std.proofs.lemmas.Nat.{one_shl}
-use Rattle.std.proofs.Math.Nat.{mod-zero}
+use Rattle.known_bits.proofs.Names.{W64, Mod, word_result_fits, one_shl, mod-zero}
 use Rattle.known_bits.proofs.Results.{member_of_zero}
 use Rattle.known_bits.proofs.Moving.{moved_apart, moved_agrees, low_moves}
 use Rattle.known_bits.proofs.bits.KnownBits.remainder.Goals as goal
@@ -16,7 +12,7 @@ returns-in-Some c x y hx hy = rw (c.new.ensures.value, c.new.ensures.mask, c.in-
     (moved_agrees (λ n. n % 2 ^ c.in-Some.k) c.args.a x (low_moves c.in-Some.k) hx)
 
 pub returns-in-None : goal.returns-in-None
-returns-in-None c x y hx hy = c.all.ensures _ (word_result_fits W64 Mod x y hx.word hy.word)
+returns-in-None c x y hx hy = c.any.ensures _ (word_result_fits W64 Mod x y hx.word hy.word)
 
 pub returns-then-greatest-eq0 : goal.returns-then-greatest-eq0
 returns-then-greatest-eq0 c x y hx hy =

@@ -1,7 +1,6 @@
 use Rattle.std.proofs.Common.{◌≡◌, true, arith}
-use Rattle.insn.specs.Word.{seen}
-use Rattle.insn.specs.WordLaws.{word_result_fits}
-use Rattle.known_bits.proofs.Results.{is_low, by_whole, cut_has, cut_exact, divided}
+use Rattle.known_bits.proofs.Names.{seen, word_result_fits, is_low}
+use Rattle.known_bits.proofs.Results.{by_whole, cut_has, cut_exact, divided}
 use Rattle.known_bits.proofs.Shifts.{is_shift, shift_moves, known_amount}
 use Rattle.known_bits.proofs.bits.KnownBits.result.Goals as goal
 
@@ -15,7 +14,7 @@ pub returns-in-Add-clause-exact : goal.returns-in-Add-clause-exact
 returns-in-Add-clause-exact c exact =
     let low : is_low c.args.op ≡ true = grind arith in
     cut_exact c.args.op c.args.width c.args.a c.args.b c.whole.result c.in_width.result c.in_width.ensures.mask
-    (by_whole c.args.op low c.args.width) (c.whole.ensures.exact exact)
+    (by_whole c.args.op low c.args.width) (c.whole.ensures.exact low exact)
 
 pub returns-in-Div-clause-sound : goal.returns-in-Div-clause-sound
 returns-in-Div-clause-sound c x y hx hy =

@@ -1,17 +1,11 @@
 use Rattle.std.proofs.Common.{refl, arith}
 use Rattle.known_bits.proofs.Results.{cut_has}
 use Rattle.insn.specs.declared.operation.Width.TheVariants.{W32}
-use Rattle.known_bits.proofs.Refining.{alike_apart, alike_has, alike_partner}
+use Rattle.known_bits.proofs.Refining.{alike_has, alike_partner}
 use Rattle.known_bits.proofs.bits.KnownBits.seen_alike.Goals as goal
-
-pub new-requires : goal.new-requires
-new-requires c =
-    let value = c.in_width-low.ensures.value in
-    alike_apart c.in_width-low.result (omega arith)
 
 pub returns-in-W32-clause-alike : goal.returns-in-W32-clause-alike
 returns-in-W32-clause-alike c x y word h same =
-    let value = c.in_width-low.ensures.value in
     rw (c.new.ensures.value, c.new.ensures.mask)
     (alike_has c.in_width-low.result.value c.in_width-low.result.mask x y (omega arith) word
     (cut_has W32 c.args.self c.in_width-low.result x c.in_width-low.ensures.value c.in_width-low.ensures.mask h)

@@ -1,6 +1,5 @@
 use Rattle.std.proofs.Common.{◌∙◌, arith}
-use Rattle.insn.specs.Word.{word_result}
-use Rattle.insn.specs.WordLaws.{word_result_fits}
+use Rattle.known_bits.proofs.Names.{word_result, word_result_fits}
 use Rattle.known_bits.proofs.Agreeing.{member_of_single}
 use Rattle.known_bits.proofs.Moving.{moved_apart, moved_agrees}
 use Rattle.known_bits.proofs.Witnesses.{moved_exact}

@@ -1,6 +1,5 @@
 use Rattle.std.proofs.Common.{◌≡◌, ap, ◌∙◌, arith}
-use Rattle.std.proofs.lemmas.Bool.Decides.{nat_tests}
-use Rattle.insn.specs.Word.{seen}
+use Rattle.known_bits.proofs.Names.{nat_tests, seen}
 use Rattle.known_bits.proofs.Refining.{touched_has, settled_touching, seen_zero}
 use Rattle.known_bits.proofs.bits.KnownBits.touching.Goals as goal
 

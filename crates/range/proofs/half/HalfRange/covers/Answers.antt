@@ -1,5 +1,4 @@
-use Rattle.insn.specs.declared.operation.Width.TheVariants.{W32}
-use Rattle.range.specs.Places.{signed_place}
+use Rattle.range.proofs.Names.{W32, signed_place}
 use Rattle.range.proofs.half.HalfRange.covers.Goals as goal
 
 pub returns-clause-members : goal.returns-clause-members

@@ -1,6 +1,5 @@
 use Rattle.std.proofs.Common.{ℕ, ◌^◌, arith}
-use Rattle.insn.specs.declared.operation.Width.TheVariants.{W32}
-use Rattle.range.specs.Places.{signed_place}
+use Rattle.range.proofs.Names.{W32, signed_place}
 use Rattle.range.proofs.Places.{within_fits}
 use Rattle.range.proofs.half.HalfRange.meet.Goals as goal
 

@@ -1,6 +1,5 @@
 use Rattle.std.proofs.Common.{arith}
-use Rattle.std.proofs.lemmas.Int.{ints}
-use Rattle.insn.specs.declared.operation.ExtendBits.TheVariants.{B32}
+use Rattle.range.proofs.Names.{ints, B32}
 use Rattle.range.proofs.SignedNumbers.{extended_same}
 use Rattle.range.proofs.SignedRanges.{above_least, below_greatest}
 use Rattle.range.proofs.half.HalfRange.numbers_within.Goals as goal

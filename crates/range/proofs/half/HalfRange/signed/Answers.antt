@@ -1,7 +1,5 @@
 use Rattle.std.proofs.Common.{arith}
-use Rattle.insn.specs.declared.operation.Width.TheVariants.{W64}
-use Rattle.insn.specs.declared.operation.ExtendBits.TheVariants.{B32}
-use Rattle.insn.specs.WordLaws.{word_extended_fits}
+use Rattle.range.proofs.Names.{W64, B32, word_extended_fits}
 use Rattle.range.proofs.LowHalves.{extended_place, half_ends_same}
 use Rattle.range.proofs.SignedRanges.{word_by_ends}
 use Rattle.range.proofs.half.HalfRange.signed.Goals as goal
@@ -14,7 +12,5 @@ returns-clause-has c x h =
 pub returns-clause-single : goal.returns-clause-single
 returns-clause-single c x hx one =
     let ends = half_ends_same c.args.self x (omega arith) one in
-    let low = ends.0 in
-    let high = ends.1 in
     let place = extended_place x in
     word_by_ends _ _ (word_extended_fits W64 B32 x) (omega arith) (omega arith)

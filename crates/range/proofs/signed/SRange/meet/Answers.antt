@@ -1,5 +1,4 @@
-use Rattle.insn.specs.declared.operation.Width.TheVariants.{W64}
-use Rattle.range.specs.Places.{signed_place}
+use Rattle.range.proofs.Names.{W64, signed_place}
 use Rattle.range.proofs.signed.SRange.meet.Goals as goal
 
 pub returns-in_err-meet : goal.returns-in_err-meet

@@ -1,6 +1,5 @@
 use Rattle.std.proofs.Common.{Some, refl, ap, arith}
-use Rattle.insn.specs.declared.operation.Width.TheVariants.{W64}
-use Rattle.range.specs.Places.{signed_place}
+use Rattle.range.proofs.Names.{W64, signed_place}
 use Rattle.range.proofs.Places.{placed_ends, reached_signed}
 use Rattle.range.proofs.signed.SRange.only.Goals as goal
 
@@ -15,6 +14,4 @@ pub returns-else-least-greatest-clause-single : goal.returns-else-least-greatest
 returns-else-least-greatest-clause-single c x one =
     let places = c.args.self.places in
     let ends = placed_ends (signed_place W64) places x (reached_signed W64 places (omega arith)) places.ordered one in
-    let low = ends.0 in
-    let high = ends.1 in
     absurd (omega arith)

@@ -1,9 +1,5 @@
 use Rattle.std.proofs.Common.{◌≡◌, ◌≤ℤ◌, ◌<ℤ◌, pos, FitsSigned, w64, rules, ◌∙◌, arith}
-use Rattle.std.specs.Int.{cast_signed}
-use Rattle.std.proofs.lemmas.Int.{ints, quot_is, quot_fits}
-use Rattle.insn.specs.declared.operation.Width.TheVariants.{W64}
-use Rattle.insn.specs.declared.operation.BinOp.TheVariants.{Sdiv}
-use Rattle.insn.specs.WordLaws.{word_result_fits}
+use Rattle.range.proofs.Names.{cast_signed, ints, quot_is, quot_fits, W64, Sdiv, word_result_fits}
 use Rattle.range.proofs.Quotients.{quotient_order, quotient_reading}
 use Rattle.range.proofs.SignedRanges.{above_least, below_greatest, signed_member}
 use Rattle.range.proofs.signed.SRange.quotient.Goals as goal
@@ -17,7 +13,6 @@ new-requires c =
     let greatest : FitsSigned w64 g = search rules in
     let by : FitsSigned w64 d = search rules in
     let positive : pos 0 <ℤ d = omega (arith, ints) in
-    let ordered = c.args.a.places.ordered in
     let order : l ≤ℤ g = rw (c.least.ensures, c.greatest-then-divisor-greatest.ensures) (omega (arith, ints)) in
     rw (quot_is w64 l d least by (quot_fits w64 l d least positive), quot_is w64 g d greatest by (quot_fits w64 g d greatest positive))
     (quotient_order l g d positive order)

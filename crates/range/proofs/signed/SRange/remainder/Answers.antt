@@ -1,17 +1,11 @@
 use Rattle.std.proofs.Common.{◌≡◌, ◌<ℤ◌, ◌≤ℤ◌, ◌-ℤ◌, pos, FitsSigned, w64, ◌∙◌, rules, arith}
-use Rattle.std.specs.Int.{cast_signed, int_max, int_min}
-use Rattle.std.proofs.lemmas.Int.{ints, clamps, to_z-of_z}
-use Rattle.insn.specs.declared.operation.Width.TheVariants.{W64}
-use Rattle.insn.specs.declared.operation.BinOp.TheVariants.{Smod}
-use Rattle.insn.specs.WordLaws.{word_result_fits}
+use Rattle.range.proofs.Names.{cast_signed, int_max, int_min, ints, clamps, to_z-of_z, W64, Smod, word_result_fits, greatest_of, least_of}
 use Rattle.range.proofs.Quotients.{ends_fit, within_ends, remainder_is, remainder_same, remainder_reading}
 use Rattle.range.proofs.SignedRanges.{above_least, below_greatest, signed_member}
-use Rattle.range.specs.Signed.{greatest_of, least_of}
 use Rattle.range.proofs.signed.SRange.remainder.Goals as goal
 
 pub new-requires : goal.new-requires
 new-requires c =
-    let ordered = c.args.a.places.ordered in
     rw (to_z-of_z w64 c.max-least.result (search rules), to_z-of_z w64 c.min-greatest.result (search rules)) (omega (arith, ints, clamps))
 
 pub returns-then-high-divisor : goal.returns-then-high-divisor

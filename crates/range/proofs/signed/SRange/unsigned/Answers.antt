@@ -1,6 +1,5 @@
 use Rattle.std.proofs.Common.{arith}
-use Rattle.insn.specs.declared.operation.Width.TheVariants.{W64}
-use Rattle.range.specs.Places.{signed_place}
+use Rattle.range.proofs.Names.{W64, signed_place}
 use Rattle.range.proofs.Places.{turned_back}
 use Rattle.range.proofs.signed.SRange.unsigned.Goals as goal
 

@@ -1,7 +1,5 @@
-use Rattle.std.proofs.Common.{◌≡◌, ℕ, ◌<◌, arith}
-use Rattle.insn.specs.declared.operation.Width.TheVariants.{W64}
-use Rattle.range.specs.Places.{signed_place}
-use Rattle.range.specs.WidthsParts.{modulus}
+use Rattle.std.proofs.Common.{ℕ, ◌<◌, arith}
+use Rattle.range.proofs.Names.{W64, modulus}
 use Rattle.range.proofs.Places.{reached, turned_back, within_fits}
 use Rattle.range.proofs.Refinements.{placed_answer}
 use Rattle.range.proofs.unsigned.URange.by_signs.Goals as goal

@@ -1,6 +1,5 @@
 use Rattle.std.proofs.Common.{true}
-use Rattle.range.specs.Conditions.{says}
-use Rattle.range.specs.ConditionsParts.{IsAnsweredIn}
+use Rattle.range.proofs.Names.{says, IsAnsweredIn}
 use Rattle.range.proofs.Refinements.{compared_by}
 use Rattle.range.proofs.unsigned.URange.compared.Goals as goal
 

@@ -1,7 +1,5 @@
 use Rattle.std.proofs.Common.{◌≡◌, ◌^◌, ◌<◌, arith}
-use Rattle.range.specs.declared.unsigned.URange.{URange}
-use Rattle.range.specs.Sets.{IsWithin}
-use Rattle.range.specs.Unsigned.{InRange}
+use Rattle.range.proofs.Names.{URange, IsWithin, InRange}
 use Rattle.range.proofs.Places.{member}
 use Rattle.range.proofs.unsigned.URange.refined_by_halves.Goals as goal
 

@@ -1,5 +1,5 @@
 use Rattle.known_bits.proofs.Meeting.{joined_has, joined_least}
-use Rattle.known_bits.proofs.bits.KnownBits.joined.Goals as goal
+use Rattle.known_bits.proofs.domain.KnownBitsDomain.join.Goals as goal
 
 pub returns-clause-both : goal.returns-clause-both
 returns-clause-both c = joined_has c.args.a c.args.b c.outside.result c.outside.ensures.mask c.outside.ensures.value

@@ -1,7 +1,7 @@
 use Rattle.std.proofs.Common.{arith}
 use Rattle.std.proofs.lemmas.Bool.Decides.{nat_tests}
 use Rattle.known_bits.proofs.Agreeing.{admitted}
-use Rattle.known_bits.proofs.bits.KnownBits.admits.Goals as goal
+use Rattle.known_bits.proofs.domain.KnownBitsDomain.has.Goals as goal
 
 pub returns : goal.returns
 returns c =
