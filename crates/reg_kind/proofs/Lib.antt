@@ -2,3 +2,4 @@ pub mod Readings
 pub mod Shifts
 pub mod Results
 pub mod Places
+pub mod Names

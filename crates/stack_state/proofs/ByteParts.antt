@@ -1,17 +1,15 @@
 -- The bytes of words.
-use Rattle.std.proofs.Common.{◌≡◌, ℕ, zero, suc, ◌+◌, ◌-◌, ◌*◌, ◌/◌, ◌%◌, ◌^◌, ◌<◌, ◌≤◌, List, [], ◌∷◌, length, get_or, map, Some, sym, ap, ◌∙◌, subst, arith, mod-eq_of_lt}
+use Rattle.std.proofs.Common.{◌≡◌, ℕ, zero, suc, ◌+◌, ◌-◌, ◌*◌, ◌/◌, ◌%◌, ◌^◌, ◌<◌, ◌≤◌, List, [], ◌∷◌, length, get_or, map, Some, refl, sym, ap, ◌∙◌, subst, arith, mod-eq_of_lt}
+use Rattle.stack_state.proofs.Names.{and-not, and_comm, and_mask, field_of, mod-pow-add, mod_low, mod_below, mul-add-lt, pow-add, pow_pos, shl_whole, shr-shr, shr_below, shr_high, shr_split, Cell}
+use Rattle.stack_state.proofs.Names.{low_bytes, number_spelled, Scalar, ShowsOne, InScalar-words, shows_one, byte_of, word_with}
 use Rattle.std.specs.Int.Bits.{bit_and}
 use Rattle.std.specs.Option.{option_map}
-use Rattle.std.proofs.lemmas.Nat.{and-not, and_comm, and_mask, field_of, mod-pow-add, mod_low, mod_below, mul-add-lt, pow-add, pow_pos, shl_whole, shr-shr, shr_below, shr_high, shr_split}
 use Rattle.std.proofs.lemmas.Nat.Bits.{and_high}
 use Rattle.std.proofs.Math.Pow.{pow_mono}
-use Rattle.insn.specs.declared.state.Cell.{Cell}
 use Rattle.insn.specs.declared.state.Cell.TheVariants.{Unset, Byte}
-use Rattle.insn.specs.declared.operation.BinOp.TheVariants.{Add, And, Lsh, Rsh}
+use Rattle.insn.specs.declared.operation.BinOp.TheVariants.{Add, And}
 use Rattle.insn.specs.declared.operation.Width.TheVariants.{W64}
-use Rattle.insn.specs.Memory.{low_bytes, number_spelled}
 use Rattle.insn.specs.Word.{word_result}
-use Rattle.stack_state.specs.Words.{byte_of, word_with}
 
 -- ---- low bytes
 
@@ -98,14 +96,18 @@ with_word at count w x inside small =
 pub masked : (w m k : ℕ) → m + 1 ≡ 2 ^ k → word_result W64 And w m ≡ w % 2 ^ k
 masked w m k is = let e : m ≡ 2 ^ k - 1 = omega arith in ap (bit_and w) e ∙ and_mask w k
 
-small_shift : (k : ℕ) → k < 8 → 8 * k % 64 ≡ 8 * k
+pub small_shift : (k : ℕ) → k < 8 → 8 * k % 64 ≡ 8 * k
 small_shift k lt = omega arith
 
-pub moved_down : (w k m : ℕ) → m ≡ 8 * k → k < 8 → word_result W64 Rsh w m ≡ w / 2 ^ (8 * k)
-moved_down w k m is lt = ap (λ (i : ℕ). w / 2 ^ (i % 64)) is ∙ ap (λ (i : ℕ). w / 2 ^ i) (small_shift k lt)
+-- no bytes are taken from a word, and all of it
+pub none_taken : (w count : ℕ) → count ≡ 0 → w / 2 ^ (8 * count) ≡ w
+none_taken w count e = rw e (omega arith)
 
-pub moved_up : (w k m : ℕ) → m ≡ 8 * k → k < 8 → word_result W64 Lsh w m ≡ w * 2 ^ (8 * k) % 2 ^ 64
-moved_up w k m is lt = ap (λ (i : ℕ). w * 2 ^ (i % 64) % 2 ^ 64) is ∙ ap (λ (i : ℕ). w * 2 ^ i % 2 ^ 64) (small_shift k lt)
+pub all_taken : (w count k : ℕ) → count ≡ k → w < 2 ^ (8 * k) → w % 2 ^ (8 * count) ≡ w
+all_taken w count k e lt = rw e (mod-eq_of_lt lt)
+
+pub one_small : (s : Scalar) (w : ℕ) → ShowsOne s w → w < 2 ^ 64
+one_small s w h = InScalar-words s w ((shows_one s w h w).1 refl)
 
 -- a word without some of its bytes, and their place filled
 module _ (at count w x m : ℕ) (inside : at + count ≤ 8) (small : w < 2 ^ 64) (mask : m + 1 ≡ 2 ^ (8 * count)) where

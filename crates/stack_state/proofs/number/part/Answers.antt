@@ -1,8 +1,8 @@
-use Rattle.std.proofs.Common.{ℕ, ◌*◌, ◌/◌, ◌^◌}
+use Rattle.std.proofs.Common.{◌*◌, ◌/◌, ◌^◌}
 use Rattle.stack_state.proofs.number.part.Goals as goal
 
-pub returns-clause-all : goal.returns-clause-all
-returns-clause-all c = λ (w : ℕ) h. c.low.ensures.all (w / 2 ^ (8 * c.args.at)) (c.without_low.ensures.all w h)
-
-pub returns-clause-one : goal.returns-clause-one
-returns-clause-one c = λ (w : ℕ) h. c.low.ensures.one (w / 2 ^ (8 * c.args.at)) (c.without_low.ensures.one w h)
+pub returns : goal.returns
+returns c = record {
+  all = λ w h. c.low.ensures.all (w / 2 ^ (8 * c.args.at)) (c.without_low.ensures.all w h);
+  one = λ w h. c.low.ensures.one (w / 2 ^ (8 * c.args.at)) (c.without_low.ensures.one w h);
+}

@@ -1,11 +1,8 @@
 use Rattle.std.proofs.Common.{◌≡◌, ◌∙◌, ℕ, ◌<◌, get_or, ap, sym, refl, subst}
-use Rattle.scalar.specs.Members.{InScalar}
+use Rattle.stack_state.proofs.Names.{InScalar, Block, HasWord, block_mark, IsBlockJoin, common_mark}
 use Rattle.stack_state.specs.declared.bytes.Bytes.{Bytes}
-use Rattle.stack_state.specs.declared.block.Block.{Block}
 use Rattle.stack_state.specs.declared.block.Block.TheVariants as block
 use Rattle.stack_state.specs.declared.mark.Mark.TheVariants.{Unset}
-use Rattle.stack_state.specs.Fits.{HasWord, block_mark}
-use Rattle.stack_state.specs.Joins.{IsBlockJoin, common_mark}
 use Rattle.stack_state.proofs.block.Block.covers.Goals as goal
 
 -- what is known of cells is known of a block

@@ -1,6 +1,5 @@
 use Rattle.std.proofs.Common.{ℕ, subst}
-use Rattle.stack_state.specs.declared.block.Block.{Block}
-use Rattle.stack_state.specs.Fits.{HasWord}
+use Rattle.stack_state.proofs.Names.{Block, HasWord}
 use Rattle.stack_state.proofs.block.Block.number.Goals as goal
 
 pub returns-in-Unset-clause-all : goal.returns-in-Unset-clause-all

@@ -1,7 +1,5 @@
 use Rattle.std.proofs.Common.{◌∙◌, ◌-◌, ap, sym, arith}
-use Rattle.stack_state.specs.Accesses.{touched}
-use Rattle.stack_state.specs.BlocksParts.{BlockPut}
-use Rattle.stack_state.specs.Words.{word_with}
+use Rattle.stack_state.proofs.Names.{touched, BlockPut, word_with}
 use Rattle.stack_state.proofs.Steps.{no_part, word_put}
 use Rattle.stack_state.proofs.block.Block.put.Goals as goal
 

@@ -1,10 +1,6 @@
 use Rattle.std.proofs.Common.{◌≡◌, ◌+◌, ◌≤◌, ◌/◌, ◌%◌, get_or, refl, sym, ap, ◌∙◌, subst, arith, ℕ}
-use Rattle.insn.specs.Instruction.{size_bytes}
-use Rattle.scalar.specs.Members.{InScalar, ShowsOne}
+use Rattle.stack_state.proofs.Names.{size_bytes, InScalar, ShowsOne, block_at, bytes_from, get_or_default}
 use Rattle.stack_state.specs.declared.block.Block.TheVariants.{Unset}
-use Rattle.stack_state.specs.Fits.{block_at}
-use Rattle.stack_state.specs.Words.{bytes_from}
-use Rattle.stack_state.proofs.Written.{item_is}
 use Rattle.stack_state.proofs.Loads.{part_number, size_some}
 use Rattle.stack_state.proofs.stack.Stack.number.Goals as goal
 use Rattle.stack_state.proofs.stack.Stack.number.Goals.{else-span-via-then-span+else-at-bytes-le8, else-span-via-else-span}
@@ -12,7 +8,7 @@ use Rattle.stack_state.proofs.stack.Stack.number.Goals.{else-span-via-then-span+
 pub returns-then-at-bytes-le8 : goal.returns-then-at-bytes-le8
 returns-then-at-bytes-le8 c =
     part_number c.args.self.now c.args.span c.args.size (get_or c.args.self.now.blocks (c.from-from.result / 8) c.index-self-from.result) c.part.result
-    (ap (λ (i : ℕ). block_at c.args.self.now (i / 8)) (sym c.from-from.ensures) ∙ sym (item_is c.args.self.now.blocks (c.from-from.result / 8) c.index-self-from.result Unset (let l = c.type_inv.self in let s = (size_some c.args.size).0 in omega arith)))
+    (ap (λ (i : ℕ). block_at c.args.self.now (i / 8)) (sym c.from-from.ensures) ∙ sym (get_or_default c.args.self.now.blocks (c.from-from.result / 8) c.index-self-from.result Unset (let l = c.type_inv.self in let s = (size_some c.args.size).0 in omega arith)))
     (record { certain = omega arith; within = omega arith })
     (λ w h. subst (InScalar c.part.result) (same w) (c.part.ensures.all w h))
     (λ w h. subst (ShowsOne c.part.result) (same w) (c.part.ensures.one w h)) where
