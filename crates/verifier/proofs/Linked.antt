@@ -1,56 +1,31 @@
 -- Registers whose number is another's plus a constant or a constant less another's.
 use Rattle.std.proofs.Common.{◌≡◌, ◌≢◌, ℕ, suc, ◌+◌, ◌-◌, ◌/◌, ◌%◌, ◌^◌, ◌<◌, ◌≤◌, ◌==◌, ◌||◌, if◌then◌else◌, Bool, true, false, ℤ, pos, negsuc, List, Option, Some, None, get_or, set, length, refl, sym, ap, ◌∙◌, subst, arith, inl, inr}
-use Rattle.std.specs.Int.{w64, cast_signed, cast_unsigned, int_shr}
+use Rattle.verifier.proofs.Names.{cast_signed, cast_unsigned, int_shr, cases_eq, cases_lt, Decides-int_eq, to_z_pos, get_or-set_other, get_or-set_same, length-set, BinOp, Add, Sub, Lsh, Rsh, Arsh}
+use Rattle.verifier.proofs.Names.{Width, W32, W64, RegNo, Value, Number, Address, reg_number, Scalar, InScalar-words, shows_one, InScalar, word_holds, word_result, wrapped, Bits, Lowest, Shifted}
+use Rattle.verifier.proofs.Names.{Link, Links, Sum, Difference, IsDerived, IsTraced, IsEqualKept, AreLeft, AreLinked, AreLinksJoined, AreMade, AreRelated, IsLinkJoin, LinkHolds, LinksHold}
+use Rattle.verifier.proofs.Names.{bits_after, lesser, link_at, link_left, plus_after}
+use Rattle.std.specs.Int.{w64}
 use Rattle.std.specs.Ordering.{int_eq}
-use Rattle.std.proofs.lemmas.Bool.{cases_eq, cases_lt}
-use Rattle.std.proofs.lemmas.Bool.Decides.{Decides-int_eq}
-use Rattle.std.proofs.lemmas.Int.{to_z_pos}
-use Rattle.std.proofs.lemmas.List.{get_or-set_other, get_or-set_same, length-set}
 use mir.ValLaws.{to_z-neg}
-use Rattle.insn.specs.declared.operation.BinOp.{BinOp}
-use Rattle.insn.specs.declared.operation.BinOp.TheVariants.{Add, Sub, Lsh, Rsh, Arsh}
 use Rattle.insn.specs.declared.operation.Cond.TheVariants.{Eq}
-use Rattle.insn.specs.declared.operation.Width.{Width}
-use Rattle.insn.specs.declared.operation.Width.TheVariants.{W32, W64}
-use Rattle.insn.specs.declared.register.RegNo.{RegNo}
-use Rattle.insn.specs.declared.state.Value.{Value}
-use Rattle.insn.specs.declared.state.Value.TheVariants.{Number, Address}
-use Rattle.insn.specs.Instruction.{reg_number}
 use Rattle.range.specs.Sets.{IsWithin}
-use Rattle.scalar.specs.declared.scalar.Scalar.{Scalar}
-use Rattle.scalar.specs.MemberLaws.{InScalar-words, shows_one}
-use Rattle.scalar.specs.Members.{InScalar}
 use Rattle.scalar.specs.Narrowed.{AreNarrowed}
-use Rattle.insn.specs.Word.{word_holds, word_result, wrapped}
-use Rattle.verifier.specs.declared.link.Bits.{Bits}
-use Rattle.verifier.specs.declared.link.Bits.TheVariants.{Lowest, Shifted}
-use Rattle.verifier.specs.declared.link.Link.{Link}
-use Rattle.verifier.specs.declared.link.Links.{Links}
 use Rattle.verifier.specs.declared.link.Relation.{Relation}
-use Rattle.verifier.specs.declared.link.Relation.TheVariants.{Sum, Difference}
-use Rattle.verifier.specs.Learnt.{IsDerived, IsTraced}
-use Rattle.verifier.specs.LinksParts.{IsEqualKept}
-use Rattle.verifier.specs.Links.{AreLeft, AreLinked, AreLinksJoined, AreMade, AreRelated, IsLinkJoin, LinkHolds, LinksHold, bits_after, lesser, link_at, link_left, plus_after}
 
 -- ---- numbers
 
 -- a constant is added to a number that is linked
 added : (r : Relation) (w v : Width) (p c a b : ℕ) → AreRelated r (Lowest v) p a b → AreRelated r (Lowest (lesser w v)) (wrapped w64 (p + c)) a (word_result w Add b c)
 added Sum W64 W64 p c a b h = omega arith
-added Sum W64 W32 p c a b h = omega arith
-added Sum W32 W64 p c a b h = omega arith
-added Sum W32 W32 p c a b h = omega arith
 added Difference W64 W64 p c a b h = omega arith
-added Difference W64 W32 p c a b h = omega arith
-added Difference W32 W64 p c a b h = omega arith
-added Difference W32 W32 p c a b h = omega arith
+added r W32 W64 p c a b h = omega arith
+added r w v p c a b h = omega arith
 
 -- it is shifted up by half a word, and down
 shifted_up : (r : Relation) (v : Width) (p a b : ℕ) → AreRelated r (Lowest v) p a b → AreRelated r Shifted p a (word_result W64 Lsh b 32)
 shifted_up Sum W64 p a b h = omega arith
-shifted_up Sum W32 p a b h = omega arith
 shifted_up Difference W64 p a b h = omega arith
-shifted_up Difference W32 p a b h = omega arith
+shifted_up r v p a b h = omega arith
 
 shifted_down : (r : Relation) (p a b c : ℕ) → c % 2 ^ 32 ≡ b / 2 ^ 32 % 2 ^ 32 → AreRelated r Shifted p a b → AreRelated r (Lowest W32) p a c
 shifted_down Sum p a b c e h = omega arith
@@ -169,9 +144,8 @@ IsNoNumber (Some (Number n)) = ⊥
 IsNoNumber (Some (Address p)) = Unit {0}
 
 no_number : (o : Option Value) (n : ℕ) → IsNoNumber o → o ≡ Some (Number n) → ⊥
-no_number None n h e = cc
 no_number (Some (Number m)) n h e = h
-no_number (Some (Address p)) n h e = cc
+no_number o n h e = cc
 
 module _ (links : Links) (registers : List (Option Value)) (j : ℕ) (o : Option Value) (inside : j < length registers) (none : IsNoNumber o) where
   unchanged : (k n : ℕ) → get_or (set registers j o) k None ≡ Some (Number n) → get_or registers k None ≡ Some (Number n)

@@ -1,59 +1,24 @@
 -- What the table refuses is refused by the machine: in some state that is what is known, with the fault that is named.
-use Rattle.std.proofs.Common.{◌≡◌, ◌≢◌, ◌⊎◌, ℕ, ◌+◌, ◌-◌, ◌<◌, ◌≤◌, ◌&&◌, ℤ, pos, negsuc, Bool, true, false, List, Option, Some, None, Result, Ok, Err, get_or, set, refl, sym, ap, ◌∙◌, subst, arith, inl, inr}
-use Rattle.std.specs.Prelude.{◌+ℤ◌, nat_le}
-use Rattle.std.proofs.lemmas.Bool.{cases_eq, cases_lt, le-leb, lt-leb}
-use Rattle.std.proofs.lemmas.Int.{ints}
-use Rattle.std.proofs.lemmas.List.{get_or-set_other, get_or-set_same, length-set}
-use Rattle.insn.specs.declared.layout.Layout.{Layout}
+use Rattle.std.proofs.Common.{◌≡◌, ◌≢◌, ◌⊎◌, ℕ, ◌+◌, ◌-◌, ◌<◌, ◌≤◌, ◌&&◌, ℤ, pos, negsuc, Bool, true, false, List, Option, Some, None, Result, Ok, Err, get_or, set, refl, sym, ap, ◌∙◌, subst, arith, inl, inr, IfErr}
+use Rattle.verifier.proofs.Names.{◌+ℤ◌, nat_le, cases_eq, cases_lt, le-leb, lt-leb, ints, get_or-set_other, get_or-set_same, length-set, Layout, RegNo, Operand, Reg, Imm, Size, One, Two, Four, Eight}
+use Rattle.verifier.proofs.Names.{ExtendBits, UnOp, Extend, Width, W64, W32, Region, Pointer, Value, Number, Address, Cell, WalkFault, OutOfRegion, PointerMisuse, ReadOnlyField, UnsetRegister}
+use Rattle.verifier.proofs.Names.{ExitsWithPointer, PointerRange, reg_number, size_bytes, State, at, region_size, value_of, writable_from, writable_to, is_writable, within, Effect, Falls}
+use Rattle.verifier.proofs.Names.{operand_value, Exits, Jumps, Tested, Passes, Fails, access_place, action_outcome, and_then, comparison, extended, failed, number_held, stored_state}
+use Rattle.verifier.proofs.Names.{operation_result, put, LoadFrom, StoreAt, Operate, Convert, LoadWord, Go, End, Scalar, Kind, Span, Place, IsRight, RegFits, SpanFits, ValueFits, pointer_to}
+use Rattle.verifier.proofs.Names.{is_span_writable, place_at, place_behind, place_in, IsKindImage, number_in_reg, IsComputed, IsDifference, IsKindResult, IsRegSum, in_region, StackFits, IsGiven}
+use Rattle.verifier.proofs.Names.{IsStored, Known, Next, StateFits, IsOperand, comparison_of, reg_of, Extends, GivenAt, LeavesRow, StoredAt, StoredOf, StoredWhere, flow_where, kept_in_record, put_at}
+use Rattle.verifier.proofs.Names.{CanFail, R0, Insn, Action, BinOp, Add, Sub, Mov, action_of, unary_result, word_holds, defined_result, left_operand, Flow}
+use Rattle.std.specs.Prelude.{if◌then◌else◌}
+use Rattle.insn.specs.Outcomes.{WritesR10}
+use Rattle.insn.specs.declared.action.Action.TheVariants.{Branch}
 use Rattle.insn.specs.declared.layout.Layout.TheVariants.{V1, V2}
-use Rattle.insn.specs.declared.register.RegNo.{RegNo}
-use Rattle.insn.specs.declared.instruction.Operand.{Operand}
-use Rattle.insn.specs.declared.instruction.Operand.TheVariants.{Reg, Imm}
-use Rattle.insn.specs.declared.operation.Size.{Size}
-use Rattle.insn.specs.declared.operation.Size.TheVariants.{One, Two, Four, Eight}
-use Rattle.insn.specs.declared.operation.ExtendBits.{ExtendBits}
-use Rattle.insn.specs.declared.operation.UnOp.{UnOp}
-use Rattle.insn.specs.declared.operation.UnOp.TheVariants.{Extend}
-use Rattle.insn.specs.declared.operation.Width.{Width}
-use Rattle.insn.specs.declared.operation.Width.TheVariants.{W64}
-use Rattle.insn.specs.declared.state.Region.{Region}
-use Rattle.insn.specs.declared.state.Region.TheVariants as region
-use Rattle.insn.specs.declared.state.Pointer.{Pointer}
-use Rattle.insn.specs.declared.state.Value.{Value}
-use Rattle.insn.specs.declared.state.Value.TheVariants.{Number, Address}
-use Rattle.insn.specs.declared.state.Cell.{Cell}
-use Rattle.insn.specs.declared.verify_fault.WalkFault.{WalkFault}
-use Rattle.insn.specs.declared.verify_fault.WalkFault.TheVariants.{OutOfRegion, PointerMisuse, ReadOnlyField, UnsetRegister}
-use Rattle.insn.specs.Instruction.{reg_number, size_bytes}
-use Rattle.insn.specs.Values.{State, at, region_size, value_of, writable_from, writable_to}
-use Rattle.insn.specs.Memory.{is_writable, within}
-use Rattle.insn.specs.Effects.{Effect, Falls, operand_value}
-use Rattle.insn.specs.Outcomes.{Tested, Passes, Fails, WritesR10, access_place, action_outcome, and_then, comparison, extended, failed, number_held, stored_state}
-use Rattle.insn.specs.declared.action.Action.TheVariants.{LoadFrom, StoreAt}
-use Rattle.scalar.specs.declared.scalar.Scalar.{Scalar}
-use Rattle.reg_kind.specs.declared.reg.Reg.{Reg as Kind}
-use Rattle.reg_kind.specs.declared.reg.Reg.TheVariants as kind
-use Rattle.reg_kind.specs.declared.span.Span.{Span}
-use Rattle.reg_kind.specs.declared.place.Place.{Place}
-use Rattle.reg_kind.specs.Fits.{IsRight, RegFits, SpanFits, ValueFits, pointer_to}
 use Rattle.reg_kind.specs.Spans.{span_between, span_from, span_raised}
-use Rattle.reg_kind.specs.Accesses.{is_span_writable, place_at, place_behind, place_in}
-use Rattle.reg_kind.specs.Operations.{IsKindImage, number_in_reg}
-use Rattle.stack_state.specs.Fits.{StackFits}
-use Rattle.stack_state.specs.Accesses.{IsGiven, IsStored}
 use Rattle.stack_state.proofs.Refusals.{FailsLoad, FailsStore, load_seen, store_seen}
-use Rattle.verifier.specs.declared.known.Known.{Known}
-use Rattle.verifier.specs.declared.known.Flow.TheVariants.{Next}
-use Rattle.verifier.specs.Fits.{StateFits}
-use Rattle.verifier.specs.Follows.{IsOperand, comparison_of, reg_of}
-use Rattle.verifier.specs.Kinds.{Extends, GivenAt, LeavesRow, StoredAt, StoredOf, StoredWhere, flow_where, kept_in_record, put_at}
-use Rattle.verifier.proofs.Accesses.{no_value}
-use Rattle.verifier.proofs.Branches.{unset_compared}
-use Rattle.verifier.proofs.Outcomes.{of_err, of_ok, set_holds, unset_or_not}
-use Rattle.verifier.proofs.Parts.{Gives, fails_then, given_by, loaded_by}
+use Rattle.verifier.proofs.Steps.{no_value, unset_compared, of_err, of_ok, set_holds, unset_or_not, Gives, fails_then, given_by, loaded_by, loaded_right, operand_fits, converts_put, loads_put, both_named}
 use Rattle.verifier.proofs.Linked.{IsNoNumber, changed_holds}
 use Rattle.verifier.proofs.States.{reg_below, reg_fits}
-use Rattle.verifier.proofs.Steps.{loaded_right, operand_fits}
+use Rattle.insn.specs.declared.state.Region.TheVariants as region
+use Rattle.reg_kind.specs.declared.reg.Reg.TheVariants as kind
 
 -- ---- places
 
@@ -119,17 +84,9 @@ comes_to span t offset k l g fits =
 
 few_bytes : (layout : Layout) (r : Region) (size : Size) → size_bytes size ≤ region_size layout r
 few_bytes V1 region.Record One = omega arith
-few_bytes V1 region.Record Two = omega arith
-few_bytes V1 region.Record Four = omega arith
-few_bytes V1 region.Record Eight = omega arith
 few_bytes V2 region.Record One = omega arith
-few_bytes V2 region.Record Two = omega arith
-few_bytes V2 region.Record Four = omega arith
-few_bytes V2 region.Record Eight = omega arith
 few_bytes layout region.Stack One = omega arith
-few_bytes layout region.Stack Two = omega arith
-few_bytes layout region.Stack Four = omega arith
-few_bytes layout region.Stack Eight = omega arith
+few_bytes layout r size = omega arith
 
 -- ---- states of which a register is changed
 
@@ -170,7 +127,7 @@ module _ (layout : Layout) (old : Known) (s : State) (f : StateFits false layout
   -- one that is a pointer may be at each of its offsets
   pointer_fits : (g : Region) (span : Span) (o : ℕ) → SpanFits false span o → RegFits false (pointer_to g span) (Some (Address (at g o)))
   pointer_fits region.Record span o h = (refl, h)
-  pointer_fits region.Stack span o h = (refl, h)
+  pointer_fits g span o h = (refl, h)
 
   pointer_there : (r : RegNo) (g : Region) (span : Span) (o : ℕ) (cells : List Cell) → reg_of old r ≡ pointer_to g span → SpanFits false span o → StackFits false old.stack cells → StateFits false layout old (changed s r (Some (Address (at g o))) cells)
   pointer_there r g span o cells e h stack = changed_fits r (Some (Address (at g o))) cells tt (subst (λ (k : Kind). RegFits false k (Some (Address (at g o)))) (sym e) (pointer_fits g span o h)) stack
@@ -179,19 +136,15 @@ module _ (layout : Layout) (old : Known) (s : State) (f : StateFits false layout
   is_number : (r : RegNo) (a : Scalar) → reg_of old r ≡ kind.Number a → (n : ℕ) × (value_of s.registers r ≡ Some (Number n))
   is_number r a e = by (value_of s.registers r) (subst (λ (k : Kind). RegFits false k (value_of s.registers r)) e (reg_fits false layout old s r f)) where
     by : (o : Option Value) → RegFits false (kind.Number a) o → (n : ℕ) × (o ≡ Some (Number n))
-    by None h = absurd h
     by (Some (Number n)) h = (n, refl)
-    by (Some (Address p)) h = absurd h
+    by o h = absurd h
 
   is_pointer : (r : RegNo) (g : Region) (span : Span) → reg_of old r ≡ pointer_to g span → (p : Pointer) × (value_of s.registers r ≡ Some (Address p)) × SpanFits false span p.offset
   is_pointer r g span e = by g (value_of s.registers r) (subst (λ (k : Kind). RegFits false k (value_of s.registers r)) e (reg_fits false layout old s r f)) where
     by : (g : Region) (o : Option Value) → RegFits false (pointer_to g span) o → (p : Pointer) × (o ≡ Some (Address p)) × SpanFits false span p.offset
-    by region.Record None h = absurd h
-    by region.Stack None h = absurd h
-    by region.Record (Some (Number n)) h = absurd h
-    by region.Stack (Some (Number n)) h = absurd h
     by region.Record (Some (Address p)) h = (p, refl, h.1)
     by region.Stack (Some (Address p)) h = (p, refl, h.1)
+    by g o h = absurd h
 
   ordered : (r : RegNo) (g : Region) (span : Span) → reg_of old r ≡ pointer_to g span → span.least ≤ span.greatest
   ordered r g span e = let h = is_pointer r g span e in let a = h.2.0 in let b = h.2.1 in omega arith
@@ -212,8 +165,7 @@ module _ (layout : Layout) (old : Known) (s : State) (f : StateFits false layout
   pub image_refused : (op : UnOp) (w : Width) (a : Kind) (fault : WalkFault) → IsKindImage op w a (Err fault) → number_in_reg a PointerMisuse ≡ Err fault
   image_refused op w kind.Unset fault h = let is : UnsetRegister ≡ fault = cc in ap Err is
   image_refused op w (kind.Number a) fault h = let e = h.1 in absurd cc
-  image_refused op w (kind.Record span) fault h = let is : PointerMisuse ≡ fault = cc in ap Err is
-  image_refused op w (kind.Stack span) fault h = let is : PointerMisuse ≡ fault = cc in ap Err is
+  image_refused op w a fault h = let is : PointerMisuse ≡ fault = cc in ap Err is
 
   -- ---- loads
 
@@ -264,14 +216,11 @@ module _ (layout : Layout) (old : Known) (s : State) (f : StateFits false layout
 
   -- a pointer is not extended
   extend_fails : (bits : ExtendBits) (number : Kind) (fault : WalkFault) (t : Tested Value) → IsKindImage (Extend bits) W64 number (Err fault) → IsRight (ValueFits false) false (Ok number) t → failed (and_then t (extended (Some bits))) ≡ Some fault
-  extend_fails bits number fault (Fails named) h right = absurd right
-  extend_fails bits number fault WritesR10 h right = absurd right
   extend_fails bits kind.Unset fault (Passes v) h right = absurd right
   extend_fails bits (kind.Number a) fault (Passes v) h right = let e = h.1 in absurd cc
-  extend_fails bits (kind.Record span) fault (Passes (Number n)) h right = absurd right
-  extend_fails bits (kind.Stack span) fault (Passes (Number n)) h right = absurd right
   extend_fails bits (kind.Record span) fault (Passes (Address p)) h right = let same : PointerMisuse ≡ fault = cc in ap Some same
   extend_fails bits (kind.Stack span) fault (Passes (Address p)) h right = let same : PointerMisuse ≡ fault = cc in ap Some same
+  extend_fails bits number fault t h right = absurd right
 
   pub extended_seen : (size : Size) (extension : Option ExtendBits) (dst src : RegNo) (offset : ℤ) (fault : WalkFault) → Gives layout old (LoadFrom size extension dst src offset) (Err fault) → Sees layout old (given_by layout (LoadFrom size extension dst src offset)) fault
   extended_seen size extension dst src offset fault h = by extension h.0 h.1 h.2 where
@@ -325,10 +274,8 @@ module _ (layout : Layout) (old : Known) (s : State) (f : StateFits false layout
   record_misuse : (size : Size) (k : ℕ) (value : Kind) (v : Value) (fault : WalkFault) (t : State) → value ≢ kind.Unset → is_writable layout region.Record k (size_bytes size) ≡ true → Err fault ≡ kept_in_record value → ValueFits false value v → failed (stored_state layout t (at region.Record k) size v) ≡ Some fault
   record_misuse size k kind.Unset v fault t set w e h = absurd (set refl)
   record_misuse size k (kind.Number a) v fault t set w e h = absurd cc
-  record_misuse size k (kind.Record span) (Number n) fault t set w e h = absurd h
-  record_misuse size k (kind.Stack span) (Number n) fault t set w e h = absurd h
-  record_misuse size k (kind.Record span) (Address p) fault t set w e h = let is : PointerMisuse ≡ fault = cc in rw w (ap Some is)
-  record_misuse size k (kind.Stack span) (Address p) fault t set w e h = let is : PointerMisuse ≡ fault = cc in rw w (ap Some is)
+  record_misuse size k value (Number n) fault t set w e h = absurd h
+  record_misuse size k value (Address p) fault t set w e h = let is : PointerMisuse ≡ fault = cc in rw w (ap Some is)
 
   module _ (size : Size) (dst : RegNo) (offset : ℤ) (operand : Operand) where
     abbrev write_at : State → Tested Effect
@@ -429,27 +376,6 @@ module _ (layout : Layout) (old : Known) (s : State) (f : StateFits false layout
 
   -- ---- comparisons
 
-  both_there : (a b : Kind) (v u : Value) (fault : WalkFault) → ValueFits false a v → ValueFits false b u → comparison_of a b ≡ Err fault → failed (comparison (Some v) (Some u)) ≡ Some fault
-  both_there kind.Unset b v u fault x y e = absurd x
-  both_there (kind.Number a) kind.Unset v u fault x y e = absurd y
-  both_there (kind.Record a) kind.Unset v u fault x y e = absurd y
-  both_there (kind.Stack a) kind.Unset v u fault x y e = absurd y
-  both_there (kind.Number a) (kind.Number b) v u fault x y e = absurd cc
-  both_there (kind.Number a) (kind.Record b) (Number n) (Address q) fault x y e = let same : PointerMisuse ≡ fault = cc in ap Some same
-  both_there (kind.Number a) (kind.Stack b) (Number n) (Address q) fault x y e = let same : PointerMisuse ≡ fault = cc in ap Some same
-  both_there (kind.Number a) (kind.Record b) (Number n) (Number m) fault x y e = absurd y
-  both_there (kind.Number a) (kind.Stack b) (Number n) (Number m) fault x y e = absurd y
-  both_there (kind.Number a) (kind.Record b) (Address p) u fault x y e = absurd x
-  both_there (kind.Number a) (kind.Stack b) (Address p) u fault x y e = absurd x
-  both_there (kind.Record a) b (Number n) u fault x y e = absurd x
-  both_there (kind.Stack a) b (Number n) u fault x y e = absurd x
-  both_there (kind.Record a) (kind.Number b) (Address p) u fault x y e = let same : PointerMisuse ≡ fault = cc in ap Some same
-  both_there (kind.Record a) (kind.Record b) (Address p) u fault x y e = let same : PointerMisuse ≡ fault = cc in ap Some same
-  both_there (kind.Record a) (kind.Stack b) (Address p) u fault x y e = let same : PointerMisuse ≡ fault = cc in ap Some same
-  both_there (kind.Stack a) (kind.Number b) (Address p) u fault x y e = let same : PointerMisuse ≡ fault = cc in ap Some same
-  both_there (kind.Stack a) (kind.Record b) (Address p) u fault x y e = let same : PointerMisuse ≡ fault = cc in ap Some same
-  both_there (kind.Stack a) (kind.Stack b) (Address p) u fault x y e = let same : PointerMisuse ≡ fault = cc in ap Some same
-
   module _ (dst : RegNo) where
     abbrev compare_at : Operand → State → Tested (ℕ × ℕ)
     compare_at operand t = comparison (value_of t.registers dst) (operand_value t operand)
@@ -462,9 +388,7 @@ module _ (layout : Layout) (old : Known) (s : State) (f : StateFits false layout
     compare_seen operand right is fault e = by (unset_or_not (reg_of old dst)) (unset_or_not right) where
       right_named : (a b : Kind) → b ≡ kind.Unset → comparison_of a b ≡ Err fault → UnsetRegister ≡ fault
       right_named kind.Unset b q e = cc
-      right_named (kind.Number a) b q e = let g = rw q at e in cc
-      right_named (kind.Record a) b q e = let g = rw q at e in cc
-      right_named (kind.Stack a) b q e = let g = rw q at e in cc
+      right_named a b q e = let g = rw q at e in cc
 
       by : (reg_of old dst ≡ kind.Unset) ⊎ (reg_of old dst ≢ kind.Unset) → (right ≡ kind.Unset) ⊎ (right ≢ kind.Unset) → Sees layout old (compare_at operand) fault
       by (inl q) r =
@@ -475,4 +399,183 @@ module _ (layout : Layout) (old : Known) (s : State) (f : StateFits false layout
       by (inr set) (inr other) =
           let v = set_holds false (reg_of old dst) (value_of s.registers dst) set (reg_fits false layout old s dst f) in
           let u = set_holds false right (operand_value s operand) other (operand_fits false layout old s operand right f is) in
-          record { state = s; fits = f; fails = rw (v.1, u.1) (both_there (reg_of old dst) right v.0 u.0 fault v.2 u.2 e) }
+          record { state = s; fits = f; fails = rw (v.1, u.1) (both_named false (reg_of old dst) right v.0 u.0 fault v.2 u.2 e) }
+
+-- ==== operations, and each row
+
+-- ---- operations by kinds
+
+computed_right : (w : Width) (op : BinOp) (a : Kind) (fault : WalkFault) → IsComputed w op a kind.Unset (Err fault) → UnsetRegister ≡ fault
+computed_right w op kind.Unset fault h = cc
+computed_right w op a fault h = cc
+
+sum_right : (layout : Layout) (a : Kind) (fault : WalkFault) → IsRegSum layout a kind.Unset (Err fault) → UnsetRegister ≡ fault
+sum_right layout kind.Unset fault h = cc
+sum_right layout a fault h = cc
+
+difference_right : (layout : Layout) (a : Kind) (fault : WalkFault) → IsDifference layout a kind.Unset (Err fault) → UnsetRegister ≡ fault
+difference_right layout kind.Unset fault h = cc
+difference_right layout a fault h = cc
+
+right_named : (layout : Layout) (w : Width) (op : BinOp) (a : Kind) (fault : WalkFault) → IsKindResult layout w op a kind.Unset (Err fault) → UnsetRegister ≡ fault
+right_named layout W64 Mov a fault h = cc
+right_named layout W32 Mov a fault h = let e = h.2 in cc
+right_named layout W64 Add a fault h = sum_right layout a fault h
+right_named layout W64 Sub a fault h = difference_right layout a fault h
+right_named layout w op a fault h = computed_right w op a fault h
+
+left_named : (layout : Layout) (w : Width) (op : BinOp) (b : Kind) (fault : WalkFault) → op ≢ Mov → IsKindResult layout w op kind.Unset b (Err fault) → UnsetRegister ≡ fault
+left_named layout w Mov b fault other h = absurd (other refl)
+left_named layout W32 op b fault other h = cc
+left_named layout W64 op b fault other h = cc
+
+-- operations that are defined on numbers alone
+abbrev IsPlain : Width → BinOp → Type 0
+IsPlain W64 Add = ⊥
+IsPlain W64 Sub = ⊥
+IsPlain w op = op ≢ Mov
+
+no_left : (layout : Layout) (w : Width) (op : BinOp) → IsPlain w op → (p : Pointer) (u : Value) → defined_result layout w op (Address p) u ≡ None
+no_left layout W64 Add plain p u = absurd plain
+no_left layout W64 Sub plain p u = absurd plain
+no_left layout w Mov plain p u = absurd (plain refl)
+no_left layout w op plain p (Number n) = refl
+no_left layout w op plain p (Address q) = refl
+
+no_right : (layout : Layout) (w : Width) (op : BinOp) → IsPlain w op → (n : ℕ) (q : Pointer) → defined_result layout w op (Number n) (Address q) ≡ None
+no_right layout W64 Add plain n q = absurd plain
+no_right layout W64 Sub plain n q = absurd plain
+no_right layout w Mov plain n q = absurd (plain refl)
+no_right layout w op plain n q = refl
+
+computed_both : (layout : Layout) (w : Width) (op : BinOp) (a b : Kind) (v u : Value) (fault : WalkFault) → IsPlain w op → ValueFits false a v → ValueFits false b u → IsComputed w op a b (Err fault)
+    → failed (operation_result layout w op (Some v) (Some u)) ≡ Some fault
+computed_both layout w op kind.Unset b v u fault plain x y h = absurd x
+computed_both layout w op a kind.Unset v u fault plain x y h = absurd y
+computed_both layout w op (kind.Number a) (kind.Number b) v u fault plain x y h = let e = h.1 in absurd cc
+computed_both layout w op (kind.Number a) b (Address p) u fault plain x y h = absurd x
+computed_both layout w op (kind.Number a) b (Number n) (Number m) fault plain x y h = absurd y
+computed_both layout w op (kind.Number a) b (Number n) (Address q) fault plain x y h = let same : PointerMisuse ≡ fault = cc in rw (no_right layout w op plain n q) (ap Some same)
+computed_both layout w op a b (Number n) u fault plain x y h = absurd x
+computed_both layout w op a b (Address p) u fault plain x y h = let same : PointerMisuse ≡ fault = cc in rw (no_left layout w op plain p u) (ap Some same)
+
+-- a move of a pointer is refused for its range alone
+moved_range : (fault : WalkFault) (g : Region) (o : Option Span) → fault ≢ PointerRange → Err fault ≡ in_region g o → ⊥
+moved_range fault g None range e = range cc
+moved_range fault g (Some span) range e = cc
+
+-- two pointers are not added, and none is taken from anything
+sum_both : (layout : Layout) (a b : Kind) (v u : Value) (fault : WalkFault) → fault ≢ PointerRange → ValueFits false a v → ValueFits false b u → IsRegSum layout a b (Err fault)
+    → failed (operation_result layout W64 Add (Some v) (Some u)) ≡ Some fault
+sum_both layout kind.Unset b v u fault range x y h = absurd x
+sum_both layout a kind.Unset v u fault range x y h = absurd y
+sum_both layout (kind.Number a) (kind.Number b) v u fault range x y h = let e = h.1 in absurd cc
+sum_both layout (kind.Number a) (kind.Record b) v u fault range x y h = absurd (moved_range fault region.Record _ range h.result)
+sum_both layout (kind.Number a) (kind.Stack b) v u fault range x y h = absurd (moved_range fault region.Stack _ range h.result)
+sum_both layout (kind.Record a) (kind.Number b) v u fault range x y h = absurd (moved_range fault region.Record _ range h.result)
+sum_both layout (kind.Stack a) (kind.Number b) v u fault range x y h = absurd (moved_range fault region.Stack _ range h.result)
+sum_both layout a b (Number n) u fault range x y h = absurd x
+sum_both layout a b (Address p) (Number n) fault range x y h = absurd y
+sum_both layout a b (Address p) (Address q) fault range x y h = let same : PointerMisuse ≡ fault = cc in ap Some same
+
+taken_pointer : (layout : Layout) (v : Value) (q : Pointer) → defined_result layout W64 Sub v (Address q) ≡ None
+taken_pointer layout (Number n) q = refl
+taken_pointer layout (Address p) q = refl
+
+difference_both : (layout : Layout) (a b : Kind) (v u : Value) (fault : WalkFault) → fault ≢ PointerRange → ValueFits false a v → ValueFits false b u → IsDifference layout a b (Err fault)
+    → failed (operation_result layout W64 Sub (Some v) (Some u)) ≡ Some fault
+difference_both layout kind.Unset b v u fault range x y h = absurd x
+difference_both layout a kind.Unset v u fault range x y h = absurd y
+difference_both layout (kind.Number a) (kind.Number b) v u fault range x y h = let e = h.1 in absurd cc
+difference_both layout (kind.Record a) (kind.Number b) v u fault range x y h = absurd (moved_range fault region.Record _ range h.result)
+difference_both layout (kind.Stack a) (kind.Number b) v u fault range x y h = absurd (moved_range fault region.Stack _ range h.result)
+difference_both layout a b v (Number m) fault range x y h = absurd y
+difference_both layout a b v (Address q) fault range x y h = let same : PointerMisuse ≡ fault = cc in rw taken_pointer (ap Some same)
+
+both_set : (layout : Layout) (w : Width) (op : BinOp) (a b : Kind) (v u : Value) (fault : WalkFault) → op ≢ Mov → fault ≢ PointerRange → ValueFits false a v → ValueFits false b u → IsKindResult layout w op a b (Err fault)
+    → failed (operation_result layout w op (Some v) (Some u)) ≡ Some fault
+both_set layout w Mov a b v u fault other range x y h = absurd (other refl)
+both_set layout W64 Add a b v u fault other range x y h = sum_both layout a b v u fault range x y h
+both_set layout W64 Sub a b v u fault other range x y h = difference_both layout a b v u fault range x y h
+both_set layout W32 op a b v u fault other range x y h = computed_both layout W32 op a b v u fault other x y h
+both_set layout W64 op a b v u fault other range x y h = computed_both layout W64 op a b v u fault other x y h
+
+-- a move to a register doesn't look at it
+move_set : (layout : Layout) (w : Width) (a b : Kind) (u : Value) (fault : WalkFault) → ValueFits false b u → IsKindResult layout w Mov a b (Err fault) → failed (operation_result layout w Mov (Some (Number 0)) (Some u)) ≡ Some fault
+move_set layout w a kind.Unset u fault y h = absurd y
+move_set layout W64 a b u fault y h = absurd cc
+move_set layout W32 a (kind.Number b) u fault y h = let e = h.2.1 in absurd cc
+move_set layout W32 a b (Number n) fault y h = absurd y
+move_set layout W32 a b (Address q) fault y h = let e = h.2 in let same : PointerMisuse ≡ fault = cc in ap Some same
+
+left_is : (op : BinOp) (t : State) (r : RegNo) → op ≢ Mov → left_operand op t r ≡ value_of t.registers r
+left_is Mov t r other = absurd (other refl)
+left_is op t r other = refl
+
+mov_or_not : (op : BinOp) → (op ≡ Mov) ⊎ (op ≢ Mov)
+mov_or_not Mov = inl refl
+mov_or_not op = inr (λ e. cc)
+
+unset_right : (layout : Layout) (w : Width) (op : BinOp) (o : Option Value) → failed (operation_result layout w op o None) ≡ Some UnsetRegister
+unset_right layout w op None = refl
+unset_right layout w op (Some v) = refl
+
+module _ (layout : Layout) (old : Known) (s : State) (f : StateFits false layout old s) (w : Width) (op : BinOp) (dst : RegNo) where
+  abbrev operate_at : Operand → State → Tested Value
+  operate_at operand t = given_by layout (Operate w op dst operand) t
+
+  operand_unset : (operand : Operand) (right : Kind) → IsOperand old operand right → right ≡ kind.Unset → Sees layout old (operate_at operand) UnsetRegister
+  operand_unset (Reg src) right is e = record { state = changed s src None s.stack; fits = unset_there layout old s f src (sym is ∙ e); fails = rw (there layout old s f src None) (unset_right layout w op (left_operand op (changed s src None s.stack) dst)) }
+  operand_unset (Imm imm) right is e = absurd (subst (λ (k : Kind). IsOperand old (Imm imm) k) e is)
+
+  operate_seen : (operand : Operand) (fault : WalkFault) → fault ≢ PointerRange → Gives layout old (Operate w op dst operand) (Err fault) → Sees layout old (operate_at operand) fault
+  operate_seen operand fault range h = by (unset_or_not h.0) where
+    value : h.0 ≢ kind.Unset → (u : Value) × (operand_value s operand ≡ Some u) × ValueFits false h.0 u
+    value set = set_holds false h.0 (operand_value s operand) set (operand_fits false layout old s operand h.0 f h.1)
+
+    other_left : h.0 ≢ kind.Unset → op ≢ Mov → (reg_of old dst ≡ kind.Unset) ⊎ (reg_of old dst ≢ kind.Unset) → Sees layout old (operate_at operand) fault
+    other_left set other (inl e) =
+        let same = left_named layout w op h.0 fault other (rw e at h.2) in
+        record { state = changed s dst None s.stack; fits = unset_there layout old s f dst e; fails = rw (left_is op (changed s dst None s.stack) dst other, there layout old s f dst None) (ap Some same) }
+    other_left set other (inr left) =
+        let v = set_holds false (reg_of old dst) (value_of s.registers dst) left (reg_fits false layout old s dst f) in
+        let u = value set in
+        record { state = s; fits = f; fails = rw (left_is op s dst other, v.1, u.1) (both_set layout w op (reg_of old dst) h.0 v.0 u.0 fault other range v.2 u.2 h.2) }
+
+    set_right : h.0 ≢ kind.Unset → (op ≡ Mov) ⊎ (op ≢ Mov) → Sees layout old (operate_at operand) fault
+    set_right set (inl e) =
+        let u = value set in
+        record { state = s; fits = f; fails = rw (e, u.1) (move_set layout w (reg_of old dst) h.0 u.0 fault u.2 (rw e at h.2)) }
+    set_right set (inr other) = other_left set other (unset_or_not (reg_of old dst))
+
+    by : (h.0 ≡ kind.Unset) ⊎ (h.0 ≢ kind.Unset) → Sees layout old (operate_at operand) fault
+    by (inl e) = let same = right_named layout w op (reg_of old dst) fault (rw e at h.2) in rw (← same) (operand_unset operand h.0 h.1 e)
+    by (inr set) = set_right set (mov_or_not op)
+
+-- ---- each row
+
+flow_refused : {A : Type 0} (x : Result A WalkFault) (flow : Flow) (fault : WalkFault) → Err fault ≡ flow_where x flow → x ≡ Err fault
+flow_refused (Ok a) flow fault e = absurd cc
+flow_refused (Err wrong) flow fault e = let same : wrong ≡ fault = cc in ap Err same
+
+module _ (layout : Layout) (old new : Known) (fault : WalkFault) (s : State) (f : StateFits false layout old s) where
+  received : (action : Action) (dst : RegNo) → ((t : State) → action_outcome layout action t ≡ and_then (given_by layout action t) (put t dst)) → Sees layout old (given_by layout action) fault → Sees layout old (action_outcome layout action) fault
+  received action dst puts x = sees_then layout old (given_by layout action) (action_outcome layout action) (λ t. put t dst) fault puts x
+
+  action_seen : (action : Action) → fault ≢ PointerRange → LeavesRow layout action old new (Err fault) → Sees layout old (action_outcome layout action) fault
+  action_seen (Operate w op dst operand) range h = received (Operate w op dst operand) dst (λ t. refl) (operate_seen layout old s f w op dst operand fault range h.0)
+  action_seen (Convert w op dst src) range h =
+      received (Convert w op dst src) dst (converts_put layout w op dst src)
+      (sees_then layout old (λ t. number_held (value_of t.registers src) PointerMisuse) (given_by layout (Convert w op dst src)) (λ t n. Passes (Number (unary_result op w n))) fault (λ t. refl)
+      (number_seen layout old s f src PointerMisuse fault (image_refused layout old s f op w (reg_of old src) fault h.0)))
+  action_seen (LoadWord dst n) range h = absurd h.0
+  action_seen (LoadFrom size extension dst src offset) range h = received (LoadFrom size extension dst src offset) dst (loads_put layout size extension dst src offset) (extended_seen layout old s f size extension dst src offset fault h.0)
+  action_seen (StoreAt size dst offset operand) range h = stores_seen layout old s f size dst offset operand fault new h
+  action_seen (Go offset) range h = let e = h.0 in absurd cc
+  action_seen (Branch w cond dst operand offset) range h =
+      sees_then layout old (λ t. comparison (value_of t.registers dst) (operand_value t operand)) (action_outcome layout (Branch w cond dst operand offset)) (λ t both. if word_holds w cond both.0 both.1 then Passes (Jumps offset t) else Passes (Falls t)) fault (λ t. refl)
+      (compare_seen layout old s f dst operand h.0 h.1 fault (flow_refused _ _ fault h.2.0))
+  action_seen End range h = sees_then layout old (λ t. number_held (value_of t.registers R0) ExitsWithPointer) (action_outcome layout End) (λ t r0. Passes (Exits r0)) fault (λ t. refl) (number_seen layout old s f R0 ExitsWithPointer fault (flow_refused _ _ fault h.0))
+
+pub row_seen : (layout : Layout) (i : Insn) (old new : Known) (fault : WalkFault) → LeavesRow layout (action_of i) old new (Err fault) → CanFail layout i old fault
+row_seen layout i old new fault h = λ range s f. let x = action_seen layout old new fault s f (action_of i) range h in record { state = x.state; fits = x.fits; fails = x.fails }

@@ -1,77 +1,314 @@
--- What an instruction leaves shows the shape that it leaves, where no test of the shape fails: by the table of what instructions leave.
-use Rattle.std.proofs.Common.{◌≡◌, ◌≢◌, ◌⊎◌, ℕ, ◌+◌, ◌<◌, ◌≤◌, ℤ, Bool, true, false, List, [], ◌∷◌, Option, Some, None, Result, Ok, Err, IfOk, IfErr, get_or, set, length, map, take, drop, refl, sym, ap, ◌∙◌, subst, arith, inl, inr}
-use Rattle.std.specs.Prelude.{if◌then◌else◌, not, IsSome}
-use Rattle.std.specs.List.{list_any}
-use Rattle.std.specs.Int.{w64, cast_unsigned}
-use Rattle.std.specs.Option.{option_map}
-use Rattle.std.proofs.lemmas.List.{drop-map, length-set, take-map}
-use Rattle.insn.specs.declared.layout.Layout.{Layout}
-use Rattle.insn.specs.declared.register.RegNo.{RegNo}
-use Rattle.insn.specs.declared.register.RegNo.TheVariants.{R0, R10}
-use Rattle.insn.specs.declared.instruction.Insn.{Insn}
-use Rattle.insn.specs.declared.instruction.Operand.{Operand}
-use Rattle.insn.specs.declared.instruction.Operand.TheVariants.{Reg, Imm}
-use Rattle.insn.specs.declared.action.Action.{Action}
-use Rattle.insn.specs.declared.action.Action.TheVariants.{Operate, Convert, LoadWord, LoadFrom, StoreAt, Go, End}
-use Rattle.insn.specs.declared.action.Action.TheVariants as action
-use Rattle.insn.specs.declared.operation.BinOp.{BinOp}
-use Rattle.insn.specs.declared.operation.BinOp.TheVariants.{Mov}
-use Rattle.insn.specs.declared.operation.Cond.{Cond}
-use Rattle.insn.specs.declared.operation.ExtendBits.{ExtendBits}
-use Rattle.insn.specs.declared.operation.Size.{Size}
-use Rattle.insn.specs.declared.operation.UnOp.TheVariants.{Extend}
-use Rattle.insn.specs.declared.operation.Width.{Width}
-use Rattle.insn.specs.declared.operation.Width.TheVariants.{W64}
-use Rattle.insn.specs.declared.state.Cell.{Cell}
-use Rattle.insn.specs.declared.state.Cell.TheVariants.{Byte}
-use Rattle.insn.specs.declared.state.Pointer.{Pointer}
-use Rattle.insn.specs.declared.state.Region.{Region}
-use Rattle.insn.specs.declared.state.Region.TheVariants as region
-use Rattle.insn.specs.declared.state.Value.{Value}
-use Rattle.insn.specs.declared.state.Value.TheVariants.{Number, Address}
-use Rattle.insn.specs.declared.verify_fault.WalkFault.{WalkFault}
-use Rattle.insn.specs.declared.verify_fault.WalkFault.TheVariants.{ExitsWithPointer, PointerMisuse, ReadOnlyField, UnsetByte}
-use Rattle.insn.specs.Instruction.{reg_number, size_bytes}
-use Rattle.insn.specs.Meaning.{action_of}
-use Rattle.insn.specs.FirstLook.{register_written_by}
-use Rattle.insn.specs.Values.{State, at, region_size, value_of}
-use Rattle.insn.specs.Word.{word_holds}
-use Rattle.insn.specs.Memory.{cells_at, is_unset, is_writable, may_hold, number_spelled, value_in, with_value}
-use Rattle.insn.specs.Effects.{Effect, Exits, Falls, Jumps, operand_value, word_of}
-use Rattle.insn.specs.Arithmetic.{left_operand}
-use Rattle.insn.specs.Outcomes.{Tested, Passes, Fails, WritesR10, access_place, action_outcome, and_then, comparison, extended, fault_at, held, number_held, operation_result, or_fault, outcome, passed, passes_if, put, stored_state, value_at}
-use Rattle.insn.specs.OutcomeLaws.{stuck_is_named}
-use Rattle.scalar.specs.declared.scalar.Scalar.{Scalar}
-use Rattle.reg_kind.specs.declared.place.Place.{Place}
-use Rattle.reg_kind.specs.declared.reg.Reg.{Reg as Kind}
+-- What an instruction leaves shows the shape that it leaves, where no test of the shape fails: the stack, and the table.
+use Rattle.std.proofs.Common.{IfErr, ◌≡◌, ◌≢◌, ◌⊎◌, ℕ, zero, suc, ◌+◌, ◌-◌, ◌*◌, ◌/◌, ◌%◌, ◌<◌, ◌≤◌, Bool, true, false, List, [], ◌∷◌, Option, Some, None, Result, Ok, Err, get_or, length, map, take, drop, refl, sym, ap, ◌∙◌, subst, arith, inl, inr, ℤ, IfOk, set}
+use Rattle.verifier.proofs.Names.{not, IsSome, option_map, length-take, length-drop, length-map, drop-map, length-set, take-map, cases_lt, eq-eqb, eqb-true, list_any, cast_unsigned, Size, One, Two}
+use Rattle.verifier.proofs.Names.{Four, Eight, Pointer, Value, Number, Address, Cell, WalkFault, size_bytes, reg_number, State, only_if, at, region_size, value_of, low_bytes, may_hold}
+use Rattle.verifier.proofs.Names.{number_spelled, parts_of, value_in, with_value, written, cells_at, is_unset, is_writable, length-low_bytes, Kind, Span, SpanFits, ValueFits, IsRight, RegFits, Mark}
+use Rattle.verifier.proofs.Names.{Block, Stack, block_at, block_mark, mark_at, value_mark, AreStored, HoldsWhole, IsNumberRead, IsLoadFault, IsStored, IsStoredWhole, IsTouched, IsWholePlace, touched}
+use Rattle.verifier.proofs.Names.{IsGiven, IsWholePointer, StackShows, RegShows, StateShows, Layout, RegNo, R0, R10, Insn, Operand, Reg, Imm, Action, Operate, Convert, LoadWord, LoadFrom, StoreAt}
+use Rattle.verifier.proofs.Names.{Go, End, BinOp, Mov, Cond, ExtendBits, Extend, Width, W64, Byte, Region, ExitsWithPointer, PointerMisuse, ReadOnlyField, UnsetByte, action_of, register_written_by}
+use Rattle.verifier.proofs.Names.{word_holds, Effect, Exits, Falls, Jumps, operand_value, word_of, left_operand, Tested, Passes, Fails, access_place, action_outcome, and_then, comparison, extended}
+use Rattle.verifier.proofs.Names.{fault_at, held, number_held, operation_result, or_fault, outcome, passed, passes_if, put, stored_state, value_at, stuck_is_named, Scalar, Place, IsAt, accessed}
+use Rattle.verifier.proofs.Names.{is_place_writable, place_behind, number_in_reg, kinds_access, writable_right, AreOperands, LeftFits, image_of, images_right, kinds_right, read, MovesNone}
+use Rattle.verifier.proofs.Names.{NoMovedPointer, both_ways, branch_in, effects, shape_of, Known, Flow, Next, Jump, FlowTo, IsOperand, WritesNoR10, comparison_of, reg_of, Extends, GivenAt, GivenIn}
+use Rattle.verifier.proofs.Names.{IsSet, LeavesKnown, LeavesRow, Put, Receives, StoredAt, StoredIn, StoredWhere, flow_where, kept_in_record, put_at, test_of}
+use Rattle.std.specs.Prelude.{◌==◌, if◌then◌else◌}
+use Rattle.insn.specs.declared.state.Region.TheVariants.{Stack as InStack}
+use Rattle.insn.specs.PointerLaws.{parts_only}
+use Rattle.stack_state.proofs.Written.{length-written, part_item, written_at, written_else}
+use Rattle.std.specs.Int.{w64}
+use Rattle.insn.specs.Outcomes.{WritesR10}
+use Rattle.verifier.specs.declared.known.Flow.TheVariants.{Branch, Exit}
+use Rattle.verifier.proofs.Steps.{with_stack, compared_right, number_right, of_ok, Gives, converts_put, given_by, loaded_by, loads_put, record_written, amount, known_fits, span_below, size_some}
+use Rattle.verifier.proofs.Rows.{IsOwn, row_flow, flow_to}
+use Rattle.verifier.proofs.States.{one_set, blank_shown, reg_below, set_to, value_reg, IsByteCell}
+use Rattle.insn.specs.declared.state.Cell.TheVariants as cell
+use Rattle.insn.specs.declared.verify_fault.WalkFault.TheVariants as fault
 use Rattle.reg_kind.specs.declared.reg.Reg.TheVariants as kind
-use Rattle.reg_kind.specs.Fits.{IsRight, RegFits, SpanFits, ValueFits}
-use Rattle.reg_kind.specs.Accesses.{IsAt, accessed, is_place_writable, place_behind}
-use Rattle.reg_kind.specs.Operations.{number_in_reg}
-use Rattle.reg_kind.proofs.Places.{kinds_access, writable_right}
-use Rattle.reg_kind.proofs.Results.{AreOperands, LeftFits, image_of, images_right, kinds_right}
+use Rattle.stack_state.specs.declared.mark.Mark.TheVariants as mark
 use Rattle.stack_state.specs.declared.block.Block.TheVariants as block
-use Rattle.stack_state.specs.declared.stack.Stack.{Stack}
-use Rattle.stack_state.specs.Accesses.{HoldsWhole, IsGiven, IsLoadFault, IsNumberRead}
-use Rattle.stack_state.proofs.Spelled.{read}
-use Rattle.verifier.specs.Shapes.{MovesNone, NoMovedPointer, both_ways, branch_in, effects, shape_of}
-use Rattle.verifier.specs.declared.known.Known.{Known}
-use Rattle.verifier.specs.declared.known.Flow.{Flow}
-use Rattle.verifier.specs.declared.known.Flow.TheVariants.{Next, Jump, Branch, Exit}
-use Rattle.verifier.specs.Follows.{FlowTo, IsOperand, WritesNoR10, comparison_of, reg_of}
-use Rattle.verifier.specs.Kinds.{Extends, GivenAt, GivenIn, IsSet, LeavesKnown, LeavesRow, Put, Receives, StoredAt, StoredIn, StoredWhere, flow_where, kept_in_record, put_at, test_of}
-use Rattle.verifier.specs.Shows.{RegShows, StateShows}
-use Rattle.verifier.proofs.Accesses.{with_stack}
-use Rattle.verifier.proofs.Branches.{compared_right, number_right}
-use Rattle.verifier.proofs.Outcomes.{of_ok}
-use Rattle.verifier.proofs.Parts.{Gives, converts_put, given_by, loaded_by, loads_put}
-use Rattle.verifier.proofs.Records.{record_written}
-use Rattle.verifier.proofs.Rows.{IsOwn, row_flow}
-use Rattle.verifier.proofs.Showing.{one_set_shown}
-use Rattle.verifier.proofs.ShownShapes.{blank_shown}
-use Rattle.verifier.proofs.ShownStack.{IsShown, shows_load, shows_store}
-use Rattle.verifier.proofs.States.{reg_below, set_to, value_reg}
-use Rattle.verifier.proofs.Steps.{amount, known_fits, span_below}
+use Rattle.insn.specs.declared.action.Action.TheVariants as action
+use Rattle.insn.specs.declared.state.Region.TheVariants as region
+
+-- ---- places
+
+-- a place lies among n from another on, or elsewhere
+data Where (at n k : ℕ) : Type 0 where
+  There : (j : ℕ) → k ≡ at + j → j < n → Where at n k
+  Else : (k < at) ⊎ (at + n ≤ k) → Where at n k
+
+where_is : (at n k : ℕ) → Where at n k
+where_is at n k =
+    elim (cases_lt k at) [
+      | inl lt ↦ Else (inl lt)
+      | inr le ↦ elim (cases_lt k (at + n)) [ inl lt ↦ There (k - at) (omega arith) (omega arith) | inr ge ↦ Else (inr ge) ]
+    ]
+
+-- ---- loads
+
+spelled_bytes : (cells : List Cell) (n : ℕ) → number_spelled cells ≡ Some n → (j : ℕ) → j < length cells → IsByteCell (get_or cells j cell.Unset)
+spelled_bytes [] n e j lt = absurd (omega arith)
+spelled_bytes (cell.Byte b ∷ cells) n e zero lt = record { n = b; is = refl }
+spelled_bytes (cell.Byte b ∷ cells) n e (suc j) lt = by (λ m q. spelled_bytes cells m q j (omega arith)) (number_spelled cells) refl e where
+  by : ((m : ℕ) → number_spelled cells ≡ Some m → IsByteCell (get_or cells j cell.Unset)) → (o : Option ℕ) → number_spelled cells ≡ o → option_map (λ m. b + 256 * m) o ≡ Some n → IsByteCell (get_or cells j cell.Unset)
+  by later None q h = absurd cc
+  by later (Some m) q h = later m q
+spelled_bytes (c ∷ cells) n e j lt = absurd cc
+
+held_number : (cells : List Cell) (n : ℕ) → value_in cells ≡ Some (Number n) → (m : ℕ) × (number_spelled cells ≡ Some m)
+held_number [] n e = absurd cc
+held_number (cell.Unset ∷ cells) n e = absurd cc
+held_number (cell.Part p k ∷ cells) n e = absurd (by _ e) where
+  by : (b : Bool) → only_if b (Some (Address p)) ≡ Some (Number n) → ⊥
+  by true h = cc
+  by false h = cc
+held_number (cell.Byte b ∷ cells) n e = by (number_spelled (cell.Byte b ∷ cells)) e where
+  by : (o : Option ℕ) → option_map Number o ≡ Some (Number n) → (m : ℕ) × (o ≡ Some m)
+  by None h = absurd cc
+  by (Some m) h = (m, refl)
+
+-- what a load gives of a shape is what is known of it
+pub record IsShown (r : Result Kind WalkFault) (v : Value) : Type 0 where
+  pub value : Kind
+  pub is : r ≡ Ok value
+  pub fits : ValueFits true value v
+
+number_marked : (value : Kind) (n : ℕ) → value_mark value ≡ mark.Byte → ValueFits true value (Number n)
+number_marked (kind.Number a) n e = tt
+number_marked value n e = absurd cc
+
+eight_bytes : (size : Size) → size_bytes size ≡ 8 → size ≡ Eight
+eight_bytes Eight e = refl
+eight_bytes size e = absurd (omega arith)
+
+parts_item : (p : Pointer) (j : ℕ) → j < 8 → get_or (parts_of p) j cell.Unset ≡ cell.Part p j
+parts_item p (suc (suc (suc (suc (suc (suc (suc (suc j)))))))) lt = absurd (omega arith)
+parts_item p j lt = refl
+
+module _ (stack : Stack) (cells : List Cell) (span : Span) (size : Size) (at : ℕ) (shows : StackShows stack cells) (place : SpanFits true span at) (inside : at + size_bytes size ≤ 512) where
+  bytes_known : (n : ℕ) → value_in (take (size_bytes size) (drop at cells)) ≡ Some (Number n) → (k : ℕ) → IsTouched span size k → mark_at stack k ≡ mark.Byte
+  bytes_known n e k t =
+      let least : span.least ≡ at = place.0 in
+      let greatest : span.greatest ≡ at = place.1 in
+      let l = t.least in
+      let g = t.greatest in
+      let h = held_number (take (size_bytes size) (drop at cells)) n e in
+      let long : length (take (size_bytes size) (drop at cells)) ≡ size_bytes size = let w = shows.long in omega (arith, length-take (size_bytes size) (drop at cells), length-drop at cells) in
+      let byte = spelled_bytes (take (size_bytes size) (drop at cells)) h.0 h.1 (k - at) (omega arith) in
+      let same : at + (k - at) ≡ k = omega arith in
+      shows.bytes k byte.n (omega arith) (ap (λ (i : ℕ). get_or cells i cell.Unset) (sym same) ∙ sym (part_item cells at (size_bytes size) (k - at) cell.Unset (omega arith)) ∙ byte.is)
+
+  number_shown : (n : ℕ) (r : Result Kind WalkFault) → value_in (take (size_bytes size) (drop at cells)) ≡ Some (Number n) → IfErr r (λ f. IsLoadFault stack span size f) → IfOk r (λ value. HoldsWhole stack span size value ⊎ IsNumberRead stack span size value) → IsShown r (Number n)
+  number_shown n (Ok value) e err (inr num) = record { value = value; is = refl; fits = rw num.is tt }
+  number_shown n (Ok value) e err (inl whole) =
+      let first : mark_at stack at ≡ mark.Byte = bytes_known n e at (record { least = let p : span.least ≡ at = place.0 in omega arith; greatest = let p : span.greatest ≡ at = place.1 in omega (arith, size_some size) }) in
+      let least : span.least ≡ at = place.0 in
+      let same : block_at stack (at / 8) ≡ block.Whole value = rw (← least) whole.held in
+      let is : value_mark value ≡ mark.Byte = sym (ap (λ (b : Block). block_mark b (at % 8)) same) ∙ first in
+      record { value = value; is = refl; fits = number_marked value n is }
+  number_shown n (Err fault.UnsetByte) e err kinds = absurd (let m : mark_at stack err.0 ≡ mark.Byte = bytes_known n e err.0 err.1 in let u : mark_at stack err.0 ≡ mark.Unset = err.2 in cc)
+  number_shown n (Err fault.PointerMisuse) e err kinds = absurd (let m : mark_at stack err.1.0 ≡ mark.Byte = bytes_known n e err.1.0 err.1.1 in let u : mark_at stack err.1.0 ≡ mark.Part = err.1.2 in cc)
+  number_shown n (Err other) e err kinds = absurd err
+
+  pointer_shown : (p : Pointer) (r : Result Kind WalkFault) → take (size_bytes size) (drop at cells) ≡ parts_of p → ((value : Kind) → HoldsWhole stack span size value → r ≡ Ok value) → IsShown r (Address p)
+  pointer_shown p r e whole =
+      let least : span.least ≡ at = place.0 in
+      let greatest : span.greatest ≡ at = place.1 in
+      let long : length (take (size_bytes size) (drop at cells)) ≡ size_bytes size = let w = shows.long in omega (arith, length-take (size_bytes size) (drop at cells), length-drop at cells) in
+      let eight : size_bytes size ≡ 8 = sym long ∙ ap (length {A = Cell}) e in
+      let item : (j : ℕ) → j < 8 → get_or cells (at + j) cell.Unset ≡ get_or (parts_of p) j cell.Unset = λ j lt. sym (part_item cells at (size_bytes size) j cell.Unset (omega arith)) ∙ ap (λ (cs : List Cell). get_or cs j cell.Unset) e in
+      let zeroth : at + 0 ≡ at = omega arith in
+      let aligned : 0 ≡ at % 8 = shows.parts at 0 p (omega arith) (ap (λ (i : ℕ). get_or cells i cell.Unset) (sym zeroth) ∙ item 0 (omega arith)) in
+      let same : 8 * (at / 8) ≡ at = omega arith in
+      let w : IsWholePointer stack (at / 8) p = shows.whole (at / 8) p (omega arith) (λ j lt. ap (λ (i : ℕ). get_or cells (i + j) cell.Unset) same ∙ item j lt ∙ parts_item p j lt) in
+      let there : HoldsWhole stack span size w.value = record {
+        place = record { certain = omega arith; aligned = omega arith; eight = eight_bytes size eight };
+        held = ap (λ (i : ℕ). block_at stack (i / 8)) least ∙ w.held;
+      } in
+      record { value = w.value; is = whole w.value there; fits = w.fits }
+
+-- a load of a shape whose tests pass is answered with what it gives
+pub shows_load : (stack : Stack) (cells : List Cell) (span : Span) (size : Size) (at : ℕ) (v : Value) (r : Result Kind WalkFault) → StackShows stack cells → SpanFits true span at → at + size_bytes size ≤ 512
+    → value_in (take (size_bytes size) (drop at cells)) ≡ Some v → IfErr r (λ f. IsLoadFault stack span size f) → ((value : Kind) → HoldsWhole stack span size value → r ≡ Ok value)
+    → IfOk r (λ value. HoldsWhole stack span size value ⊎ IsNumberRead stack span size value) → IsShown r v
+shows_load stack cells span size at (Number n) r shows place inside e err whole kinds = number_shown stack cells span size at shows place inside n r e err kinds
+shows_load stack cells span size at (Address p) r shows place inside e err whole kinds = pointer_shown stack cells span size at shows place inside p r (parts_only (take (size_bytes size) (drop at cells)) p e) whole
+
+-- ---- stores
+
+single : (span : Span) (at : ℕ) (m : Mark) → SpanFits true span at → touched span m ≡ mark.Byte
+single span at m h =
+    let one : (span.least == span.greatest) ≡ true = eq-eqb span.least span.greatest (h.0 ∙ sym h.1) in rw one refl
+
+byte_item : (bs : List ℕ) (j : ℕ) → j < length bs → IsByteCell (get_or (map cell.Byte bs) j cell.Unset)
+byte_item [] j lt = absurd (omega arith)
+byte_item (b ∷ bs) zero lt = record { n = b; is = refl }
+byte_item (b ∷ bs) (suc j) lt = byte_item bs j (omega arith)
+
+-- a number's bytes, or a pointer's parts, written over the cells of a shape
+module _ (old new : Stack) (cells ys : List Cell) (span : Span) (size : Size) (value : Kind) (at : ℕ) (shows : StackShows old cells) (place : SpanFits true span at) (many : length ys ≡ size_bytes size) (inside : at + size_bytes size ≤ 512) where
+  room : at + length ys ≤ length cells
+  room = let l = shows.long in omega arith
+
+  new_there : (j : ℕ) → j < size_bytes size → get_or (written cells at ys) (at + j) cell.Unset ≡ get_or ys j cell.Unset
+  new_there j lt = written_at cells ys at j cell.Unset (omega arith) (let r = room in omega arith)
+
+  new_else : (k : ℕ) → (k < at) ⊎ (at + size_bytes size ≤ k) → get_or (written cells at ys) k cell.Unset ≡ get_or cells k cell.Unset
+  new_else k out = written_else cells ys at k cell.Unset (rw many out) room
+
+  is_touched : (j : ℕ) → j < size_bytes size → IsTouched span size (at + j)
+  is_touched j lt = let l : span.least ≡ at = place.0 in let g : span.greatest ≡ at = place.1 in record { least = omega arith; greatest = omega arith }
+
+  not_touched : (k : ℕ) → (k < at) ⊎ (at + size_bytes size ≤ k) → ¬ IsTouched span size k
+  not_touched k (inl lt) t = let l : span.least ≡ at = place.0 in let h = t.least in omega arith
+  not_touched k (inr ge) t = let g : span.greatest ≡ at = place.1 in let h = t.greatest in omega arith
+
+  module _ (byte : (j : ℕ) → j < size_bytes size → IsByteCell (get_or ys j cell.Unset)) where
+    -- where a part stands after bytes were stored, it stood before
+    part_else : (k j : ℕ) (p : Pointer) → get_or (written cells at ys) k cell.Unset ≡ cell.Part p j → (k < at) ⊎ (at + size_bytes size ≤ k)
+    part_else k j p e = by (where_is at (size_bytes size) k) where
+      by : Where at (size_bytes size) k → (k < at) ⊎ (at + size_bytes size ≤ k)
+      by (Else out) = out
+      by (There i q lt) =
+          let b = byte i lt in
+          let here : get_or (written cells at ys) k cell.Unset ≡ cell.Byte b.n = ap (λ (x : ℕ). get_or (written cells at ys) x cell.Unset) q ∙ new_there i lt ∙ b.is in absurd (let both : cell.Byte b.n ≡ cell.Part p j = sym here ∙ e in cc)
+
+    part_was : (k j : ℕ) (p : Pointer) → get_or (written cells at ys) k cell.Unset ≡ cell.Part p j → get_or cells k cell.Unset ≡ cell.Part p j
+    part_was k j p e = sym (new_else k (part_else k j p e)) ∙ e
+
+    bytes_shown : AreStored span size value old new → StackShows new (written cells at ys)
+    bytes_shown stored = record {
+      long = length-written cells ys at room ∙ shows.long;
+      bytes = λ k n lt e. known k n lt e (where_is at (size_bytes size) k);
+      parts = λ k j p lt e. shows.parts k j p lt (part_was k j p e);
+      whole = λ b p lt all.
+          let w = shows.whole b p lt (λ j less. part_was (8 * b + j) j p (all j less)) in
+          record { value = w.value; held = stored.blocks b (λ j less. not_touched (8 * b + j) (part_else (8 * b + j) j p (all j less))) ∙ w.held; fits = w.fits };
+    } where
+      known : (k n : ℕ) → k < 512 → get_or (written cells at ys) k cell.Unset ≡ cell.Byte n → Where at (size_bytes size) k → mark_at new k ≡ mark.Byte
+      known k n lt e (There i q less) = stored.there k (rw q (is_touched i less)) ∙ single span at (mark_at old k) place
+      known k n lt e (Else out) = stored.others k lt (not_touched k out) ∙ shows.bytes k n lt (sym (new_else k out) ∙ e)
+
+    number_shown_whole : IsWholePlace span size → IsStoredWhole span.least value old new → value_mark value ≡ mark.Byte → StackShows new (written cells at ys)
+    number_shown_whole whole stored is = record {
+      long = length-written cells ys at room ∙ shows.long;
+      bytes = λ k n lt e. known k n lt e (where_is at (size_bytes size) k);
+      parts = λ k j p lt e. shows.parts k j p lt (part_was k j p e);
+      whole = λ b p lt all.
+          let w = shows.whole b p lt (λ j less. part_was (8 * b + j) j p (all j less)) in
+          record { value = w.value; held = stored.others b (λ q. by_first b q (part_else (8 * b + 0) 0 p (all 0 (omega arith)))) ∙ w.held; fits = w.fits };
+    } where
+      least : span.least ≡ at
+      least = place.0
+
+      eight : size_bytes size ≡ 8
+      eight = ap size_bytes whole.eight
+
+      by_first : (b : ℕ) → b ≡ span.least / 8 → (8 * b + 0 < at) ⊎ (at + size_bytes size ≤ 8 * b + 0) → ⊥
+      by_first b q (inl lt) = let l = least in let a = whole.aligned in omega arith
+      by_first b q (inr ge) = let l = least in let a = whole.aligned in let e = eight in omega arith
+
+      elsewhere : (k : ℕ) → (k < at) ⊎ (at + size_bytes size ≤ k) → k / 8 ≢ span.least / 8
+      elsewhere k (inl lt) q = let l = least in let a = whole.aligned in omega arith
+      elsewhere k (inr ge) q = let l = least in let a = whole.aligned in let e = eight in omega arith
+
+      known : (k n : ℕ) → k < 512 → get_or (written cells at ys) k cell.Unset ≡ cell.Byte n → Where at (size_bytes size) k → mark_at new k ≡ mark.Byte
+      known k n lt e (There i q less) =
+          let same : k / 8 ≡ span.least / 8 = let l = least in let a = whole.aligned in let g = eight in omega arith in
+          ap (λ (b : Block). block_mark b (k % 8)) (ap (block_at new) same ∙ stored.there) ∙ is
+      known k n lt e (Else out) = ap (λ (b : Block). block_mark b (k % 8)) (stored.others (k / 8) (elsewhere k out)) ∙ shows.bytes k n lt (sym (new_else k out) ∙ e)
+
+-- a pointer is stored whole
+module _ (old new : Stack) (cells : List Cell) (span : Span) (value : Kind) (at : ℕ) (q : Pointer) (shows : StackShows old cells) (place : SpanFits true span at) (inside : at + 8 ≤ 512) (aligned : at % 8 ≡ 0) (fits : ValueFits true value (Address q)) (stored : IsStoredWhole span.least value old new) where
+  abbrev after : List Cell
+  after = written cells at (parts_of q)
+
+  at_block : (k : ℕ) → Where at 8 k → (k / 8 ≡ at / 8) × (get_or after k cell.Unset ≡ cell.Part q (k % 8)) ⊎ (k / 8 ≢ at / 8) × (get_or after k cell.Unset ≡ get_or cells k cell.Unset)
+  at_block k (There j e lt) =
+      let l = shows.long in
+      let r : k % 8 ≡ j = omega arith in
+      inl (omega arith, ap (λ (i : ℕ). get_or after i cell.Unset) e ∙ written_at cells (parts_of q) at j cell.Unset lt (omega arith) ∙ parts_item q j lt ∙ ap (cell.Part q) (sym r))
+  at_block k (Else (inl lt)) = let l = shows.long in inr (λ e. omega arith, written_else cells (parts_of q) at k cell.Unset (inl lt) (omega arith))
+  at_block k (Else (inr ge)) = let l = shows.long in inr (λ e. omega arith, written_else cells (parts_of q) at k cell.Unset (inr ge) (omega arith))
+
+  there : block_at new (at / 8) ≡ block.Whole value
+  there = ap (λ (i : ℕ). block_at new (i / 8)) (sym place.0) ∙ stored.there
+
+  others : (b : ℕ) → b ≢ at / 8 → block_at new b ≡ block_at old b
+  others b ne = stored.others b (λ e. ne (e ∙ ap (λ (i : ℕ). i / 8) place.0))
+
+  pointer_shown_whole : StackShows new after
+  pointer_shown_whole = record {
+    long = let l = shows.long in length-written cells (parts_of q) at (omega arith) ∙ shows.long;
+    bytes = λ k n lt e.
+        elim (at_block k (where_is at 8 k)) [
+          | inl h ↦ absurd (let both : cell.Part q (k % 8) ≡ cell.Byte n = sym h.1 ∙ e in cc)
+          | inr h ↦ ap (λ (b : Block). block_mark b (k % 8)) (others (k / 8) h.0) ∙ shows.bytes k n lt (sym h.1 ∙ e)
+        ];
+    parts = λ k j p lt e.
+        elim (at_block k (where_is at 8 k)) [
+          | inl h ↦ let both : cell.Part q (k % 8) ≡ cell.Part p j = sym h.1 ∙ e in let is : k % 8 ≡ j = cc in sym is
+          | inr h ↦ shows.parts k j p lt (sym h.1 ∙ e)
+        ];
+    whole = λ b p lt all.
+        elim (at_block (8 * b + 0) (where_is at 8 (8 * b + 0))) [
+          | inl h ↦
+              let here : b ≡ at / 8 = let e = h.0 in omega arith in
+              let both : cell.Part q ((8 * b + 0) % 8) ≡ cell.Part p 0 = sym h.1 ∙ all 0 (omega arith) in
+              let same : q ≡ p = cc in
+              record { value = value; held = ap (block_at new) here ∙ there; fits = subst (λ (x : Pointer). ValueFits true value (Address x)) same fits }
+          | inr h ↦
+              let apart : b ≢ at / 8 = λ e. h.0 (omega arith) in
+              let w = shows.whole b p lt (λ j less. elim (at_block (8 * b + j) (where_is at 8 (8 * b + j))) [ inl g ↦ absurd (let e = g.0 in h.0 (omega arith)) | inr g ↦ sym g.1 ∙ all j less ]) in
+              record { value = w.value; held = others b apart ∙ w.held; fits = w.fits }
+        ];
+  }
+
+-- ---- a store as a whole
+
+value_part : (value : Kind) (q : Pointer) → ValueFits true value (Address q) → value_mark value ≡ mark.Part
+value_part (kind.Record a) q h = refl
+value_part (kind.Stack a) q h = refl
+value_part value q h = absurd h
+
+value_byte : (value : Kind) (n : ℕ) → ValueFits true value (Number n) → value_mark value ≡ mark.Byte
+value_byte (kind.Number a) n h = refl
+value_byte value n h = absurd h
+
+holds_pointer : (at : ℕ) (size : Size) (q : Pointer) → may_hold InStack at size (Address q) ≡ true → (size ≡ Eight) × (at % 8 ≡ 0)
+holds_pointer at Eight q h = (refl, eqb-true (at % 8) 0 h)
+holds_pointer at size q h = absurd cc
+
+-- a store at a shape whose tests pass is not refused, and what it leaves shows the shape that it leaves
+pub shows_store : (old new : Stack) (s : State) (span : Span) (size : Size) (value : Kind) (at : ℕ) (v : Value) (r : Result Unit WalkFault) → StackShows old s.stack → SpanFits true span at → at + size_bytes size ≤ 512
+    → ValueFits true value v → may_hold InStack at size v ≡ true → IsStored span size value r old new → (r ≡ Ok tt) × StackShows new (with_value s InStack at size v).stack
+shows_store old new s span size value at (Number n) (Ok done) shows place inside fits may stored =
+    (refl, by stored) where
+      many : length (low_bytes (size_bytes size) n) ≡ size_bytes size
+      many = length-low_bytes (size_bytes size) n
+
+      all : length (map cell.Byte (low_bytes (size_bytes size) n)) ≡ size_bytes size
+      all = length-map (low_bytes (size_bytes size) n) cell.Byte ∙ many
+
+      byte : (j : ℕ) → j < size_bytes size → IsByteCell (get_or (map cell.Byte (low_bytes (size_bytes size) n)) j cell.Unset)
+      byte j lt = byte_item (low_bytes (size_bytes size) n) j (let m = many in omega arith)
+
+      by : (IsWholePlace span size × IsStoredWhole span.least value old new) ⊎ (¬ IsWholePlace span size × value_mark value ≡ mark.Byte × AreStored span size value old new) → StackShows new (written s.stack at (map cell.Byte (low_bytes (size_bytes size) n)))
+      by (inl w) = number_shown_whole old new s.stack (map cell.Byte (low_bytes (size_bytes size) n)) span size value at shows place all inside byte w.0 w.1 (value_byte value n fits)
+      by (inr w) = bytes_shown old new s.stack (map cell.Byte (low_bytes (size_bytes size) n)) span size value at shows place all inside byte w.2
+shows_store old new s span size value at (Number n) (Err fault) shows place inside fits may stored = absurd (let b = value_byte value n fits in let p = stored.2 in cc)
+shows_store old new s span size value at (Address q) (Ok done) shows place inside fits may stored =
+    let h = holds_pointer at size q may in
+    let eight : size_bytes size ≡ 8 = ap size_bytes h.0 in
+    elim stored [
+      | inl w ↦ (refl, pointer_shown_whole old new s.stack span value at q shows place (omega arith) h.1 fits w.1)
+      | inr w ↦ absurd (let b = w.1 in let p = value_part value q fits in cc)
+    ]
+shows_store old new s span size value at (Address q) (Err fault) shows place inside fits may stored =
+    let h = holds_pointer at size q may in
+    let l : span.least ≡ at = place.0 in
+    absurd (stored.1 (record { certain = l ∙ sym place.1; aligned = ap (λ (i : ℕ). i % 8) l ∙ h.1; eight = h.0 }))
+
+-- ==== by the table of what instructions leave
 
 -- ---- what is said of ways
 
@@ -93,13 +330,6 @@ same_shown layout a b s registers stack h = record {
   stack = rw stack h.stack;
 }
 
-flow_shown : (layout : Layout) (a b : Known) (flow : Flow) (es : List Effect) → b.registers ≡ a.registers → b.stack ≡ a.stack → FlowShows layout a flow es → FlowShows layout b flow es
-flow_shown layout a b Next (Falls s ∷ []) registers stack h = same_shown layout a b (shape_of s) registers stack h
-flow_shown layout a b (Jump d) (Jumps e s ∷ []) registers stack h = (h.0, same_shown layout a b (shape_of s) registers stack h.1)
-flow_shown layout a b (Branch d test) (Falls s ∷ Jumps e t ∷ []) registers stack h = (h.0, same_shown layout a b (shape_of s) registers stack h.1, same_shown layout a b (shape_of t) registers stack h.2)
-flow_shown layout a b Exit (Exits r0 ∷ []) registers stack h = tt
-flow_shown layout a b flow es registers stack h = absurd h
-
 -- ---- what passes is not refused
 
 -- where a part of an instruction passes, what is said is that it does, with what fits
@@ -112,15 +342,13 @@ ShownRight P WritesR10 r = Unit {0}
 shown_true : {A B : Type 0} (P : A → B → Type 0) (r : Result A WalkFault) (t : Tested B) → IsRight P true r t → ShownRight P t r
 shown_true P (Ok a) (Passes b) h = h
 shown_true P (Err fault) (Passes b) h = absurd cc
-shown_true P r (Fails fault) h = tt
-shown_true P r WritesR10 h = tt
+shown_true P r t h = tt
 
 module _ {A B C D : Type 0} (P : A → B → Type 0) (Q : C → D → Type 0) where
   shown_then : (t : Tested B) (k : B → Tested D) (r : Result A WalkFault) (q : Result C WalkFault) → ShownRight P t r → ((a : A) (b : B) → r ≡ Ok a → P a b → ShownRight Q (k b) q) → ShownRight Q (and_then t k) q
   shown_then (Passes b) k (Ok a) q h next = next a b refl h
   shown_then (Passes b) k (Err fault) q h next = absurd h
-  shown_then (Fails fault) k r q h next = tt
-  shown_then WritesR10 k r q h next = tt
+  shown_then t k r q h next = tt
 
 -- ---- registers that are set
 
@@ -130,22 +358,17 @@ exact r (Some u) v e h = h
 
 is_set : (r : Kind) (v : Value) → RegFits true r (Some v) → r ≢ kind.Unset
 is_set kind.Unset v h q = let e : Some v ≡ None = h in cc
-is_set (kind.Number a) v h q = cc
-is_set (kind.Record a) v h q = cc
-is_set (kind.Stack a) v h q = cc
+is_set r v h q = cc
 
 fits_value : (r : Kind) (v : Value) → RegFits true r (Some v) → ValueFits true r v
 fits_value kind.Unset v h = absurd (let e : Some v ≡ None = h in cc)
-fits_value (kind.Number a) v h = h
-fits_value (kind.Record a) v h = h
-fits_value (kind.Stack a) v h = h
+fits_value r v h = h
 
 -- where a number is set, numbers are known
 number_kind : (r : Kind) (n : ℕ) → RegFits true r (Some (Number n)) → (a : Scalar) × (r ≡ kind.Number a)
 number_kind kind.Unset n h = absurd (let e : Some (Number n) ≡ None = h in cc)
 number_kind (kind.Number a) n h = (a, refl)
-number_kind (kind.Record a) n h = absurd h
-number_kind (kind.Stack a) n h = absurd h
+number_kind r n h = absurd h
 
 value_number : (r : Kind) (n : ℕ) → ValueFits true r (Number n) → (a : Scalar) × (r ≡ kind.Number a)
 value_number r n h = number_kind r n (value_reg true r (Number n) h)
@@ -191,12 +414,11 @@ read_shown cells r shown = by (list_any is_unset cells) where
   by false = value (value_in cells) refl
 
 extend_shown : (extension : Option ExtendBits) (given answer : Result Kind WalkFault) (t : Tested Value) → Extends extension given answer → ShownRight (ValueFits true) t given → ShownRight (ValueFits true) (and_then t (extended extension)) answer
-extend_shown extension given answer (Fails fault) e h = tt
-extend_shown extension given answer WritesR10 e h = tt
 extend_shown None given answer (Passes v) e h = rw e h
 extend_shown (Some bits) (Err fault) answer (Passes v) e h = absurd h
 extend_shown (Some bits) (Ok number) answer (Passes v) e h =
     shown_true (ValueFits true) answer (extended (Some bits) v) ((images_right (Extend bits) W64 number answer e).right true (Some v) (value_reg true number v h))
+extend_shown extension given answer t e h = tt
 
 -- what a store leaves at a place is shown, and it is not refused
 record IsPut (layout : Layout) (new : Known) (done : Result Unit WalkFault) (t : State) : Type 0 where
@@ -226,7 +448,7 @@ module _ (layout : Layout) (old : Known) (s : State) (f : StateShows layout old 
     long = length-set s.registers (reg_number dst) (Some v) ∙ f.long;
     record_fits = f.record_fits;
     registers = λ k lt. subst (λ (xs : List Kind). RegShows (get_or xs k kind.Unset) (get_or (set s.registers (reg_number dst) (Some v)) k None)) (sym is.registers)
-        (one_set_shown old.registers s.registers (reg_number dst) value v is.eleven f.long (reg_below dst) (value_reg true value v h) f.registers k lt);
+        (one_set RegShows old.registers s.registers (reg_number dst) value is.eleven (reg_below dst) f.registers (Some v) f.long (value_reg true value v h) k lt);
     stack = rw is.stack f.stack;
   }
 
@@ -295,9 +517,7 @@ module _ (layout : Layout) (old : Known) (s : State) (f : StateShows layout old 
   received_shown new action dst (Ok Next) other plain puts h =
       rw puts (shown_then (ValueFits true) (FlowShown new) (given_by layout action s) (put s dst) (Ok h.0) (Ok Next) (given_shown action (Ok h.0) h.1 plain)
       (λ a v same fits. let is : h.0 ≡ a = cc in let fit : ValueFits true h.0 v = rw is fits in rw (set_to s dst v other) (set_shown new dst h.0 v h.2 fit)))
-  received_shown new action dst (Ok (Jump d)) other plain puts h = absurd h
-  received_shown new action dst (Ok (Branch d test)) other plain puts h = absurd h
-  received_shown new action dst (Ok Exit) other plain puts h = absurd h
+  received_shown new action dst (Ok flow) other plain puts h = absurd h
   received_shown new action dst (Err fault) other plain puts h =
       rw puts (shown_then (ValueFits true) (FlowShown new) (given_by layout action s) (put s dst) (Err fault) (Err fault) (given_shown action (Err fault) h.0 plain) (λ a v same fits. absurd cc))
 
@@ -349,8 +569,7 @@ module _ (layout : Layout) (old : Known) (s : State) (f : StateShows layout old 
   falls_shown : (new : Known) (done : Result Unit WalkFault) (t : Tested State) → ShownRight {A = Unit {0}} {B = State} (λ d u. StateShows layout new u) t done → ShownRight (FlowShown new) (and_then t (λ u. Passes (Falls u))) (flow_where done Next)
   falls_shown new (Ok d) (Passes u) h = h
   falls_shown new (Err fault) (Passes u) h = absurd h
-  falls_shown new done (Fails fault) h = tt
-  falls_shown new done WritesR10 h = tt
+  falls_shown new done t h = tt
 
   store_shown : (new : Known) (size : Size) (dst : RegNo) (offset : ℤ) (operand : Operand) (r : Result Flow WalkFault) → LeavesRow layout (StoreAt size dst offset operand) old new r → ShownRight (FlowShown new) (action_outcome layout (StoreAt size dst offset operand) s) r
   store_shown new size dst offset operand r h = subst (λ (q : Result Flow WalkFault). ShownRight (FlowShown new) (action_outcome layout (StoreAt size dst offset operand) s) q) (sym h.2.2) (by (value_of s.registers dst) (operand_value s operand) refl refl) where
@@ -436,5 +655,5 @@ module _ (layout : Layout) (old : Known) (s : State) (f : StateShows layout old 
 
   -- a link that is made changes nothing of what is shown
   pub outcome_shown : (new : Known) (r : Result Flow WalkFault) (i : Insn) → LeavesKnown layout i old new r → WritesNoR10 i → NoMovedPointer i s → fault_at layout i s ≡ None → IsShownBy layout new r (effects layout i s)
-  outcome_shown new (Ok flow) i h other plain p = flow_shown layout h.0 new flow (effects layout i s) h.2.registers h.2.stack (action_shown h.0 (Ok flow) i h.1 other plain p)
+  outcome_shown new (Ok flow) i h other plain p = flow_to (StateShows layout) (StateShows layout) h.0 new (λ t g. same_shown layout h.0 new t h.2.registers h.2.stack g) flow (effects layout i s) (action_shown h.0 (Ok flow) i h.1 other plain p)
   outcome_shown new (Err fault) i h other plain p = action_shown new (Err fault) i h other plain p

@@ -191,6 +191,7 @@ fn room_for(places: &mut [Option<Box<Known>>; MOST], known: &Known) -> Option<us
 }
 
 /// Adds a case to those in some places, and says whether it stands beside them.
+#[inline(never)]
 fn place(places: &mut [Option<Box<Known>>; MOST], known: Box<Known>) -> bool
     ensures { IsAdded (cases_in places.old) known.value (cases_in places.new) }
 {
@@ -204,6 +205,7 @@ fn place(places: &mut [Option<Box<Known>>; MOST], known: Box<Known>) -> bool
 }
 
 /// The same, of a copy.
+#[inline(never)]
 fn place_copy(
     places: &mut [Option<Box<Known>>; MOST],
     alloc: Global,
@@ -304,6 +306,7 @@ impl Cases {
     }
 
     /// Joins a case with the first of them, and says whether there is one.
+    #[inline(never)]
     pub(crate) fn join_first(&mut self, known: &Known) -> bool
         ensures joined { result ≡ true → IsAdded self.old known.now self.new }
         ensures kept { result ≡ false → self.new ≡ self.old }
@@ -325,6 +328,7 @@ impl Cases {
 
     /// Adds a case: beside them, or joined with one of them, or beside them with two of them joined. Says whether it stands
     /// beside others.
+    #[inline]
     pub(crate) fn push(&mut self, alloc: Global, known: Box<Known>) -> Result<bool, AllocError>
         ensures { IsOk result → IsAdded self.old known.value self.new }
     {

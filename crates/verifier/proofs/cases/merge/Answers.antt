@@ -1,7 +1,6 @@
 use Rattle.std.proofs.Common.{◌≡◌, ◌∙◌, ◌<◌, Some, None, get_or, set, length, rules, sym, arith}
-use Rattle.std.proofs.lemmas.List.{get_or-set_same}
-use Rattle.verifier.specs.WaitsParts.{IsRoomFor}
-use Rattle.verifier.proofs.Places.{is_left, merged, none_left, put_back}
+use Rattle.verifier.proofs.Names.{get_or-set_same, IsRoomFor}
+use Rattle.verifier.proofs.Waits.{is_left, merged, none_left, put_back}
 use Rattle.verifier.proofs.States.{same_default}
 use Rattle.verifier.proofs.cases.merge.Goals as goal
 

@@ -1,5 +1,5 @@
 use Rattle.std.proofs.Common.{refl}
-use Rattle.verifier.proofs.Places.{comes_to_place}
+use Rattle.verifier.proofs.Waits.{comes_to_place}
 use Rattle.verifier.proofs.cases.place.Goals as goal
 
 pub returns-in-Some : goal.returns-in-Some

@@ -1,4 +1,4 @@
-use Rattle.verifier.proofs.Places.{comes_to_place}
+use Rattle.verifier.proofs.Waits.{comes_to_place}
 use Rattle.verifier.proofs.cases.place_copy.Goals as goal
 
 pub returns-in_ok-new-in-Some : goal.returns-in_ok-new-in-Some

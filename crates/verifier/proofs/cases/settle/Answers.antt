@@ -1,5 +1,5 @@
 use Rattle.std.proofs.Common.{◌≡◌, ◌∙◌, ◌<◌, None, length, rules, sym, arith}
-use Rattle.verifier.proofs.Places.{joined_in}
+use Rattle.verifier.proofs.Waits.{joined_in}
 use Rattle.verifier.proofs.States.{same_default}
 use Rattle.verifier.proofs.cases.settle.Goals as goal
 

@@ -1,4 +1,4 @@
-use Rattle.verifier.proofs.TypedUniform.{uniform_is_typed}
+use Rattle.verifier.proofs.Ways.{uniform_is_typed}
 use Rattle.verifier.proofs.laws.uniform_programs_have_typings.Goals as goal
 
 pub returns : goal.returns

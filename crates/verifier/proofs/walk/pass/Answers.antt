@@ -1,11 +1,8 @@
 use Rattle.std.proofs.Common.{w32, ◌≡◌, ◌∙◌, ◌+◌, ◌<◌, Some, arith, length, refl}
+use Rattle.verifier.proofs.Names.{to_z-of_z, distance_of, slots_of, action_of}
 use mir.Val.{of_z, to_z}
-use Rattle.std.proofs.lemmas.Int.{to_z-of_z}
-use Rattle.insn.specs.FirstLook.{distance_of}
-use Rattle.insn.specs.Instruction.{slots_of}
-use Rattle.insn.specs.Meaning.{action_of}
-use Rattle.verifier.proofs.Outcomes.{refused_keeps}
-use Rattle.verifier.proofs.Visits.{fits_far, last_passed, passed_test}
+use Rattle.verifier.proofs.Steps.{refused_keeps}
+use Rattle.verifier.proofs.Arriving.{fits_far, last_passed, passed_test}
 use Rattle.verifier.proofs.Walks.{stuck_refused}
 use Rattle.verifier.proofs.walk.pass.Goals as goal
 

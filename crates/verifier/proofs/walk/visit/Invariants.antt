@@ -1,6 +1,6 @@
 use Rattle.std.proofs.Common.{length, map}
 use Rattle.std.specs.Box.{box_value}
-use Rattle.verifier.proofs.Visits.{Visiting}
+use Rattle.verifier.proofs.Arriving.{Visiting}
 use Rattle.verifier.proofs.walk.visit.Given as goal
 
 abbrev pub decreases-loop-known : goal.decreases-loop-known

@@ -1,5 +1,5 @@
 use Rattle.std.proofs.Common.{◌≡◌, ◌∷◌, [], rules}
-use Rattle.verifier.proofs.Places.{joined_alone}
+use Rattle.verifier.proofs.Waits.{joined_alone}
 use Rattle.verifier.proofs.cases.Cases.join_first.Goals as goal
 
 pub returns-in-One-clause-joined : goal.returns-in-One-clause-joined

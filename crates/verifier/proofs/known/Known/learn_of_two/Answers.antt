@@ -1,5 +1,5 @@
 use Rattle.std.proofs.Common.{◌∙◌}
-use Rattle.verifier.proofs.Branches.{learns, never_answered}
+use Rattle.verifier.proofs.Steps.{learns, never_answered}
 use Rattle.verifier.proofs.known.Known.learn_of_two.Goals as goal
 
 pub returns-in-Some-clause-kept : goal.returns-in-Some-clause-kept

@@ -1,7 +1,7 @@
 use Rattle.std.proofs.Common.{FitsSigned, rules, w16}
 use Rattle.std.proofs.lemmas.Int.{to_z-of_z}
 use Rattle.insn.specs.declared.action.Action.TheVariants.{Branch}
-use Rattle.verifier.proofs.Outcomes.{row_of}
+use Rattle.verifier.proofs.Steps.{row_of}
 use Rattle.verifier.proofs.known.Known.pass.Goals as goal
 
 pub returns-in-Convert : goal.returns-in-Convert

@@ -1,8 +1,7 @@
 use Rattle.std.proofs.Common.{arith, refl}
 use Rattle.reg_kind.specs.declared.reg.Reg.TheVariants as kind
 use Rattle.verifier.specs.declared.known.Known.{Known}
-use Rattle.verifier.proofs.Narrowing.{fits_none, narrowed_by}
-use Rattle.verifier.proofs.States.{same_default}
+use Rattle.verifier.proofs.States.{fits_none, narrowed_by, same_default}
 use Rattle.verifier.proofs.known.Known.refine_by.Goals as goal
 
 pub returns-in-Some-clause-narrowed : goal.returns-in-Some-clause-narrowed

@@ -1,6 +1,6 @@
 use Rattle.std.proofs.Common.{false, true, ◌∙◌, sym}
 use Rattle.verifier.specs.Learnt.{Unspread}
-use Rattle.verifier.proofs.Narrowing.{narrowed_then, not_narrowed, spread_none, spread_one}
+use Rattle.verifier.proofs.States.{narrowed_then, not_narrowed, spread_none, spread_one}
 use Rattle.verifier.proofs.known.Known.refine_linked.Goals.{in-Some+else-not-refine_by, in_default}
 use Rattle.verifier.proofs.known.Known.refine_linked.Goals as goal
 

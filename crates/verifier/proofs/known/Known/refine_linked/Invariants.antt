@@ -1,5 +1,4 @@
-use Rattle.verifier.specs.Learnt.{IsSpreadBelow}
-use Rattle.verifier.specs.LinksParts.{IsNarrowed}
+use Rattle.verifier.proofs.Names.{IsSpreadBelow, IsNarrowed}
 use Rattle.verifier.proofs.known.Known.refine_linked.Given as goal
 
 abbrev pub invariant-loop-i : goal.invariant-loop-i

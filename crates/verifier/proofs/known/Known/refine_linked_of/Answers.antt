@@ -1,4 +1,4 @@
-use Rattle.verifier.proofs.Narrowing.{narrowed_then}
+use Rattle.verifier.proofs.States.{narrowed_then}
 use Rattle.verifier.proofs.known.Known.refine_linked_of.Goals as goal
 
 pub returns-then-refine_linked-clause-narrowed : goal.returns-then-refine_linked-clause-narrowed

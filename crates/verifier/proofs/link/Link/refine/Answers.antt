@@ -1,5 +1,5 @@
 use Rattle.std.proofs.Common.{refl}
-use Rattle.verifier.proofs.Narrowing.{none_linked, numbers_linked}
+use Rattle.verifier.proofs.States.{none_linked, numbers_linked}
 use Rattle.verifier.proofs.link.Link.refine.Goals as goal
 
 pub returns-in_err-a-clause-right : goal.returns-in_err-a-clause-right
