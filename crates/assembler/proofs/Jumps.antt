@@ -1,27 +1,12 @@
 -- Jumps to a distance, and to a label.
 use Rattle.std.proofs.Common.{◌≡◌, ⊎_elim, inl, inr, true, false, ℤ, [], ◌∷◌, Option, Some, None, refl, sym, ap, ◌∙◌, subst, FitsSigned, w16}
-use Rattle.std.specs.Str.{bytes_eq}
-use Rattle.std.specs.List.{list_any}
-use Rattle.std.proofs.lemmas.Bool.{both_ways}
+use Rattle.assembler.proofs.Names.{bytes_eq, list_any, both_ways, W32, W64, RegNo, Reg, Imm, Insn, Fits, Word, Target, register_word, distance_word, is_name, mnemonic_of, operands_of, SaysOperand}
+use Rattle.assembler.proofs.Names.{SaysOperands, distance_is_no_name, distance_word-injective, JumpIf, If, Draft, Whole, ToLabel, Anywhere, OneOf, IsSmall, At, Nowhere, jump_over, HasTarget}
+use Rattle.assembler.proofs.Names.{IsSource, DraftOf}
 use Rattle.insn.specs.declared.operation.Width.{Width}
-use Rattle.insn.specs.declared.operation.Width.TheVariants.{W32, W64}
 use Rattle.insn.specs.declared.operation.Cond.{Cond}
-use Rattle.insn.specs.declared.register.RegNo.{RegNo}
 use Rattle.insn.specs.declared.instruction.Operand.{Operand as Source}
-use Rattle.insn.specs.declared.instruction.Operand.TheVariants.{Reg, Imm}
-use Rattle.insn.specs.declared.instruction.Insn.{Insn}
 use Rattle.insn.specs.declared.instruction.Insn.TheVariants as insn
-use Rattle.insn.specs.Instruction.{Fits}
-use Rattle.assembly.specs.Text.{Word, Target, register_word, distance_word, is_name, mnemonic_of, operands_of, SaysOperand, SaysOperands}
-use Rattle.assembly.specs.TextWordLaws.{distance_is_no_name, distance_word-injective}
-use Rattle.assembly.specs.declared.mnemonic.Mnemonic.TheVariants.{JumpIf}
-use Rattle.assembler.specs.declared.draft.Jump.TheVariants.{If}
-use Rattle.assembler.specs.declared.draft.Draft.{Draft}
-use Rattle.assembler.specs.declared.draft.Draft.TheVariants.{Whole, ToLabel}
-use Rattle.assembler.specs.Faults.{Anywhere, OneOf}
-use Rattle.assembler.specs.Operands.{IsSmall}
-use Rattle.assembler.specs.Drafts.{At, Nowhere, jump_over}
-use Rattle.assembler.specs.DraftsParts.{HasTarget, IsSource, DraftOf}
 use Rattle.assembler.proofs.Numbers.{small_from_16, small_short}
 
 -- a distance that 16 bits lack

@@ -6,3 +6,4 @@ pub mod Refuted
 pub mod Resolving
 pub mod Statements
 pub mod Texts
+pub mod Names

@@ -1,8 +1,6 @@
 -- Comments, words and labels.
 use Rattle.std.proofs.Common.{◌≡◌, ◌≢◌, ℕ, cond, ◌+◌, ◌==◌, true, false, Bool, List, [], ◌∷◌, ◌++◌, length, take, Some, None, not, refl, ap, arith}
-use Rattle.std.specs.Option.{option_map}
-use Rattle.std.proofs.lemmas.Bool.{ne_eqb}
-use Rattle.assembly.specs.Text.{before_comment, labelled, is_empty, Word}
+use Rattle.assembler.proofs.Names.{option_map, ne_eqb, before_comment, labelled, is_empty, Word}
 
 end_step : (x : ℕ) (xs : List ℕ) (b : Bool) → before_comment xs ≡ take (length (before_comment xs)) xs → cond b [] (x ∷ before_comment xs) ≡ take (length (cond b [] (x ∷ before_comment xs))) (x ∷ xs)
 end_step x xs true h = refl

@@ -1,23 +1,12 @@
 -- Numbers and their digits.
 use Rattle.std.proofs.Common.{◌≡◌, ◌≢◌, ◌⊎◌, inl, ⊎_elim, FitsSigned, w16, w32, w64, neg_ℤ, ◌-ℤ◌, Result, Ok, Err, subst, ℕ, suc, Option, Some, None, IfNone, IfSome, zero, ◌+◌, ◌-◌, ◌*◌, ◌<◌, ◌≤◌, ◌^◌, true, false, nat_le, ℤ, pos, negsuc, List, [], ◌∷◌, length, get_or, drop, codes, refl, sym, ap, ◌∙◌, arith, rules}
-use Rattle.std.proofs.Math.Seq.{drop-cons}
-use Rattle.std.specs.Str.{bytes_eq}
-use Rattle.std.specs.Fmt.{decimal, signed_decimal}
-use Rattle.std.specs.List.{list_all}
-use Rattle.std.proofs.lemmas.Bool.Decides.{nat_tests}
+use Rattle.assembler.proofs.Names.{drop-cons, bytes_eq, decimal, signed_decimal, list_all, nat_tests, or_cases, and_parts, both_ways, leb-true, cases_lt, ints, to_z-of_z, bytes_eq-Decides, OkIff}
+use Rattle.assembler.proofs.Names.{result_ok, Word, is_digit, is_positive, is_natural, distance_word, register_word, IsShortNumber, decimal-ne, other_first, reg_number_small}
+use Rattle.assembler.proofs.Names.{signed_decimal-injective, reg_number, RegNo, IsSmall, number_from, decimal_value}
 use Rattle.std.proofs.lemmas.Str.Parse.{IsNumeralModel, numerals_by_fold}
 use Rattle.std.proofs.lemmas.Fmt.{decimal-digits_value, digits_value-decimal, digits_decimal, decimal_nonempty, first_decimal, decimal_digit, decimal_injective}
-use Rattle.std.proofs.lemmas.Bool.{or_cases, and_parts, both_ways, leb-true, cases_lt}
-use Rattle.std.proofs.lemmas.Int.{ints, to_z-of_z}
-use Rattle.std.proofs.lemmas.Slice.Eq.{bytes_eq-Decides}
-use Rattle.std.specs.Result.{OkIff, result_ok}
 use mir.Syntax.{Width}
 use mir.Val.{to_z, of_z}
-use Rattle.assembly.specs.Text.{Word, is_digit, is_positive, is_natural, distance_word, register_word}
-use Rattle.assembly.specs.TextWordLaws.{IsShortNumber, decimal-ne, other_first, reg_number_small, signed_decimal-injective}
-use Rattle.insn.specs.Instruction.{reg_number}
-use Rattle.insn.specs.declared.register.RegNo.{RegNo}
-use Rattle.assembler.specs.Operands.{IsSmall, number_from, decimal_value}
 
 -- more digits make no number smaller
 pub at_least : (n : ℕ) (cs : List ℕ) → n ≤ number_from n cs
@@ -35,12 +24,12 @@ if_none (Some x) p = tt
 pub own : IsNumeralModel (λ ds. list_all is_digit ds ≡ true) decimal_value
 own = numerals_by_fold _ (search rules) number_from (search rules)
 
-positive_from : (ds : Word) → 0 < length ds → 48 < get_or ds 0 0 → list_all is_digit ds ≡ true → is_positive ds ≡ true
-positive_from [] l f h = absurd (omega arith)
-positive_from (c ∷ cs) l f h = grind (arith, nat_tests)
+positive_from : (ds : Word) → 48 < get_or ds 0 0 → list_all is_digit ds ≡ true → is_positive ds ≡ true
+positive_from [] f h = absurd (omega arith)
+positive_from (c ∷ cs) f h = grind (arith, nat_tests)
 
 pub decimal_positive : (n : ℕ) → 0 < n → n < 2 ^ 64 → is_positive (decimal n) ≡ true
-decimal_positive n p l = positive_from (decimal n) (decimal_nonempty n l) (first_decimal n p l) (digits_decimal own n l)
+decimal_positive n p l = positive_from (decimal n) (first_decimal n p l) (digits_decimal own n l)
 
 pub decimal_natural : (n : ℕ) → n < 2 ^ 64 → is_natural (decimal n) ≡ true
 decimal_natural zero l = rw (decimal_digit 0 (omega arith)) refl
@@ -55,10 +44,7 @@ positive_word (c ∷ cs) h l = decimal-digits_value own (c ∷ cs) (grind (arith
 
 -- a word is what `decimal` writes of its value
 pub natural_word : (ds : Word) → is_natural ds ≡ true → decimal_value ds < 2 ^ 64 → ds ≡ decimal (decimal_value ds)
-natural_word ds h l = ⊎_elim (λ e. sym (positive_word ds e l)) zero_word (or_cases (is_positive ds) (bytes_eq ds (codes "0")) h)
-  where
-    zero_word : bytes_eq ds (codes "0") ≡ true → ds ≡ decimal (decimal_value ds)
-    zero_word e = let k : ds ≡ codes "0" = (bytes_eq-Decides ds (codes "0")).0 e in subst (λ (x : Word). x ≡ decimal (decimal_value x)) (sym k) (sym (decimal_digit 0 (omega arith)))
+natural_word ds h l = ⊎_elim (λ e. sym (positive_word ds e l)) (λ e. let k = (bytes_eq-Decides ds (codes "0")).0 e in rw k (sym (decimal_digit 0 (omega arith)))) (or_cases (is_positive ds) (bytes_eq ds (codes "0")) h)
 
 pub not_decimal : (ds : Word) → is_natural ds ≡ false → (n : ℕ) → n < 2 ^ 64 → ds ≡ decimal n → ⊥
 not_decimal ds h n l e = both_ways (is_natural ds) h (ap is_natural e ∙ decimal_natural n l)
@@ -90,13 +76,13 @@ negative_word ds zero h e l = let k = positive_value ds h in absurd (omega arith
 negative_word ds (suc n) h e l = (minus_word ds h n e (omega arith), omega arith)
 
 pub no_negative : (ds : Word) → (is_positive ds ≡ false) ⊎ (2 ^ 63 ≤ decimal_value ds) → (z : ℤ) → IsSmall z → 45 ∷ ds ≢ signed_decimal z
-no_negative ds which z l e = let b = behind_minus ds z l e in not_behind (b.0) b.2 b.3 which
-  where
-    not_behind : (n : ℕ) → ds ≡ decimal (suc n) → n + 1 < 2 ^ 63 → (is_positive ds ≡ false) ⊎ (2 ^ 63 ≤ decimal_value ds) → ⊥
-    not_behind n e l which = ⊎_elim
-        (λ h. both_ways (is_positive ds) h (ap is_positive e ∙ decimal_positive (suc n) (omega arith) (omega arith)))
-        (λ h. let k : decimal_value ds ≡ suc n = ap decimal_value e ∙ value_decimal (suc n) (omega arith) in omega arith)
-        which
+no_negative ds which z l e =
+    let b = behind_minus ds z l e in
+    let small = b.3 in
+    ⊎_elim
+    (λ h. both_ways (is_positive ds) h (ap is_positive b.2 ∙ decimal_positive (suc b.0) (omega arith) (omega arith)))
+    (λ h. let k : decimal_value ds ≡ suc b.0 = ap decimal_value b.2 ∙ value_decimal (suc b.0) (omega arith) in omega arith)
+    which
 
 pub not_plain : (ds : Word) (m : ℕ) → m < 2 ^ 64 → 2 ^ 63 ≤ m → ds ≡ decimal m → (n : ℕ) → n < 2 ^ 63 → ds ≡ decimal n → ⊥
 not_plain ds m l big e n h k = let same : m ≡ n = decimal_injective m n l (omega arith) (sym e ∙ k) in omega arith
@@ -144,23 +130,21 @@ negated s n e l =
 pub below : (n : ℕ) → FitsSigned w64 (pos n) → n < 2 ^ 63
 below n h = omega (arith, ints)
 
--- the number of a word is the only one
-pub other : {E : Type 0} (w : Width) → ((z : ℤ) → FitsSigned w z → IsSmall z) → (r : Result ℤ E) (word : Word) (x y : ℤ) → x ≡ y → word ≡ signed_decimal y → IsSmall y → OkIff r (FitsSigned w x) x → result_ok r ≡ None → (z : ℤ) → FitsSigned w z → word ≢ signed_decimal z
-other w small r word x y xy e s h n z f k =
-    let same : y ≡ z = small_injective y z s (small z f) (sym e ∙ k) in
-    not_converted r w x h n (subst (λ (t : ℤ). FitsSigned w t) (sym (xy ∙ same)) f)
-
 -- what holds where there is nothing
 pub none_given : {A P : Type 0} (r : Option A) → (r ≡ None → P) → IfNone r P
 none_given None f = f refl
 none_given (Some x) f = tt
 
-no_length : (c : ℕ) (w : Word) → length (c ∷ w) ≡ 0 → ⊥
-no_length c w e = omega arith
+-- the number of a word is the only one
+pub other : {E : Type 0} (w : Width) → ((z : ℤ) → FitsSigned w z → IsSmall z) → (r : Result ℤ E) (o : Option ℤ) (word : Word) (x y : ℤ) → x ≡ y → (word ≡ signed_decimal y) × IsSmall y → OkIff r (FitsSigned w x) x → o ≡ result_ok r
+    → IfNone o ((z : ℤ) → FitsSigned w z → word ≢ signed_decimal z)
+other w small r o word x y xy e h is = none_given o (λ none z f k.
+    let same : y ≡ z = small_injective y z e.1 (small z f) (sym e.0 ∙ k) in
+    not_converted r w x h (sym is ∙ none) (subst (λ (t : ℤ). FitsSigned w t) (sym (xy ∙ same)) f))
 
 pub nothing_signed : (word : Word) → length word ≡ 0 → (z : ℤ) → IsSmall z → word ≢ signed_decimal z
 nothing_signed word e (pos n) s h = let l = decimal_nonempty n (omega arith) in let j : length word ≡ length (decimal n) = ap length h in omega arith
-nothing_signed word e (negsuc n) s h = no_length 45 (decimal (suc n)) (ap length (sym h) ∙ e)
+nothing_signed word e (negsuc n) s h = let j : length word ≡ length (45 ∷ decimal (suc n)) = ap length h in absurd (omega arith)
 
 -- ---- distances and registers
 
@@ -172,10 +156,6 @@ plus_other r word digits n w l e h none (pos m) f k =
     not_converted r w32 (pos n) h none (subst (λ (x : ℕ). FitsSigned w32 (pos x)) (sym same) f)
 plus_other r word digits n w l e h none (negsuc m) f k = absurd (other_first 43 45 digits (decimal (suc m)) (inl (omega arith)) (sym w ∙ k))
 
-pub minus_distance : (word digits : Word) (z : ℤ) → word ≡ 45 ∷ digits → IsSmall z → word ≡ signed_decimal z → word ≡ distance_word z
-minus_distance word digits (pos n) w s h = absurd (plain_first n 45 digits (omega arith) (sym w ∙ h) (omega arith))
-minus_distance word digits (negsuc n) w s h = h
-
 pub no_register : (word digits : Word) (n : ℕ) → word ≡ 114 ∷ digits → n < 2 ^ 64 → digits ≡ decimal n → 10 < n → (r : RegNo) → word ≢ register_word r
 no_register word digits n w l e far r k =
     let small : reg_number r ≤ 10 = reg_number_small r in
@@ -184,4 +164,5 @@ no_register word digits n w l e far r k =
 
 pub minus_distances : (r : Option ℤ) (word digits : Word) → word ≡ 45 ∷ digits → IfSome r (λ z. (word ≡ signed_decimal z) × IsSmall z) → IfSome r (λ z. word ≡ distance_word z)
 minus_distances None word digits w h = h
-minus_distances (Some z) word digits w h = minus_distance word digits z w h.1 h.0
+minus_distances (Some (pos n)) word digits w h = let small = h.1 in absurd (plain_first n 45 digits (omega arith) (sym w ∙ h.0) (omega arith))
+minus_distances (Some (negsuc n)) word digits w h = h.0

@@ -1,19 +1,12 @@
 -- A text with a fault says no program.
-use Rattle.std.proofs.Common.{◌≡◌, ⊎_elim, ℕ, suc, ◌+◌, ◌≤◌, true, ℤ, pos, negsuc, List, [], ◌∷◌, ◌++◌, refl, sym, ap, ◌∙◌, subst, arith, ◌||◌}
-use Rattle.std.specs.Fmt.{decimal, signed_decimal}
-use Rattle.std.specs.List.{AllByRecursion}
-use Rattle.std.proofs.lemmas.Bool.{false≢true, or_left, or_right, ne_eqb}
-use Rattle.std.proofs.lemmas.List.Sums.{sum_by-append, sum_by-cons}
-use Rattle.insn.specs.declared.instruction.Insn.{Insn}
-use Rattle.insn.specs.Instruction.{slots_of}
-use Rattle.insn.specs.Program.{slot_count, SLOT_LIMIT}
-use Rattle.assembly.specs.Text.{Word, is_natural, is_number_word, is_distance, is_name, Operand, Register, Number, Target, operands_of, distance_word, Line, Blank, Label, Statement, lines_in, SaysOperand, SaysOperands, SaysInsn, labels_in, names_in, AllDiffer, Text}
-use Rattle.assembler.specs.declared.fault.AsmFault.{AsmFault}
-use Rattle.assembler.specs.declared.fault.AsmFault.TheVariants.{UnknownWord, BadOperand, OutOfRange, UnknownLabel, DoubleLabel, TooLong, Memory, NoInstruction}
-use Rattle.assembler.specs.Faults.{Anywhere, OneOf, SaysFitting, Drafts, FirstWrong, FirstLost, FirstTextFault, HasName, HasFormOf, HaveForms, HasForm, HasUnknownWord, HasBadOperand, IsOutOfRange, IsDoubleLabel, IsTooLong, LacksLabel}
+use Rattle.std.proofs.Common.{◌≡◌, ⊎_elim, ℕ, suc, ◌+◌, ◌≤◌, true, ℤ, pos, negsuc, List, [], ◌∷◌, ◌++◌, refl, sym, ap, ◌∙◌, subst, arith}
+use Rattle.assembler.proofs.Names.{decimal, signed_decimal, AllByRecursion, false≢true, or_left, or_right, ne_eqb, sum_by-append, sum_by-cons, Insn, slots_of, slot_count, SLOT_LIMIT, Word}
+use Rattle.assembler.proofs.Names.{is_natural, is_number_word, is_distance, Operand, Register, Number, Target, operands_of, distance_word, Line, Blank, Label, Statement, lines_in, SaysOperand}
+use Rattle.assembler.proofs.Names.{SaysOperands, SaysInsn, labels_in, names_in, AllDiffer, Text, AsmFault, UnknownLabel, DoubleLabel, TooLong, Memory, NoInstruction, Anywhere, OneOf, SaysFitting}
+use Rattle.assembler.proofs.Names.{Drafts, FirstWrong, FirstLost, FirstTextFault, HasName, HasFormOf, HaveForms, HasForm, HasUnknownWord, HasBadOperand, IsOutOfRange, IsDoubleLabel, IsTooLong}
+use Rattle.assembler.proofs.Names.{HasWords, same_slots, short_operands, IsShortNumber, IsShortOperand}
+use Rattle.assembler.specs.declared.fault.AsmFault.TheVariants.{UnknownWord, BadOperand, OutOfRange}
 use Rattle.assembler.proofs.Numbers.{decimal_natural, decimal_positive}
-use Rattle.assembly.specs.TextNameLaws.{same_slots, short_operands}
-use Rattle.assembly.specs.TextWordLaws.{IsShortNumber, IsShortOperand}
 use Rattle.assembler.proofs.Texts.{labels_named, says_drafts, split_drafts, names_append, not_differ}
 
 -- ---- slots by names
@@ -46,16 +39,10 @@ distance_form : (d : ℤ) → IsShortNumber d → is_distance (distance_word d) 
 distance_form (pos n) l = decimal_natural n l
 distance_form (negsuc n) l = decimal_positive (suc n) (omega arith) (omega arith)
 
-target_form : (d : ℤ) (w : Word) → IsShortNumber d → SaysOperand Anywhere (Target d) w → (is_distance w || is_name w) ≡ true
-target_form d w l h = ⊎_elim
-    (λ e. or_left (is_distance w) (is_name w) (ap is_distance e ∙ distance_form d l))
-    (λ k. or_right (is_distance w) (is_name w) k.0)
-    h
-
 operand_form : (o : Operand) (w : Word) → IsShortOperand o → SaysOperand Anywhere o w → HasForm o w
 operand_form (Register r) w h s = (r, s)
 operand_form (Number z) w h s = ap is_number_word s ∙ number_form z h
-operand_form (Target d) w h s = target_form d w h s
+operand_form (Target d) w h s = ⊎_elim (λ e. or_left _ _ (ap is_distance e ∙ distance_form d h)) (λ k. or_right (is_distance w) _ k.0) s
 
 operands_form : (os : List Operand) (ws : List Word) → AllByRecursion IsShortOperand os → SaysOperands Anywhere os ws → HaveForms os ws
 operands_form [] [] k h = tt
@@ -75,20 +62,21 @@ said_name i (w ∷ ws) h = h.0.0
 abbrev Refutes : (List Line → List Insn → Line → Type 0) → Type 0
 Refutes IsWrong = (before after : List Line) (here : Line) (first front back : List Insn) → IsWrong before first here → slot_count first ≡ slot_count front → slot_count (front ++ back) ≤ SLOT_LIMIT → AllDiffer (names_in (before ++ here ∷ after)) → Drafts Anywhere (here ∷ after) back → ⊥
 
+-- a line with such words says an instruction in front of those behind it
+said_words : (AreSuch : List Word → Type 0) (L : Word → ℤ → Type 0) (here : Line) (after : List Line) (back : List Insn) → HasWords AreSuch here → Drafts L (here ∷ after) back
+    → (words : List Word) × (i : Insn) × (rest : List Insn) × (back ≡ i ∷ rest) × AreSuch words × SaysFitting L i words
+said_words AreSuch L (Statement words) after (i ∷ rest) w h = (words, i, rest, refl, w, h.0)
+said_words AreSuch L (Statement words) after [] w h = absurd h
+said_words AreSuch L here after back w h = absurd w
+
 no_unknown_word : Refutes HasUnknownWord
-no_unknown_word before after (Statement words) first front (i ∷ back) w s l d h = w i (said_name i words h.0)
-no_unknown_word before after (Statement words) first front [] w s l d h = h
-no_unknown_word before after here first front back w s l d h = w
+no_unknown_word before after here first front back w s l d h = let x = said_words _ _ here after back w h in x.4 x.1 (said_name x.1 x.0 x.5)
 
 no_bad_operand : Refutes HasBadOperand
-no_bad_operand before after (Statement words) first front (i ∷ back) w s l d h = w.1 i (said_form i words h.0)
-no_bad_operand before after (Statement words) first front [] w s l d h = h
-no_bad_operand before after here first front back w s l d h = w
+no_bad_operand before after here first front back w s l d h = let x = said_words _ _ here after back w h in x.4.1 x.1 (said_form x.1 x.0 x.5)
 
 no_out_of_range : Refutes IsOutOfRange
-no_out_of_range before after (Statement words) first front (i ∷ back) w s l d h = w.1 i h.0
-no_out_of_range before after (Statement words) first front [] w s l d h = h
-no_out_of_range before after here first front back w s l d h = w
+no_out_of_range before after here first front back w s l d h = let x = said_words _ _ here after back w h in x.4.1 x.1 x.5
 
 no_double_label : Refutes IsDoubleLabel
 no_double_label before after (Label name) first front back w s l d h =
@@ -96,11 +84,10 @@ no_double_label before after (Label name) first front back w s l d h =
 no_double_label before after here first front back w s l d h = w
 
 no_too_long : Refutes IsTooLong
-no_too_long before after (Statement words) first front (i ∷ back) w s l d h =
-    let one = said_slots Anywhere Anywhere words w.0 i w.1.0 h.0.0 in
-    let all = sum_by-append slots_of front (i ∷ back) in omega (arith, sum_by-cons slots_of i back)
-no_too_long before after (Statement words) first front [] w s l d h = h
-no_too_long before after here first front back w s l d h = w
+no_too_long before after here first front back w s l d h =
+    let x = said_words _ _ here after back w h in
+    let one = said_slots Anywhere Anywhere x.0 x.4.0 x.1 x.4.1.0 x.5.0 in
+    omega (arith, x.4.2, one, sum_by-append slots_of front back, ap slot_count x.3, sum_by-cons slots_of x.1 x.2)
 
 all_said : (text : List ℕ) (p : List Insn) → Text text p → Drafts Anywhere (lines_in text) p
 all_said text p t = says_drafts (labels_in 0 (lines_in text) p) Anywhere (λ b w d k. tt) 0 (lines_in text) p t.fit t.said
@@ -113,11 +100,6 @@ no_first_wrong IsWrong refutes text n p f t =
     let differ = subst (λ (ls : List Line). AllDiffer (names_in ls)) f.parts t.differ in
     refutes f.before f.after f.here f.program k.front k.back f.wrong (drafts_slots Anywhere Anywhere f.before f.program k.front f.right.drafted k.first) limit differ k.second
 
-not_lost : (names : List Word) (here : Line) (after : List Line) (back : List Insn) → LacksLabel names here → Drafts (OneOf names) (here ∷ after) back → ⊥
-not_lost names (Statement words) after (i ∷ back) w h = w i h.0
-not_lost names (Statement words) after [] w h = h
-not_lost names here after back w h = w
-
 no_first_lost : (text : List ℕ) (n : ℕ) (p : List Insn) → FirstLost (lines_in text) n → Text text p → ⊥
 no_first_lost text n p f t =
     let names = names_in (lines_in text) in
@@ -125,7 +107,7 @@ no_first_lost text n p f t =
     let all = says_drafts labels (OneOf names) (λ b w d k. labels_named 0 (lines_in text) p w k.0 k.1) 0 (lines_in text) p t.fit t.said in
     let d = subst (λ (ls : List Line). Drafts (OneOf names) ls p) f.parts all in
     let k = split_drafts (OneOf names) f.before (f.here ∷ f.after) p d in
-    not_lost names f.here f.after k.back f.lost k.second
+    let x = said_words _ _ f.here f.after k.back f.lost k.second in x.4 x.1 x.5
 
 -- the law
 pub only_memory : (text : List ℕ) (f : AsmFault) → FirstTextFault text f → (p : List Insn) → Text text p → f ≡ Memory

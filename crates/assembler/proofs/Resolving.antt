@@ -1,28 +1,11 @@
 -- Labels, looked up.
-use Rattle.std.proofs.Common.{◌≡◌, cond, Bor, ℕ, suc, ◌+◌, ◌<◌, ◌≤◌, true, false, Bool, ℤ, pos, ◌+ℤ◌, ◌-ℤ◌, List, [], ◌∷◌, ◌++◌, length, map, take, drop, get_or, take-append-drop, Option, Some, None, Result, Ok, Err, IfErr, refl, sym, ap, ◌∙◌, subst, arith, FitsSigned, w16}
-use Rattle.std.proofs.Math.Seq.{drop-cons}
-use Rattle.std.specs.Str.{bytes_eq}
-use Rattle.std.specs.List.{list_any, AllByRecursion}
-use Rattle.std.specs.Option.{option_map}
-use Rattle.std.proofs.lemmas.Bool.{both_ways}
-use Rattle.std.proofs.lemmas.List.Sums.{sum_by-cons}
-use Rattle.std.proofs.lemmas.Int.{ints}
-use Rattle.insn.specs.declared.instruction.Insn.{Insn}
-use Rattle.insn.specs.Instruction.{slots_of, Fits}
+use Rattle.std.proofs.Common.{◌≡◌, Bor, ℕ, suc, ◌+◌, ◌<◌, ◌≤◌, false, ℤ, pos, ◌+ℤ◌, ◌-ℤ◌, List, [], ◌∷◌, ◌++◌, length, map, take, drop, get_or, take-append-drop, Option, Some, None, Result, Ok, Err, IfErr, refl, sym, ap, ◌∙◌, subst, arith, FitsSigned, w16}
+use Rattle.assembler.proofs.Names.{drop-cons, bytes_eq, list_any, AllByRecursion, option_map, both_ways, nat_tests, sum_by-cons, ints, Insn, slots_of, Fits, slot_count, IsProgram, Word}
+use Rattle.assembler.proofs.Names.{mnemonic_name, mnemonic_of, operands_of, Line, Blank, Label, Statement, SaysInsn, SaysOperands, labels_in, slot_of, LeadsTo, Says, names_in, lines_in, Text}
+use Rattle.assembler.proofs.Names.{Mnemonic, Draft, Whole, ToLabel, Place, Anywhere, OneOf, SaysFitting, AreRight, FirstLost, FirstTextFault, draft_slots, jump_over, Nowhere, At, IsDraft, SaysDraft}
+use Rattle.assembler.proofs.Names.{AreFrom, with_zero, zeroed, IsSheet, resolution, resolution_of, FirstLostPlace, Unresolved, AsmFault, UnknownLabel, Memory}
 use Rattle.insn.specs.SlotLaws.{slots_of_bounds}
-use Rattle.insn.specs.Program.{slot_count, IsProgram}
-use Rattle.assembly.specs.Text.{Word, mnemonic_name, mnemonic_of, operands_of, Line, Blank, Label, Statement, SaysInsn, SaysOperands, labels_in, slot_of, LeadsTo, Says, names_in, lines_in, Text}
-use Rattle.assembly.specs.declared.mnemonic.Mnemonic.{Mnemonic}
 use Rattle.assembler.specs.declared.draft.Jump.{Jump}
-use Rattle.assembler.specs.declared.draft.Draft.{Draft}
-use Rattle.assembler.specs.declared.draft.Draft.TheVariants.{Whole, ToLabel}
-use Rattle.assembler.specs.declared.sheet.Place.{Place}
-use Rattle.assembler.specs.Faults.{Anywhere, OneOf, SaysFitting, AreRight, FirstLost, FirstTextFault}
-use Rattle.assembler.specs.Drafts.{draft_slots, jump_over, Nowhere, At, IsDraft, SaysDraft}
-use Rattle.assembler.specs.Sheets.{AreFrom, with_zero, zeroed, IsSheet}
-use Rattle.assembler.specs.SheetsParts.{resolution, resolution_of, FirstLostPlace, Unresolved}
-use Rattle.assembler.specs.declared.fault.AsmFault.{AsmFault}
-use Rattle.assembler.specs.declared.fault.AsmFault.TheVariants.{UnknownLabel, Memory}
 use Rattle.assembler.proofs.Refuted.{only_memory}
 use Rattle.assembler.proofs.Statements.{of_mnemonic}
 use Rattle.assembler.proofs.Texts.{operands_more, says_drafts, labels_named}
@@ -112,11 +95,7 @@ are_said labels find same low n s (Statement words ∷ lines) (p ∷ ps) (i ∷ 
 labels_low : (s : ℕ) (lines : List Line) (p : List Insn) (q : Word) (t top : ℕ) → s + slot_count p ≤ top → slot_of (labels_in s lines p) q ≡ Some t → t ≤ top
 labels_low s [] p q t top l e = absurd (some_none (sym e))
 labels_low s (Blank ∷ lines) p q t top l e = labels_low s lines p q t top l e
-labels_low s (Label name ∷ lines) p q t top l e = low_step (bytes_eq name q) (slot_of (labels_in s lines p) q) e (labels_low s lines p q t top l)
-  where
-    low_step : (b : Bool) (o : Option ℕ) → cond b (Some s) o ≡ Some t → (o ≡ Some t → t ≤ top) → t ≤ top
-    low_step true o e rest = let k = some_same e in omega arith
-    low_step false o e rest = rest e
+labels_low s (Label name ∷ lines) p q t top l e = let rest = labels_low s lines p q t top l in grind (arith, nat_tests, e, rest)
 labels_low s (Statement words ∷ lines) [] q t top l e = absurd (some_none (sym e))
 labels_low s (Statement words ∷ lines) (i ∷ p) q t top l e = let c = sum_by-cons slots_of i p in labels_low (s + slots_of i) lines p q t top (omega arith) e
 

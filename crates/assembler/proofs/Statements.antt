@@ -1,19 +1,13 @@
 -- Names and forms of the words of a line.
 use Rattle.std.proofs.Common.{◌≡◌, ◌≢◌, rules, ⊎_elim, inl, inr, pos, List, [], ◌∷◌, length, map, None, refl, sym, ap, ◌∙◌, subst, arith, Bor}
-use Rattle.insn.specs.declared.operation.Width.TheVariants.{W32, W64}
+use Rattle.assembler.proofs.Names.{W32, W64, Insn, Reg, Imm, Word, Operand, Register, Number, Target, name_of, operands_of, mnemonic_of, mnemonic_name, Mnemonic, Alu, Divide, Remainder, Negate}
+use Rattle.assembler.proofs.Names.{MoveSigned, SwapBytes, LoadWide, Load, LoadSigned, StoreReg, StoreImm, JumpLong, JumpIf, Exit, kinds_of, IsOfKind, HaveKinds, Anywhere, HasForm, HaveForms, HasName}
+use Rattle.assembler.proofs.Names.{HasFormOf, SaysFitting, DraftOf, insn_of, mnemonic_name-injective}
 use Rattle.insn.specs.declared.register.RegNo.TheVariants.{R0}
-use Rattle.insn.specs.declared.instruction.Insn.{Insn}
 use Rattle.insn.specs.declared.instruction.Insn.TheVariants as insn
-use Rattle.insn.specs.declared.instruction.Operand.TheVariants.{Reg, Imm}
-use Rattle.assembly.specs.Text.{Word, Operand, Register, Number, Target, name_of, operands_of, mnemonic_of, mnemonic_name}
-use Rattle.assembly.specs.declared.mnemonic.Mnemonic.{Mnemonic}
-use Rattle.assembly.specs.declared.mnemonic.Mnemonic.TheVariants.{Alu, Divide, Remainder, Negate, MoveSigned, SwapBytes, LoadWide, Load, LoadSigned, StoreReg, StoreImm, Jump, JumpLong, JumpIf, Exit}
+use Rattle.assembly.specs.declared.mnemonic.Mnemonic.TheVariants.{Jump}
 use Rattle.assembler.specs.declared.form.OperandKind.{OperandKind}
 use Rattle.assembler.specs.declared.form.OperandKind.TheVariants as kind
-use Rattle.assembler.specs.Forms.{kinds_of, IsOfKind, HaveKinds}
-use Rattle.assembler.specs.Faults.{Anywhere, HasForm, HaveForms, HasName, HasFormOf, SaysFitting}
-use Rattle.assembler.specs.DraftsParts.{DraftOf}
-use Rattle.assembly.specs.TextNameLaws.{insn_of, mnemonic_name-injective}
 
 -- an instruction of a name has its mnemonic
 pub of_mnemonic : (w : Word) (m : Mnemonic) (i : Insn) → w ≡ mnemonic_name m → w ≡ name_of i → mnemonic_of i ≡ m

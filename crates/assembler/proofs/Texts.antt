@@ -1,13 +1,7 @@
 -- What lines say, and that a fault of theirs leaves nothing to say.
-use Rattle.std.proofs.Common.{◌≡◌, ◌⊎◌, ⊎_elim, inl, inr, ℕ, ◌+◌, true, false, ℤ, List, [], ◌∷◌, ◌++◌, Some, refl, sym, ap}
-use Rattle.std.specs.Str.{bytes_eq}
-use Rattle.std.specs.List.{list_any, AllByRecursion}
-use Rattle.std.proofs.lemmas.Bool.{both_ways, or_left, or_right, or_cases, cases_Bool}
-use Rattle.std.proofs.lemmas.Slice.Eq.{bytes_eq-Decides}
-use Rattle.insn.specs.declared.instruction.Insn.{Insn}
-use Rattle.insn.specs.Instruction.{slots_of, Fits}
-use Rattle.assembly.specs.Text.{Word, Operand, Register, Number, Target, operands_of, Line, Blank, Label, Statement, SaysOperand, SaysOperands, SaysInsn, labels_in, slot_of, LeadsTo, Says, names_in, AllDiffer}
-use Rattle.assembler.specs.Faults.{Drafts}
+use Rattle.std.proofs.Common.{◌≡◌, ◌⊎◌, ⊎_elim, inl, inr, ℕ, ◌+◌, true, ℤ, List, [], ◌∷◌, ◌++◌, Some, refl, sym, ap, arith}
+use Rattle.assembler.proofs.Names.{bytes_eq, list_any, AllByRecursion, nat_tests, bytes_eq-Decides, Insn, slots_of, Fits, Word, Operand, Register, Number, Target, operands_of, Line, Blank, Label}
+use Rattle.assembler.proofs.Names.{Statement, SaysOperand, SaysOperands, SaysInsn, labels_in, slot_of, LeadsTo, Says, names_in, AllDiffer, Drafts}
 
 -- ---- where names may lead further
 
@@ -33,10 +27,10 @@ bytes_eq_sym x y h = (bytes_eq-Decides y x).1 (sym ((bytes_eq-Decides x y).0 h))
 pub labels_named : (s : ℕ) (lines : List Line) (p : List Insn) (q : Word) (n : ℕ) → slot_of (labels_in s lines p) q ≡ Some n → list_any (bytes_eq q) (names_in lines) ≡ true
 labels_named s [] p q n h = absurd cc
 labels_named s (Blank ∷ lines) p q n h = labels_named s lines p q n h
-labels_named s (Label name ∷ lines) p q n h = ⊎_elim
-    (λ (e : bytes_eq name q ≡ true). or_left (bytes_eq q name) (list_any (bytes_eq q) (names_in lines)) (bytes_eq_sym name q e))
-    (λ (e : bytes_eq name q ≡ false). or_right (bytes_eq q name) (list_any (bytes_eq q) (names_in lines)) (labels_named s lines p q n (rw e at h)))
-    (cases_Bool (bytes_eq name q))
+labels_named s (Label name ∷ lines) p q n h =
+    let rest = labels_named s lines p q n in
+    let same = bytes_eq_sym name q in
+    grind (arith, nat_tests, h, rest, same)
 labels_named s (Statement words ∷ lines) [] q n h = absurd cc
 labels_named s (Statement words ∷ lines) (i ∷ p) q n h = labels_named (s + slots_of i) lines p q n h
 
@@ -72,13 +66,14 @@ names_append (Label name ∷ a) b = ap (λ (x : List Word). name ∷ x) (names_a
 names_append (Statement words ∷ a) b = names_append a b
 
 any_middle : (x name : Word) (a b : List Word) → bytes_eq x name ≡ true → list_any (bytes_eq x) (a ++ name ∷ b) ≡ true
-any_middle x name [] b h = or_left (bytes_eq x name) _ h
-any_middle x name (y ∷ a) b h = or_right (bytes_eq x y) _ (any_middle x name a b h)
+any_middle x name [] b h = rw h refl
+any_middle x name (y ∷ a) b h = let rest = any_middle x name a b h in grind (arith, nat_tests, rest)
 
 -- a name that stands again
 pub not_differ : (name : Word) (a b : List Word) → list_any (bytes_eq name) a ≡ true → AllDiffer (a ++ name ∷ b) → ⊥
 not_differ name [] b h d = absurd cc
-not_differ name (x ∷ a) b h d = ⊎_elim
-    (λ e. both_ways (list_any (bytes_eq x) (a ++ name ∷ b)) d.0 (any_middle x name a b (bytes_eq_sym name x e)))
-    (λ e. not_differ name a b e d.1)
-    (or_cases (bytes_eq name x) (list_any (bytes_eq name) a) h)
+not_differ name (x ∷ a) b h d =
+    let again = any_middle x name a b in
+    let same = bytes_eq_sym name x in
+    let rest = not_differ name a b in
+    grind (arith, nat_tests, h, d.0, d.1, again, same, rest)

@@ -1,30 +1,13 @@
 -- Reading slots back from their bytes, and programs from theirs.
 use Rattle.std.proofs.Common.{subst, ◌≡◌, ◌≢◌, ◌⊎◌, inl, inr, Option, ℕ, ◌+◌, ◌*◌, ◌/◌, ◌%◌, ◌^◌, ◌<◌, List, [], ◌∷◌, ◌++◌, length, drop, Some, None, Result, Ok, Err, IfErr, get_or, refl, sym, ap, ◌∙◌, arith, append_assoc, FitsSigned, w16, w32, pos, rules}
-use Rattle.std.specs.Prelude.{◌==◌, nat_lt, if◌then◌else◌}
-use Rattle.std.proofs.lemmas.Bool.{le-ltb, lt-ltb, ne_eqb}
-use Rattle.std.specs.Int.{cast_signed, cast_unsigned}
-use Rattle.std.specs.List.{flat_map, AllByRecursion}
-use Rattle.std.proofs.lemmas.Int.{ints, to_z-of_z}
-use Rattle.std.proofs.lemmas.List.{append_cancel_left, append-nil}
-use Rattle.std.proofs.lemmas.List.Concat.{flat_map-append}
+use Rattle.encoding.proofs.Names.{◌==◌, nat_lt, if◌then◌else◌, nat_tests, cast_signed, cast_unsigned, flat_map, AllByRecursion, ints, to_z-of_z, append_cancel_left, flat_map-append, RegNo, R0, Imm}
+use Rattle.encoding.proofs.Names.{Insn, Divide, Remainder, MoveSigned, SwapBytes, LoadWide, Unsigned, Signed, From8To64, B16, Slot, SlotFault, reg_number, Fits, slot_count, SLOT_LIMIT, BeginsNone}
+use Rattle.encoding.proofs.Names.{IsSlotFault, first_slot, slot, slots, slot_bytes, spelling, FaultAt, FirstInsnFault, IsSlot, IsWhole, Spells, slot_fault}
+use Rattle.std.proofs.lemmas.List.{append-nil}
 use Rattle.std.proofs.Math.Facts.{sfits_to_z}
-use Rattle.insn.specs.declared.register.RegNo.{RegNo}
-use Rattle.insn.specs.declared.register.RegNo.TheVariants.{R0}
-use Rattle.insn.specs.declared.instruction.Operand.TheVariants.{Imm}
-use Rattle.insn.specs.declared.instruction.Insn.{Insn}
-use Rattle.insn.specs.declared.instruction.Insn.TheVariants.{Divide, Remainder, MoveSigned, SwapBytes, LoadWide}
-use Rattle.insn.specs.declared.operation.Signedness.TheVariants.{Unsigned, Signed}
-use Rattle.insn.specs.declared.operation.Extension.TheVariants.{From8To64}
-use Rattle.insn.specs.declared.operation.SwapBits.TheVariants.{B16}
-use Rattle.encoding.specs.declared.slot.Slot.{Slot}
-use Rattle.encoding.specs.declared.slot_fault.SlotFault.{SlotFault}
 use Rattle.insn.specs.declared.fault.InsnFault.{InsnFault}
 use Rattle.insn.specs.declared.fault.InsnFault.TheVariants as faults
-use Rattle.insn.specs.Instruction.{reg_number, Fits}
-use Rattle.insn.specs.Program.{slot_count, SLOT_LIMIT}
-use Rattle.encoding.specs.Spelling.{BeginsNone, IsSlotFault, first_slot, slot, slots, slot_bytes, spelling, FaultAt, FirstInsnFault, IsSlot, IsWhole, Spells}
-use Rattle.encoding.specs.Opcodes.{slot_fault}
-use Rattle.encoding.proofs.Spellings.{length-spelling, spelling-append}
+use Rattle.encoding.proofs.Spellings.{length-spelling, spelling-append, AllByRecursion-append}
 use Rattle.encoding.proofs.Rereading.{read, reread}
 use Rattle.encoding.proofs.Naming.{first_is, no_slot_fault, one_fault, table_fault}
 
@@ -85,22 +68,18 @@ sized (LoadWide dst value) fits = (
 )
 sized i fits = (record { dst = omega (arith, reg_fits); src = omega (arith, reg_fits); offset = search rules; imm = search rules }, tt)
 
-sized-append : (xs ys : List Slot) → AllByRecursion Sized xs → AllByRecursion Sized ys → AllByRecursion Sized (xs ++ ys)
-sized-append [] ys a b = b
-sized-append (x ∷ xs) ys a b = (a.0, sized-append xs ys a.1 b)
-
 sized_all : (p : List Insn) → AllByRecursion Fits p → AllByRecursion Sized (flat_map slots p)
 sized_all [] fits = tt
-sized_all (i ∷ p) fits = sized-append (slots i) (flat_map slots p) (sized i fits.0) (sized_all p fits.1)
+sized_all (i ∷ p) fits = AllByRecursion-append Sized (slots i) (flat_map slots p) (sized i fits.0) (sized_all p fits.1)
 
 unspell-all : (ss : List Slot) (r : List ℕ) → AllByRecursion Sized ss → unspell (flat_map slot_bytes ss ++ r) ≡ ss ++ unspell r
 unspell-all [] r z = refl
 unspell-all (s ∷ ss) r z =
     ap unspell (append_assoc (slot_bytes s) (flat_map slot_bytes ss) r) ∙ unspell-slot s (flat_map slot_bytes ss ++ r) z.0 ∙ ap (λ (l : List Slot). s ∷ l) (unspell-all ss r z.1)
 
--- the slots of a program stand in its bytes, whatever follows
-slots_in : (p : List Insn) (r : List ℕ) → AllByRecursion Fits p → unspell (spelling p ++ r) ≡ flat_map slots p ++ unspell r
-slots_in p r fits = unspell-all (flat_map slots p) r (sized_all p fits)
+-- the slots of a program stand in its bytes, whatever follows: those of the first instruction, and the others
+slots_in : (i : Insn) (p : List Insn) (r : List ℕ) → AllByRecursion Fits (i ∷ p) → unspell (spelling (i ∷ p) ++ r) ≡ slots i ++ (flat_map slots p ++ unspell r)
+slots_in i p r fits = unspell-all (flat_map slots (i ∷ p)) r (sized_all (i ∷ p) fits) ∙ append_assoc (slots i) (flat_map slots p) (unspell r)
 
 -- ---- one program
 
@@ -108,34 +87,21 @@ read-slots : (i : Insn) (x : List Slot) → Fits i → read (slots i ++ x) ≡ S
 read-slots i x fits = (reread i x [] (first_slot i)).read fits
 
 -- the bytes of an instruction, and those of the ones behind it
-one_more : (i : Insn) (p : List Insn) → spelling (i ∷ p) ≡ flat_map slot_bytes (slots i) ++ spelling p
-one_more i p = flat_map-append slot_bytes (slots i) (flat_map slots p)
+one_more : (i : Insn) (p : List Insn) (r : List ℕ) → spelling (i ∷ p) ++ r ≡ flat_map slot_bytes (slots i) ++ (spelling p ++ r)
+one_more i p r = rw (flat_map-append slot_bytes (slots i) (flat_map slots p), append_assoc) refl
 
 -- what stands behind one instruction that two spellings begin with
 same_first : (i j : Insn) (p q : List Insn) (x y : List ℕ) → AllByRecursion Fits (i ∷ p) → AllByRecursion Fits (j ∷ q) → spelling (i ∷ p) ++ x ≡ spelling (j ∷ q) ++ y → (i ≡ j) × (spelling p ++ x ≡ spelling q ++ y)
 same_first i j p q x y fp fq e =
-    let whole : slots i ++ (flat_map slots p ++ unspell x) ≡ slots j ++ (flat_map slots q ++ unspell y) =
-    sym (append_assoc (slots i) (flat_map slots p) (unspell x)) ∙ sym (slots_in (i ∷ p) x fp) ∙ ap unspell e ∙ slots_in (j ∷ q) y fq ∙ append_assoc (slots j) (flat_map slots q) (unspell y) in
+    let whole = sym (slots_in i p x fp) ∙ ap unspell e ∙ slots_in j q y fq in
     let h : Some i ≡ Some j = sym (read-slots i (flat_map slots p ++ unspell x) fp.0) ∙ ap read whole ∙ read-slots j (flat_map slots q ++ unspell y) fq.0 in
     let same : i ≡ j = cc in
-    let tails : flat_map slot_bytes (slots i) ++ (spelling p ++ x) ≡ flat_map slot_bytes (slots i) ++ (spelling q ++ y) =
-    sym (append_assoc (flat_map slot_bytes (slots i)) (spelling p) x) ∙ ap (λ (l : List ℕ). l ++ x) (sym (one_more i p)) ∙ e ∙ ap (λ (l : List ℕ). l ++ y) (one_more j q)
-    ∙ append_assoc (flat_map slot_bytes (slots j)) (spelling q) y ∙ ap (λ (k : Insn). flat_map slot_bytes (slots k) ++ (spelling q ++ y)) (sym same) in
+    let tails = sym (one_more i p x) ∙ e ∙ one_more j q y ∙ ap (λ (k : Insn). flat_map slot_bytes (slots k) ++ (spelling q ++ y)) (sym same) in
     (same, append_cancel_left (flat_map slot_bytes (slots i)) (spelling p ++ x) (spelling q ++ y) tails)
 
 some_bytes : (i : Insn) (p : List Insn) (x : List ℕ) → AllByRecursion Fits (i ∷ p) → spelling (i ∷ p) ++ x ≡ [] → ⊥
 some_bytes i p x fits e =
-    let h : Some i ≡ None = sym (read-slots i (flat_map slots p ++ unspell x) fits.0) ∙ ap read (sym (append_assoc (slots i) (flat_map slots p) (unspell x)) ∙ sym (slots_in (i ∷ p) x fits) ∙ ap unspell e) in absurd cc
-
-one_spelled : (p q : List Insn) → AllByRecursion Fits p → AllByRecursion Fits q → spelling p ++ [] ≡ spelling q ++ [] → p ≡ q
-one_spelled [] [] fp fq e = refl
-one_spelled [] (j ∷ q) fp fq e = absurd (some_bytes j q [] fq (sym e))
-one_spelled (i ∷ p) [] fp fq e = absurd (some_bytes i p [] fp e)
-one_spelled (i ∷ p) (j ∷ q) fp fq e = let first = same_first i j p q [] [] fp fq e in let rest = one_spelled p q fp.1 fq.1 first.1 in rw (first.0, rest) refl
-
--- no bytes spell two programs
-pub one_program : (bytes : List ℕ) (p q : List Insn) → Spells bytes p → Spells bytes q → p ≡ q
-one_program bytes p q sp sq = one_spelled p q sp.fit sq.fit (ap (λ (l : List ℕ). l ++ []) (sym sp.spelled ∙ sq.spelled))
+    let h : Some i ≡ None = sym (read-slots i (flat_map slots p ++ unspell x) fits.0) ∙ ap read (sym (slots_in i p x fits) ∙ ap unspell e) in absurd cc
 
 -- ---- what is spelled has no fault
 
@@ -146,14 +112,12 @@ record IsGood (here : Slot) (rest : List ℕ) (j : Insn) : Type 0 where
 
 begins_good : (here : Slot) (rest tail : List ℕ) (j : Insn) (p : List Insn) → Sized here → AllByRecursion Fits (j ∷ p) → slot_bytes here ++ rest ≡ spelling (j ∷ p) ++ tail → IsGood here rest j
 begins_good here rest tail j p z fp e =
-    let firsts : here ∷ unspell rest ≡ slots j ++ (flat_map slots p ++ unspell tail) =
-    sym (unspell-slot here rest z) ∙ ap unspell e ∙ slots_in (j ∷ p) tail fp ∙ append_assoc (slots j) (flat_map slots p) (unspell tail) in
-    let here_is : here ≡ get_or (slots j ++ (flat_map slots p ++ unspell tail)) 0 here = ap (λ (l : List Slot). get_or l 0 here) firsts in
-    let bytes : slot_bytes here ++ rest ≡ flat_map slot_bytes (slots j) ++ (spelling p ++ tail) = e ∙ ap (λ (l : List ℕ). l ++ tail) (one_more j p) ∙ append_assoc (flat_map slot_bytes (slots j)) (spelling p) tail in
-    let rest_is : rest ≡ drop 8 (flat_map slot_bytes (slots j) ++ (spelling p ++ tail)) = ap (drop 8) bytes in
+    let firsts = sym (unspell-slot here rest z) ∙ ap unspell e ∙ slots_in j p tail fp in
+    let here_is = ap (λ (l : List Slot). get_or l 0 here) firsts in
+    let rest_is = ap (drop 8) (e ∙ one_more j p tail) in
     record {
       opcode = ap (λ (s : Slot). s.opcode) (sym (first_is j (flat_map slots p ++ unspell tail) here) ∙ sym here_is);
-      good = ap (λ (s : Slot). slot_fault s rest) here_is ∙ ap (slot_fault (get_or (slots j ++ (flat_map slots p ++ unspell tail)) 0 here)) rest_is ∙ (reread j (flat_map slots p ++ unspell tail) (spelling p ++ tail) here).good;
+      good = ap (λ (s : Slot). slot_fault s rest) here_is ∙ ap (slot_fault _) rest_is ∙ (reread j (flat_map slots p ++ unspell tail) (spelling p ++ tail) here).good;
     }
 
 -- it has no fault
@@ -170,36 +134,56 @@ begins_none here rest f z faulty j tail fits e = let is = begins_good here rest 
 pub named_fault : (s : Slot) (behind : List ℕ) (f : SlotFault) → IsSlot s → slot_fault s behind ≡ Some f → IsSlotFault s behind f
 named_fault s behind f is h = table_fault s behind f is (begins_none s behind f (sizes_of is) h) h
 
--- no program has a faulty slot behind some instructions
-no_faulty_slot : (before p : List Insn) (here : Slot) (rest : List ℕ) (f : SlotFault) → AllByRecursion Fits before → AllByRecursion Fits p → Sized here
-    → spelling before ++ (slot_bytes here ++ rest) ≡ spelling p ++ [] → IsSlotFault here rest f → ⊥
-no_faulty_slot [] [] here rest f fb fp z e faulty = absurd cc
-no_faulty_slot [] (j ∷ p) here rest f fb fp z e faulty = begins_faultless here rest [] j p f z fp e faulty
-no_faulty_slot (i ∷ before) [] here rest f fb fp z e faulty = some_bytes i before (slot_bytes here ++ rest) fb e
-no_faulty_slot (i ∷ before) (j ∷ p) here rest f fb fp z e faulty =
-    no_faulty_slot before p here rest f fb.1 fp.1 z (same_first i j before p (slot_bytes here ++ rest) [] fb fp e).1 faulty
+-- ---- bytes are read in one way
 
--- two faulty slots behind some instructions are one
-one_faulty_slot : (p q : List Insn) (here there : Slot) (x y : List ℕ) (f g : SlotFault) → AllByRecursion Fits p → AllByRecursion Fits q → Sized here → Sized there
-    → spelling p ++ (slot_bytes here ++ x) ≡ spelling q ++ (slot_bytes there ++ y) → IsSlotFault here x f → IsSlotFault there y g → (p ≡ q) × (f ≡ g)
-one_faulty_slot [] [] here there x y f g fp fq z w e faulty wrong =
-    let firsts : here ∷ unspell x ≡ there ∷ unspell y = sym (unspell-slot here x z) ∙ ap unspell e ∙ unspell-slot there y w in
-    let slot_is : here ≡ there = cc in
-    let rest_is : x ≡ y = ap (drop 8) e in
-    let moved : IsSlotFault there y f = subst (λ (r : List ℕ). IsSlotFault there r f) rest_is (subst (λ (s : Slot). IsSlotFault s x f) slot_is faulty) in
-    (refl, one_fault there y f g moved wrong)
-one_faulty_slot [] (j ∷ q) here there x y f g fp fq z w e faulty wrong = absurd (begins_faultless here x (slot_bytes there ++ y) j q f z fq e faulty)
-one_faulty_slot (i ∷ p) [] here there x y f g fp fq z w e faulty wrong = absurd (begins_faultless there y (slot_bytes here ++ x) i p g w fp (sym e) wrong)
-one_faulty_slot (i ∷ p) (j ∷ q) here there x y f g fp fq z w e faulty wrong =
-    let first = same_first i j p q (slot_bytes here ++ x) (slot_bytes there ++ y) fp fq e in
-    let later = one_faulty_slot p q here there x y f g fp.1 fq.1 z w first.1 faulty wrong in
+-- no instruction begins here: there are no bytes, or a faulty slot stands in front
+abbrev Stops : List ℕ → Option SlotFault → Type 0
+Stops x None = x ≡ []
+Stops x (Some f) = (here : Slot) × (rest : List ℕ) × Sized here × (x ≡ slot_bytes here ++ rest) × IsSlotFault here rest f
+
+none_begins : (x y : List ℕ) (a : Option SlotFault) (j : Insn) (p : List Insn) → Stops x a → AllByRecursion Fits (j ∷ p) → x ≡ spelling (j ∷ p) ++ y → ⊥
+none_begins x y None j p h fp e = some_bytes j p y fp (sym e ∙ h)
+none_begins x y (Some f) j p h fp e = begins_faultless h.0 h.1 y j p f h.2 fp (sym h.3 ∙ e) h.4
+
+one_stop : (x : List ℕ) (a b : Option SlotFault) → Stops x a → Stops x b → a ≡ b
+one_stop x None None h k = refl
+one_stop x None (Some g) h k = let e = k.3 in absurd cc
+one_stop x (Some f) None h k = let e = h.3 in absurd cc
+one_stop x (Some f) (Some g) h k =
+    let firsts : h.0 ∷ unspell h.1 ≡ k.0 ∷ unspell k.1 = sym (unspell-slot h.0 h.1 h.2) ∙ ap unspell (sym h.3 ∙ k.3) ∙ unspell-slot k.0 k.1 k.2 in
+    let slot_is : h.0 ≡ k.0 = cc in
+    let rest_is : h.1 ≡ k.1 = ap (drop 8) (sym h.3 ∙ k.3) in
+    let moved = subst (λ (r : List ℕ). IsSlotFault k.0 r f) rest_is (subst (λ (s : Slot). IsSlotFault s h.1 f) slot_is h.4) in
+    ap Some (one_fault k.0 k.1 f g moved k.4)
+
+one_way : (p q : List Insn) (x y : List ℕ) (a b : Option SlotFault) → AllByRecursion Fits p → AllByRecursion Fits q → Stops x a → Stops y b → spelling p ++ x ≡ spelling q ++ y → (p ≡ q) × (a ≡ b)
+one_way [] [] x y a b fp fq h k e = (refl, one_stop y a b (subst (λ (l : List ℕ). Stops l a) e h) k)
+one_way [] (j ∷ q) x y a b fp fq h k e = absurd (none_begins x y a j q h fq e)
+one_way (i ∷ p) [] x y a b fp fq h k e = absurd (none_begins y x b i p k fp (sym e))
+one_way (i ∷ p) (j ∷ q) x y a b fp fq h k e =
+    let first = same_first i j p q x y fp fq e in
+    let later = one_way p q x y a b fp.1 fq.1 h k first.1 in
     (rw (first.0, later.0) refl, later.1)
+
+-- no bytes spell two programs
+pub one_program : (bytes : List ℕ) (p q : List Insn) → Spells bytes p → Spells bytes q → p ≡ q
+one_program bytes p q sp sq = (one_way p q [] [] None None sp.fit sq.fit refl refl (ap (λ (l : List ℕ). l ++ []) (sym sp.spelled ∙ sq.spelled))).0
+
+stops_at : {bytes : List ℕ} {f : InsnFault} (x : FaultAt bytes f) → Stops (slot_bytes x.here ++ x.rest) (Some x.name)
+stops_at x = (x.here, x.rest, sizes_of x.sizes, refl, x.faulty)
+
+same_name : {f g : SlotFault} → Some f ≡ Some g → f ≡ g
+same_name e = cc
 
 -- the first faulty instruction is one
 one_fault_at : (bytes : List ℕ) (f g : InsnFault) → FaultAt bytes f → FaultAt bytes g → f ≡ g
 one_fault_at bytes f g x y =
-    let same = one_faulty_slot x.before y.before x.here y.here x.rest y.rest x.name y.name x.fit y.fit (sizes_of x.sizes) (sizes_of y.sizes) (sym x.spelled ∙ y.spelled) x.faulty y.faulty in
-    x.at_slot ∙ rw (same.0, same.1) (sym y.at_slot)
+    let same = one_way x.before y.before _ _ _ _ x.fit y.fit (stops_at x) (stops_at y) (sym x.spelled ∙ y.spelled) in
+    x.at_slot ∙ rw (same.0, same_name same.1) (sym y.at_slot)
+
+no_fault_at : (bytes : List ℕ) (p : List Insn) (f : InsnFault) → FaultAt bytes f → Spells bytes p → ⊥
+no_fault_at bytes p f x s =
+    let same : Some x.name ≡ None = (one_way x.before p _ [] _ None x.fit s.fit (stops_at x) refl (sym x.spelled ∙ s.spelled ∙ sym (append-nil (spelling p)))).1 in absurd cc
 
 -- the fault of a length alone
 abbrev length_fault : ℕ → Option InsnFault
@@ -210,53 +194,39 @@ length_fault n =
     else None
 
 long_enough : (bytes : List ℕ) → IsWhole bytes → length_fault (length bytes) ≡ None
-long_enough bytes h =
-    let n = length bytes in
-    let some = h.some in
-    let full = h.slots in
-    let short = h.short in
-    rw (ne_eqb n 0 (λ e. absurd (omega arith)), le-ltb 0 (n % 8) (omega arith), le-ltb (8 * SLOT_LIMIT) n (omega arith)) refl
+long_enough bytes h = grind (arith, nat_tests, h.some, h.slots, h.short)
 
 -- a fault of the length, or of a slot
 abbrev IsFirst : List ℕ → InsnFault → Type 0
 IsFirst bytes f = (length_fault (length bytes) ≡ Some f) ⊎ ((length_fault (length bytes) ≡ None) × FaultAt bytes f)
 
 by_length : (bytes : List ℕ) (f : InsnFault) → f ≢ faults.Memory → FirstInsnFault bytes f → IsFirst bytes f
-by_length bytes faults.Empty other h = inl (rw h refl)
-by_length bytes faults.BadLength other h = let n = length bytes in inl (rw (ne_eqb n 0 (λ e. absurd (omega (arith, h.0))), lt-ltb 0 (n % 8) (omega (arith, h.1))) refl)
-by_length bytes faults.TooLong other h =
-    let n = length bytes in
-    inl (rw (ne_eqb n 0 (λ e. absurd (omega (arith, h.1))), le-ltb 0 (n % 8) (omega (arith, h.0)), lt-ltb (8 * SLOT_LIMIT) n h.1) refl)
+by_length bytes faults.Empty other h = inl (grind (arith, nat_tests, h))
+by_length bytes faults.BadLength other h = inl (grind (arith, nat_tests, h))
+by_length bytes faults.TooLong other h = inl (grind (arith, nat_tests, h))
 by_length bytes faults.Memory other h = absurd (other refl)
 by_length bytes f other h = inr (long_enough bytes h.0, h.1)
 
 -- bytes have one first fault, want of memory aside
 pub one_first_fault : (bytes : List ℕ) (f g : InsnFault) → f ≢ faults.Memory → g ≢ faults.Memory → FirstInsnFault bytes f → FirstInsnFault bytes g → f ≡ g
-one_first_fault bytes f g other another h k = both (by_length bytes f other h) (by_length bytes g another k) where
-  both : IsFirst bytes f → IsFirst bytes g → f ≡ g
-  both (inl e) (inl d) = let same : Some f ≡ Some g = sym e ∙ d in cc
-  both (inl e) (inr y) = let none = y.0 in absurd cc
-  both (inr x) (inl d) = let none = x.0 in absurd cc
-  both (inr x) (inr y) = one_fault_at bytes f g x.1 y.1
+one_first_fault bytes f g other another h k =
+    let one = one_fault_at bytes f g in
+    let a = by_length bytes f other h in
+    let b = by_length bytes g another k in
+    grind (arith, one, a, b)
 
-no_fault_at : (bytes : List ℕ) (p : List Insn) (f : InsnFault) → FaultAt bytes f → Spells bytes p → ⊥
-no_fault_at bytes p f h s =
-    no_faulty_slot h.before p h.here h.rest h.name h.fit s.fit (sizes_of h.sizes) (sym h.spelled ∙ s.spelled ∙ sym (append-nil (spelling p))) h.faulty
+whole : (bytes : List ℕ) (p : List Insn) → Spells bytes p → IsWhole bytes
+whole bytes p s =
+    let long : length bytes ≡ 8 * slot_count p = ap (length {A = ℕ}) s.spelled ∙ length-spelling p in
+    record { some = omega (arith, s.in_bounds.nonempty); slots = omega arith; short = omega (arith, s.in_bounds.short) }
 
 -- bytes that spell a program have no fault but a want of memory
 pub only_memory : (bytes : List ℕ) (f : InsnFault) → FirstInsnFault bytes f → (p : List Insn) → Spells bytes p → f ≡ faults.Memory
-only_memory bytes faults.Empty h p s =
-    let long : length bytes ≡ 8 * slot_count p = ap (length {A = ℕ}) s.spelled ∙ length-spelling p in
-    let some = s.in_bounds.nonempty in absurd (omega arith)
-only_memory bytes faults.BadLength h p s =
-    let long : length bytes ≡ 8 * slot_count p = ap (length {A = ℕ}) s.spelled ∙ length-spelling p in
-    let odd = h.1 in absurd (omega arith)
-only_memory bytes faults.TooLong h p s =
-    let long : length bytes ≡ 8 * slot_count p = ap (length {A = ℕ}) s.spelled ∙ length-spelling p in
-    let more = h.1 in
-    let short = s.in_bounds.short in absurd (omega arith)
 only_memory bytes faults.Memory h p s = refl
-only_memory bytes f h p s = absurd (no_fault_at bytes p f h.1 s)
+only_memory bytes f h p s = elim (by_length bytes f (λ e. absurd cc) h) [
+  | inl e ↦ let none = long_enough bytes (whole bytes p s) in absurd cc
+  | inr x ↦ absurd (no_fault_at bytes p f x.1 s)
+]
 
 pub only_err : {A : Type 0} (bytes : List ℕ) (r : Result A InsnFault) → IfErr r (FirstInsnFault bytes) → IfErr r (λ f. (p : List Insn) → Spells bytes p → f ≡ faults.Memory)
 only_err bytes (Ok x) h = tt

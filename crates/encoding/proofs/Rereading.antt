@@ -1,30 +1,18 @@
 -- The instruction in front of some slots is read back, and the table finds no fault there.
 use Rattle.std.proofs.Common.{◌≡◌, ℕ, ◌+◌, ◌*◌, ◌/◌, ◌%◌, ◌^◌, cond, eqb, false, List, [], ◌∷◌, ◌++◌, length, map, drop, Option, Some, None, get_or, refl, ap, arith, w32, ℤ, pos}
-use Rattle.std.specs.Prelude.{◌==◌, if◌then◌else◌, nat_lt, negsuc}
-use Rattle.std.specs.Int.{cast_signed, cast_unsigned}
-use Rattle.std.specs.List.{flat_map}
-use Rattle.std.proofs.lemmas.Bool.{le-ltb}
-use Rattle.std.proofs.lemmas.Int.{of_z-to_z}
-use Rattle.insn.specs.declared.register.RegNo.{RegNo}
-use Rattle.insn.specs.declared.register.RegNo.TheVariants.{R0, R1, R2, R3, R4, R5, R6, R7, R8, R9, R10}
+use Rattle.encoding.proofs.Names.{◌==◌, if◌then◌else◌, nat_lt, negsuc, cast_signed, cast_unsigned, flat_map, le-ltb, of_z-to_z, RegNo, R0, R1, R2, R3, R4, R5, R6, R7, R8, R9, R10, Unsigned, Signed}
+use Rattle.encoding.proofs.Names.{From8To64, From16To64, From32To64, From8To32, From16To32, B16, B32, B64, Reg, Imm, Insn, Alu64Imm, Alu64Reg, Alu32Imm, Alu32Reg, Divide, Remainder, Negate}
+use Rattle.encoding.proofs.Names.{MoveSigned, SwapBytes, LoadWide, Load, LoadSigned, StoreReg, StoreImm, Jump, JumpLong, Jump64IfImm, Jump64IfReg, Jump32IfImm, Jump32IfReg, Exit, Slot, reg_number}
+use Rattle.encoding.proofs.Names.{Fits, first_slot, slots, slot_bytes, conds, ops, sizes, slot_fault}
+use Rattle.encoding.specs.Opcodes.{fields_of}
 use Rattle.insn.specs.declared.operation.Width.TheVariants.{W32, W64}
 use Rattle.insn.specs.declared.operation.Signedness.{Signedness}
-use Rattle.insn.specs.declared.operation.Signedness.TheVariants.{Unsigned, Signed}
 use Rattle.insn.specs.declared.operation.AluOp.TheVariants.{Add}
 use Rattle.insn.specs.declared.operation.Cond.TheVariants.{Eq}
 use Rattle.insn.specs.declared.operation.Extension.{Extension}
-use Rattle.insn.specs.declared.operation.Extension.TheVariants.{From8To64, From16To64, From32To64, From8To32, From16To32}
 use Rattle.insn.specs.declared.operation.SwapKind.TheVariants.{ToLittle, ToBig, Swap}
-use Rattle.insn.specs.declared.operation.SwapBits.TheVariants.{B16, B32, B64}
 use Rattle.insn.specs.declared.operation.Size.TheVariants.{One}
 use Rattle.insn.specs.declared.operation.SignedSize.TheVariants as signed
-use Rattle.insn.specs.declared.instruction.Operand.TheVariants.{Reg, Imm}
-use Rattle.insn.specs.declared.instruction.Insn.{Insn}
-use Rattle.insn.specs.declared.instruction.Insn.TheVariants.{Alu64Imm, Alu64Reg, Alu32Imm, Alu32Reg, Divide, Remainder, Negate, MoveSigned, SwapBytes, LoadWide, Load, LoadSigned, StoreReg, StoreImm, Jump, JumpLong, Jump64IfImm, Jump64IfReg, Jump32IfImm, Jump32IfReg, Exit}
-use Rattle.encoding.specs.declared.slot.Slot.{Slot}
-use Rattle.insn.specs.Instruction.{reg_number, Fits}
-use Rattle.encoding.specs.Spelling.{first_slot, slots, slot_bytes}
-use Rattle.encoding.specs.Opcodes.{conds, fields_of, ops, sizes, slot_fault}
 
 -- ---- an instruction of each opcode
 

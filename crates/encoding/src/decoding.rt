@@ -53,8 +53,7 @@ fn signedness(offset: i16) -> Result<Signedness, SlotFault>
 /// The instruction that a slot and the bytes behind it begin with, or what is wrong with it.
 #[tactic(auto, unfolding(crate::specs::Opcodes::fields_of))]
 fn insn_of(slot: Slot, behind: &[u8]) -> Result<Insn, SlotFault>
-    ensures found { IfOk result (λ i. BeginsWith slot behind.now i) }
-    ensures fault { IfErr result (λ f. slot_fault slot behind.now ≡ Some f) }
+    ensures { MatchResult result (λ i. BeginsWith slot behind.now i) (λ f. slot_fault slot behind.now ≡ Some f) }
 {
     match slot.opcode {
         0x18 => load_wide(slot, behind),
@@ -79,8 +78,7 @@ fn upper_half(second: &[u8; 8]) -> Result<u32, SlotFault>
 #[tactic(auto, unfolding(crate::specs::Opcodes::fields_of))]
 fn load_wide(slot: Slot, behind: &[u8]) -> Result<Insn, SlotFault>
     requires { slot.opcode ≡ LOAD_WIDE }
-    ensures found { IfOk result (λ i. BeginsWith slot behind.now i) }
-    ensures fault { IfErr result (λ f. slot_fault slot behind.now ≡ Some f) }
+    ensures { MatchResult result (λ i. BeginsWith slot behind.now i) (λ f. slot_fault slot behind.now ≡ Some f) }
 {
     let Some(second) = behind.first_chunk::<8>() else {
         return Err(SlotFault::TruncatedWide);
@@ -512,13 +510,10 @@ fn insns_of(alloc: Global, bytes: &[u8]) -> Result<Vec<Insn>, InsnFault>
     Ok(insns)
 }
 
-/// The program that bytes spell, or their first fault: none, a length that is no multiple of 8, too many, and then
-/// the first faulty instruction. The bytes are RFC 9669's little-endian form.
-pub fn decode(alloc: Global, bytes: &[u8]) -> Result<Program, InsnFault>
+/// The program that bytes spell, or their first fault.
+fn decoded(alloc: Global, bytes: &[u8]) -> Result<Program, InsnFault>
     ensures found { IfOk result (λ program. Spells bytes.now program) }
     ensures fault { IfErr result (FirstInsnFault bytes.now) }
-    // What is spelled is answered, unless memory is refused.
-    ensures only { IfErr result (λ f. (program : List Insn) → Spells bytes.now program → f ≡ InsnFault.Memory) }
 {
     if bytes.is_empty() {
         return Err(InsnFault::Empty);
@@ -534,4 +529,15 @@ pub fn decode(alloc: Global, bytes: &[u8]) -> Result<Program, InsnFault>
         Ok(program) => Ok(program),
         Err((_, fault)) => Err(fault),
     }
+}
+
+/// The program that bytes spell, or their first fault: none, a length that is no multiple of 8, too many, and then
+/// the first faulty instruction. The bytes are RFC 9669's little-endian form.
+pub fn decode(alloc: Global, bytes: &[u8]) -> Result<Program, InsnFault>
+    ensures found { IfOk result (λ program. Spells bytes.now program) }
+    ensures fault { IfErr result (FirstInsnFault bytes.now) }
+    // What is spelled is answered, unless memory is refused.
+    ensures only { IfErr result (λ f. (program : List Insn) → Spells bytes.now program → f ≡ InsnFault.Memory) }
+{
+    decoded(alloc, bytes)
 }

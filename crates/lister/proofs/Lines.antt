@@ -1,9 +1,10 @@
 -- The lines of a canonical text: one for each instruction, with its words, and an empty one behind them.
-use Rattle.std.proofs.Common.{◌≡◌, ℕ, Bool, true, not, ◌||◌, ◌==◌, cond, List, [], ◌∷◌, ◌++◌, map, ℤ, ◌+◌, Option, Some, None, refl, sym, ap, ◌∙◌, subst, codes, append_assoc, append-nil, inl}
-use Rattle.std.proofs.lemmas.Bool.{and_parts, and_from, not-true, not_from_false}
+use Rattle.std.proofs.Common.{◌≡◌, ℕ, Bool, true, not, ◌||◌, ◌==◌, cond, List, [], ◌∷◌, ◌++◌, map, ℤ, ◌+◌, None, refl, sym, ap, ◌∙◌, subst, codes, append_assoc, append-nil, inl, arith}
+use Rattle.std.proofs.lemmas.Bool.{and_parts, and_from, not_from_false}
+use Rattle.std.proofs.lemmas.Bool.Decides.{nat_tests}
 use Rattle.std.proofs.lemmas.List.Folds.{list_all-append}
 use Rattle.std.proofs.lemmas.List.Splits.{slice_split-cons_yes, slice_split-cons_no}
-use Rattle.std.specs.List.{list_all, flat_map, filter, slice_split, onto_first, AllByRecursion}
+use Rattle.std.specs.List.{list_all, flat_map, filter, slice_split, AllByRecursion}
 use Rattle.std.specs.Option.{option_map}
 use Rattle.insn.specs.declared.instruction.Insn.{Insn}
 use Rattle.insn.specs.Instruction.{Fits, slots_of}
@@ -16,15 +17,11 @@ use Rattle.assembly.specs.TextNameLaws.{plain_name, short_operands}
 
 split_none : (p : ℕ → Bool) (xs : List ℕ) → list_all (λ x. not (p x)) xs ≡ true → slice_split p xs ≡ xs ∷ []
 split_none p [] h = refl
-split_none p (x ∷ xs) h =
-    let parts = and_parts (not (p x)) (list_all (λ y. not (p y)) xs) h in
-    slice_split-cons_no p x xs (not-true (p x) parts.0) ∙ ap (onto_first x) (split_none p xs parts.1)
+split_none p (x ∷ xs) h = let rest = split_none p xs in let one = slice_split-cons_no p x xs in grind (arith, nat_tests, h, rest, one)
 
 split_at : (p : ℕ → Bool) (xs : List ℕ) (y : ℕ) (ys : List ℕ) → list_all (λ x. not (p x)) xs ≡ true → p y ≡ true → slice_split p (xs ++ y ∷ ys) ≡ xs ∷ slice_split p ys
 split_at p [] y ys h e = slice_split-cons_yes p y ys e
-split_at p (x ∷ xs) y ys h e =
-    let parts = and_parts (not (p x)) (list_all (λ z. not (p z)) xs) h in
-    slice_split-cons_no p x (xs ++ y ∷ ys) (not-true (p x) parts.0) ∙ ap (onto_first x) (split_at p xs y ys parts.1 e)
+split_at p (x ∷ xs) y ys h e = let rest = split_at p xs y ys in let one = slice_split-cons_no p x (xs ++ y ∷ ys) in grind (arith, nat_tests, h, e, rest, one)
 
 -- ---- the words of a line
 
@@ -65,9 +62,7 @@ no_space word h = list_all-imp is_plain (λ c. not (is_space c)) (λ c k. not_fr
 
 before_comment-all : (text : List ℕ) → list_all (λ c. not (c == 59)) text ≡ true → before_comment text ≡ text
 before_comment-all [] h = refl
-before_comment-all (c ∷ text) h =
-    let parts = and_parts (not (c == 59)) (list_all (λ d. not (d == 59)) text) h in
-    ap (λ b. cond b [] (c ∷ before_comment text)) (not-true (c == 59) parts.0) ∙ ap (λ l. c ∷ l) (before_comment-all text parts.1)
+before_comment-all (c ∷ text) h = let rest = before_comment-all text in grind (arith, nat_tests, h, rest)
 
 split_words : (word : Word) (operands : List Operand) → PlainWord word → PlainOperands operands → slice_split is_space (word ++ behind operands) ≡ word ∷ words operands
 split_words word [] h hs = ap (slice_split is_space) (append-nil word) ∙ split_none is_space word (no_space word h)
@@ -92,18 +87,11 @@ words_in-line word operands h hs =
     ∙ keep word (words operands) h
     ∙ ap (λ ws. word ∷ ws) (keep_all operands hs)
 
-abbrev the_empty_name : Option Word
-the_empty_name = Some []
-
 -- a plain_code word ends with no colon
 labelled-plain_code : (word : Word) → list_all is_plain word ≡ true → labelled word ≡ None
 labelled-plain_code [] h = refl
-labelled-plain_code (c ∷ []) h =
-    let parts = and_parts (is_plain c) true h in
-    ap (λ (b : Bool). cond b the_empty_name None) (plain_code c parts.0).no_colon
-labelled-plain_code (c ∷ d ∷ more) h =
-    let parts = and_parts (is_plain c) (list_all is_plain (d ∷ more)) h in
-    ap (option_map (λ name. c ∷ name)) (labelled-plain_code (d ∷ more) parts.1)
+labelled-plain_code (c ∷ []) h = rw (plain_code c (and_parts (is_plain c) true h).0).no_colon refl
+labelled-plain_code (c ∷ d ∷ more) h = ap (option_map (λ name. c ∷ name)) (labelled-plain_code (d ∷ more) (and_parts (is_plain c) _ h).1)
 
 line_of-words : (word : Word) (more : List Word) → PlainWord word → line_of (word ∷ more) ≡ Statement (word ∷ more)
 line_of-words word [] h = ap (one_word_line word) (labelled-plain_code word h.bytes)
@@ -169,6 +157,3 @@ canonical_text_says p in_bounds fits =
       differ = subst AllDiffer (sym (ap names_in lines ∙ no_names p)) tt;
       said = subst (λ (ls : List Line). Says (labels_in 0 ls p) 0 ls p) (sym lines) (says_statements (labels_in 0 (statements p) p) 0 p);
     }
-
-pub says_by_bytes : (text : List ℕ) (p : List Insn) → text ≡ canonical_text p → IsProgram p → AllByRecursion Fits p → Text text p
-says_by_bytes text p e in_bounds fits = subst (λ (t : List ℕ). Text t p) (sym e) (canonical_text_says p in_bounds fits)

@@ -3,3 +3,4 @@ pub mod Passing
 pub mod Writing
 pub mod Runs
 pub mod Telling
+pub mod Names

@@ -1,9 +1,8 @@
 -- Numbers of a few bytes.
 use Rattle.std.proofs.Common.{◌≡◌, ℕ, suc, ◌+◌, ◌-◌, ◌*◌, ◌/◌, ◌%◌, ◌^◌, ◌<◌, ◌≤◌, List, [], ◌∷◌, ◌++◌, length, take, drop, set, length-drop, arith, refl, sym, ap, ◌∙◌, append_assoc}
+use Rattle.machine.proofs.Names.{take_more_set, length-take, low_bytes}
 use Rattle.std.proofs.Math.Pow.{pow_mono}
 use Rattle.std.proofs.lemmas.Nat.{pow-add}
-use Rattle.std.proofs.lemmas.List.{take_more_set, length-take}
-use Rattle.insn.specs.Memory.{low_bytes}
 
 -- seven bytes leave room for an eighth
 pub room_for_one_more : (k high : ℕ) → k ≤ 7 → high < 2 ^ (8 * k) → high < 2 ^ 56

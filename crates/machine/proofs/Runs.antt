@@ -1,15 +1,7 @@
 -- Where a run is, where the code keeps the rest of the program in place of a slot.
 use Rattle.std.proofs.Common.{◌≡◌, ℕ, ◌+◌, ◌-◌, ◌≤◌, ◌<◌, ℤ, List, [], ◌∷◌, length, take, drop, get_or, Some, None, refl, sym, ap, arith}
-use Rattle.insn.specs.declared.instruction.Insn.{Insn}
-use Rattle.insn.specs.declared.layout.Layout.{Layout}
-use Rattle.insn.specs.Instruction.{slots_of}
-use Rattle.insn.specs.Program.{begins_at, places, slot_count}
+use Rattle.machine.proofs.Names.{Insn, Layout, slots_of, begins_at, places, slot_count, State, Config, entry, Falls, Jumps, Exits, target, effect, IsStuckAt, Reaches, IsExit, IsStuck}
 use Rattle.insn.specs.SlotLaws.{slots_of_bounds}
-use Rattle.insn.specs.Values.{State, Config, entry}
-use Rattle.insn.specs.Effects.{Falls, Jumps, Exits}
-use Rattle.insn.specs.Jumps.{target}
-use Rattle.insn.specs.Outcomes.{effect}
-use Rattle.insn.specs.Step.{IsStuckAt, Reaches, IsExit, IsStuck}
 use Rattle.insn.specs.RunLaws.{StandsAt, begins_here, begins_nowhere, stands_behind, stands_further, stands_inside, target_along, first_rest, step_falls, step_jumps, stuck_effect, stuck_jump, exits_here, stuck_past, run_goes_on}
 
 -- n steps lead to this slot and state, and this is the rest of the program there

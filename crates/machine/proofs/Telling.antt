@@ -1,16 +1,8 @@
 -- A run whose steps are told, up to the one that comes next.
 use Rattle.std.proofs.Common.{◌≡◌, ℕ, zero, suc, ◌+◌, ◌-◌, ◌<◌, ◌≤◌, ℤ, List, [], ◌∷◌, ◌++◌, length, take, drop, get_or, Some, None, refl, sym, ap, ◌∙◌, arith, inl, inr, length-append}
+use Rattle.machine.proofs.Names.{Insn, Layout, slots_of, places, ◌>>=◌, State, Config, start, Falls, Jumps, Exits, target, effect, steps, Reaches, IsExit}
 use Rattle.std.proofs.lemmas.Bool.{cases_lt}
 use Rattle.std.specs.Prelude.{slice_get}
-use Rattle.insn.specs.declared.instruction.Insn.{Insn}
-use Rattle.insn.specs.declared.layout.Layout.{Layout}
-use Rattle.insn.specs.Instruction.{slots_of}
-use Rattle.insn.specs.Program.{places}
-use Rattle.insn.specs.Values.{◌>>=◌, State, Config, start}
-use Rattle.insn.specs.Effects.{Falls, Jumps, Exits}
-use Rattle.insn.specs.Jumps.{target}
-use Rattle.insn.specs.Outcomes.{effect}
-use Rattle.insn.specs.Step.{steps, Reaches, IsExit}
 use Rattle.machine.specs.declared.trace.Traced.{Traced}
 use Rattle.machine.specs.Trace.{AreSteps, traced_at, written_value}
 use Rattle.machine.proofs.Runs.{IsAt, at_entry, begins, exits, falls, jumps}

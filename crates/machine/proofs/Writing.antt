@@ -1,7 +1,6 @@
 -- What a write into a part of a list leaves.
 use Rattle.std.proofs.Common.{◌≡◌, ℕ, ◌+◌, ◌-◌, ◌≤◌, List, ◌++◌, length, take, drop, refl, sym, ap, ◌∙◌, arith}
-use Rattle.std.proofs.lemmas.List.{drop-drop}
-use Rattle.insn.specs.Memory.{low_bytes, written}
+use Rattle.machine.proofs.Names.{drop-drop, low_bytes, written}
 use borrow.Rule.Slice.PartMut.{mid_len, mid_of, put_mid}
 
 -- new items in the place of as many

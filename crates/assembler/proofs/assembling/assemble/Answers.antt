@@ -1,11 +1,6 @@
 use Rattle.std.proofs.Common.{rules, ◌≡◌, ◌==◌, ◌∙◌, sym, ap, map, IfErr, List, ℕ, Bor, subst}
-use Rattle.std.specs.List.{slice_split}
-use Rattle.insn.specs.Program.{IsProgram}
-use Rattle.assembly.specs.Text.{Line, lines_in, Text}
-use Rattle.assembler.specs.Faults.{FirstTextFault}
-use Rattle.assembler.specs.Sheets.{find_in, lines_of, IsSheet}
+use Rattle.assembler.proofs.Names.{slice_split, IsProgram, Line, lines_in, Text, FirstTextFault, find_in, lines_of, IsSheet, NoInstruction}
 use Rattle.assembler.proofs.Resolving.{is_text, unresolved_fault, only_err, no_instruction}
-use Rattle.assembler.specs.declared.fault.AsmFault.TheVariants.{NoInstruction}
 use Rattle.assembler.proofs.Refuted.{only_memory}
 use Rattle.assembler.proofs.assembling.assemble.Goals as goal
 

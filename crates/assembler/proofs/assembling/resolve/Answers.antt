@@ -1,7 +1,5 @@
 use Rattle.std.proofs.Common.{◌≡◌, ◌∙◌, sym, ap, arith, length, get_or, None, List}
-use Rattle.assembler.specs.declared.sheet.Place.{Place}
-use Rattle.assembler.specs.Sheets.{find_in}
-use Rattle.assembler.specs.SheetsParts.{resolution}
+use Rattle.assembler.proofs.Names.{Place, find_in, resolution}
 use Rattle.assembler.proofs.Resolving.{lost_place}
 use Rattle.assembler.proofs.assembling.resolve.Goals as goal
 

@@ -1,6 +1,5 @@
 use Rattle.std.proofs.Common.{◌≡◌, map, take, Some}
-use Rattle.assembler.specs.Sheets.{find_in}
-use Rattle.assembler.specs.SheetsParts.{resolution}
+use Rattle.assembler.proofs.Names.{find_in, resolution}
 use Rattle.assembler.proofs.assembling.resolve.Given as goal
 
 abbrev pub invariant-loop-place : goal.invariant-loop-place

@@ -1,8 +1,5 @@
 use Rattle.std.proofs.Common.{rules, ◌∙◌, sym, ap, FitsSigned, w16}
-use Rattle.std.specs.Option.{option_map, option_copied}
-use Rattle.std.proofs.lemmas.Int.{to_z-of_z}
-use Rattle.assembler.specs.declared.slot_number.SlotNumber.{SlotNumber}
-use Rattle.assembler.specs.Sheets.{find_in}
+use Rattle.assembler.proofs.Names.{option_map, option_copied, to_z-of_z, SlotNumber, find_in}
 use Rattle.assembler.proofs.Resolving.{resolved_label}
 use Rattle.assembler.proofs.assembling.resolved.Goals as goal
 

@@ -1,6 +1,5 @@
 use Rattle.std.proofs.Common.{rules, tests, ◌≡◌, FitsSigned, w16, w32, false}
-use Rattle.std.proofs.lemmas.Int.{to_z-of_z}
-use Rattle.assembly.specs.Text.{is_name}
+use Rattle.assembler.proofs.Names.{to_z-of_z, is_name}
 use Rattle.assembler.proofs.Numbers.{small_from_32}
 use Rattle.assembler.proofs.Jumps.{too_far}
 use Rattle.assembler.proofs.draft.jump_to.Goals as goal

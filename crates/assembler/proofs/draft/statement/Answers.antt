@@ -1,10 +1,5 @@
 use Rattle.std.proofs.Common.{rules, tests, ◌≡◌, List, ap, sym, ◌∙◌, subst, true, false}
-use Rattle.std.proofs.lemmas.Bool.{MatchBool-at_true, MatchBool-at_false}
-use Rattle.insn.specs.declared.instruction.Insn.{Insn}
-use Rattle.assembly.specs.Text.{Word}
-use Rattle.assembler.specs.declared.form.OperandKind.{OperandKind}
-use Rattle.assembler.specs.Forms.{kinds_of, HaveKinds}
-use Rattle.assembler.specs.Faults.{Anywhere, HasName, HasFormOf, SaysFitting}
+use Rattle.assembler.proofs.Names.{MatchBool-at_true, MatchBool-at_false, Insn, Word, kinds_of, HaveKinds, Anywhere, HasName, HasFormOf, SaysFitting}
 use Rattle.assembler.proofs.Statements.{no_name, has_name, no_form, has_form, no_fitting, seen, nothing_named, length_seen, kinds_length}
 use Rattle.assembler.proofs.draft.statement.Goals as goal
 
@@ -23,8 +18,7 @@ returns-then-not-have_form c =
     let ws = seen c.in-Some.operands.now in
     let m = c.in-Some-find.mnemonic in
     let t : c.have_form.result ≡ false = search (rules, tests) in
-    let none = MatchBool-at_false (HaveKinds c.kinds.result.now ws) (HaveKinds c.kinds.result.now ws → ⊥) t c.have_form.ensures in
-    let bad = subst (λ (ks : List OperandKind). HaveKinds ks ws → ⊥) c.kinds.ensures none in
+    let bad = MatchBool-at_false (HaveKinds (kinds_of m) ws) (HaveKinds (kinds_of m) ws → ⊥) t (rw c.kinds.ensures at c.have_form.ensures) in
     subst (λ (v : List Word). ((i : Insn) × HasName i v) × ((i : Insn) → HasFormOf i v → ⊥)) (sym e)
     (has_name w ws m c.in-Some-find.ensures.found, no_form w ws m c.in-Some-find.ensures.found bad)
 
@@ -32,8 +26,9 @@ pub drafted-requires : goal.drafted-requires
 drafted-requires c =
     let ws = seen c.in-Some.operands.now in
     let t : c.have_form.result ≡ true = search (rules, tests) in
-    let some = MatchBool-at_true (HaveKinds c.kinds.result.now ws) (HaveKinds c.kinds.result.now ws → ⊥) t c.have_form.ensures in
-    sym (length_seen c.in-Some.operands.now) ∙ kinds_length (kinds_of c.in-Some-find.mnemonic) ws (subst (λ (ks : List OperandKind). HaveKinds ks ws) c.kinds.ensures some)
+    let m = c.in-Some-find.mnemonic in
+    let some = MatchBool-at_true (HaveKinds (kinds_of m) ws) (HaveKinds (kinds_of m) ws → ⊥) t (rw c.kinds.ensures at c.have_form.ensures) in
+    sym (length_seen c.in-Some.operands.now) ∙ kinds_length (kinds_of m) ws some
 
 pub returns-in-None : goal.returns-in-None
 returns-in-None c =
@@ -42,7 +37,6 @@ returns-in-None c =
     let ws = seen c.in-Some.operands.now in
     let m = c.in-Some-find.mnemonic in
     let t : c.have_form.result ≡ true = search (rules, tests) in
-    let some = MatchBool-at_true (HaveKinds c.kinds.result.now ws) (HaveKinds c.kinds.result.now ws → ⊥) t c.have_form.ensures in
-    let kinds = subst (λ (ks : List OperandKind). HaveKinds ks ws) c.kinds.ensures some in
+    let kinds = MatchBool-at_true (HaveKinds (kinds_of m) ws) (HaveKinds (kinds_of m) ws → ⊥) t (rw c.kinds.ensures at c.have_form.ensures) in
     subst (λ (v : List Word). ((i : Insn) × HasFormOf i v) × ((i : Insn) → SaysFitting Anywhere i v → ⊥)) (sym e)
     (has_form w ws m c.in-Some-find.ensures.found kinds, no_fitting w ws m c.in-Some-find.ensures.found c.in-None.ensures)

@@ -1,8 +1,6 @@
+use Rattle.assembler.proofs.Names.{YieldsList-from_filter, map_from_collect, YieldsList-from_slice_split, before_comment, is_empty}
 use Rattle.std.specs.Slice.Iter as slice
 use Rattle.std.proofs.Common.{◌==◌, ◌||◌, not, rules, ◌∙◌, ap}
-use Rattle.std.proofs.lemmas.Iterator.Consumers.{YieldsList-from_filter, map_from_collect}
-use Rattle.std.proofs.lemmas.Iterator.Splits.{YieldsList-from_slice_split}
-use Rattle.assembly.specs.Text.{before_comment, is_empty}
 use Rattle.assembler.proofs.Lines.{empty_by_length}
 use Rattle.assembler.proofs.line.words.Goals as goal
 

@@ -1,8 +1,5 @@
 use Rattle.std.proofs.Common.{rules, tests, w64, ◌∷◌, true, subst, sym, ◌∙◌, ℤ, Some, None, ◌≡◌, ◌≤◌, ◌^◌, inl, inr, false, arith, pos}
-use Rattle.std.specs.Fmt.{signed_decimal}
-use Rattle.std.specs.Result.{result_ok}
-use Rattle.assembly.specs.Text.{is_positive}
-use Rattle.assembler.specs.Operands.{IsSmall, decimal_value}
+use Rattle.assembler.proofs.Names.{signed_decimal, result_ok, is_positive, IsSmall, decimal_value}
 use Rattle.assembler.proofs.Numbers.{no_negative, negative_word, if_none, not_below, not_converted, converted, negated, below}
 use Rattle.assembler.proofs.operand.negative.Goals as goal
 

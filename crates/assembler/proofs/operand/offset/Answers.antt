@@ -1,11 +1,7 @@
-use Rattle.std.proofs.Common.{◌≡◌, sym, ◌∙◌, None, w16}
-use Rattle.std.specs.Result.{result_ok}
-use Rattle.assembler.proofs.Numbers.{other, none_given, small_from_16, through_64}
+use Rattle.std.proofs.Common.{w16}
+use Rattle.assembler.proofs.Numbers.{other, small_from_16, through_64}
 use Rattle.assembler.proofs.operand.offset.Goals as goal
 
 pub returns-clause-none : goal.returns-clause-none
 returns-clause-none c =
-    let y = c.in_ok-number.ensures.some in
-    none_given c.ok.result
-    (λ e. let none : result_ok c.try_from.result ≡ None = sym c.ok.ensures.value ∙ e in
-    other w16 small_from_16 c.try_from.result c.args.word.now _ c.in_ok-number.field-0 (through_64 c.in_ok-number.field-0 y.1) y.0 y.1 c.try_from.ensures none)
+    let y = c.in_ok-number.ensures.some in other w16 small_from_16 c.try_from.result c.ok.result c.args.word.now _ c.in_ok-number.field-0 (through_64 c.in_ok-number.field-0 y.1) y c.try_from.ensures c.ok.ensures.value

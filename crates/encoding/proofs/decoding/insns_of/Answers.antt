@@ -1,33 +1,24 @@
-use Rattle.std.proofs.Common.{◌≡◌, ℕ, ◌+◌, ◌-◌, ◌*◌, ◌≤◌, List, [], ◌∷◌, ◌++◌, drop, length, sym, ap, ◌∙◌, arith}
-use Rattle.insn.specs.declared.instruction.Insn.{Insn}
-use Rattle.insn.specs.Program.{slot_count}
-use Rattle.insn.specs.Instruction.{Fits}
-use Rattle.encoding.specs.Spelling.{spelling}
-use Rattle.encoding.proofs.Spellings.{first_fault, goes_on, slot_count-push, AllByRecursion-push}
+use Rattle.std.proofs.Common.{◌≤◌, ◌∙◌, arith}
+use Rattle.encoding.proofs.Names.{sum_by_push, slots_of, Fits}
+use Rattle.encoding.proofs.Spellings.{cut_off, first_fault, goes_on, AllByRecursion-append}
 use Rattle.encoding.proofs.Reading.{named_fault}
 use Rattle.encoding.proofs.decoding.insns_of.Goals as goal
 
 pub returns-in-Err-clause-fault : goal.returns-in-Err-clause-fault
 returns-in-Err-clause-fault c =
-    rw c.at.ensures
-    (first_fault c.args.bytes.now c.loop-first.rest.now c.in-Some.behind.now c.loop-first.insns.items c.from_bytes.result c.loop-first.at c.in-Err.fault c.requires c.loop-first.invariant.fit c.from_bytes.ensures.fields c.loop-first.invariant.slots c.loop-first.invariant.so_far (c.from_bytes.ensures.bytes ∙ c.in-Some.ensures.cases.0) c.in-Some.ensures.cases.1
-    (named_fault c.from_bytes.result c.in-Some.behind.now c.in-Err.fault c.from_bytes.ensures.fields c.in-Err.ensures.fault))
+    let here = c.from_bytes.ensures in
+    let cut = cut_off _ _ _ _ c.from_bytes.result c.loop-first.invariant.so_far (here.bytes ∙ c.in-Some.ensures.cases.0) c.in-Some.ensures.cases.1 in
+    rw c.at.ensures (first_fault _ _ c.loop-first.insns.items _ c.loop-first.at c.in-Err.fault c.requires c.loop-first.invariant.fit here.fields c.loop-first.invariant.slots cut (named_fault _ _ _ here.fields c.in-Err.ensures))
 
 pub loop-first-preserved : goal.loop-first-preserved
 loop-first-preserved c =
+    let cut = cut_off _ _ _ _ c.from_bytes.result c.loop-first.invariant.so_far (c.from_bytes.ensures.bytes ∙ c.in-Some.ensures.cases.0) c.in-Some.ensures.cases.1 in
     let pushed = c.in_ok-push.ensures.items in
-    let read = goes_on c.args.bytes.now c.loop-first.rest.now c.in-Some.behind.now c.loop-first.insns.items c.in-Ok.insn c.from_bytes.result c.loop-first.invariant.so_far (c.from_bytes.ensures.bytes ∙ c.in-Some.ensures.cases.0) c.in-Some.ensures.cases.1 c.in-Ok.ensures.found in
     let count = c.slots-count.ensures.value in
-    let back = c.split_at.ensures.back_len in
-    let whole : length c.in-Some.behind.now + 8 ≡ length c.loop-first.rest.now = c.in-Some.ensures.cases.2 in
-    let before = c.loop-first.invariant.room in
     let one : 1 ≤ c.slots-count.result = c.slots-count.ensures.one_or_two.0 in
     record {
-      so_far = read ∙ ap (λ (k : ℕ). spelling (c.loop-first.insns.items ++ c.in-Ok.insn ∷ []) ++ drop (8 * (k - 1)) c.in-Some.behind.now) (sym count)
-          ∙ ap (λ (l : List ℕ). spelling (c.loop-first.insns.items ++ c.in-Ok.insn ∷ []) ++ l) (sym c.split_at.ensures.back)
-          ∙ ap (λ (p : List Insn). spelling p ++ c.split_at.result.1.now) (sym pushed);
-      fit = rw pushed (AllByRecursion-push Fits c.loop-first.insns.items c.in-Ok.insn c.loop-first.invariant.fit c.in-Ok.ensures.found.fit);
-      slots = ap (λ (k : ℕ). k + c.slots-count.result) c.loop-first.invariant.slots ∙ ap (λ (k : ℕ). slot_count c.loop-first.insns.items + k) count
-          ∙ sym (slot_count-push c.loop-first.insns.items c.in-Ok.insn) ∙ ap slot_count (sym pushed);
-      room = omega arith;
+      so_far = rw (pushed, c.split_at.ensures.back, count) (goes_on _ _ c.loop-first.insns.items c.in-Ok.insn _ cut c.in-Ok.ensures);
+      fit = rw pushed (AllByRecursion-append Fits _ _ c.loop-first.invariant.fit (c.in-Ok.ensures.fit, tt));
+      slots = rw pushed (omega (arith, sum_by_push slots_of c.loop-first.insns.items c.in-Ok.insn, c.loop-first.invariant.slots));
+      room = omega (arith, c.split_at.ensures.back_len, c.in-Some.ensures.cases.2, c.loop-first.invariant.room);
     }

@@ -1,8 +1,5 @@
 use Rattle.std.proofs.Common.{◌≡◌, ◌+◌, ◌*◌, ◌++◌, length}
-use Rattle.std.specs.List.{AllByRecursion}
-use Rattle.insn.specs.Program.{slot_count}
-use Rattle.insn.specs.Instruction.{Fits}
-use Rattle.encoding.specs.Spelling.{spelling}
+use Rattle.encoding.proofs.Names.{AllByRecursion, slot_count, Fits, spelling}
 use Rattle.encoding.proofs.decoding.insns_of.Given as goal
 
 abbrev pub invariant-loop-first : goal.invariant-loop-first

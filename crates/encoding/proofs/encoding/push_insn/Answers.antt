@@ -1,6 +1,5 @@
 use Rattle.std.proofs.Common.{◌≡◌, ℕ, List, [], ◌∷◌, ◌++◌, ap, sym, ◌∙◌, append_assoc, append-nil}
-use Rattle.encoding.specs.declared.slot.Slot.{Slot}
-use Rattle.encoding.specs.Spelling.{slot_bytes, slots}
+use Rattle.encoding.proofs.Names.{Slot, slot_bytes, slots}
 use Rattle.encoding.proofs.encoding.push_insn.Goals as goal
 
 -- bytes behind others, and then more behind them

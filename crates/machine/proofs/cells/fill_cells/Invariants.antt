@@ -1,6 +1,5 @@
 use Rattle.std.proofs.Common.{◌≡◌, ◌-◌, ◌++◌, length, map, take}
-use Rattle.insn.specs.declared.state.Cell.TheVariants.{Byte}
-use Rattle.insn.specs.Memory.{low_bytes}
+use Rattle.machine.proofs.Names.{Byte, low_bytes}
 use Rattle.machine.proofs.cells.fill_cells.Given as goal
 
 -- what is written and what is left are all

@@ -1,7 +1,5 @@
 use Rattle.std.proofs.Common.{◌≡◌, ◌+◌, ◌-◌, ◌∙◌, ap, Bor, List, take, drop, length, ℕ, arith, rules, FitsSigned, w32, get_or}
-use Rattle.std.proofs.lemmas.Int.{to_z-of_z}
-use Rattle.insn.specs.declared.instruction.Insn.{Insn}
-use Rattle.insn.specs.Instruction.{slots_of}
+use Rattle.machine.proofs.Names.{to_z-of_z, Insn, slots_of}
 use Rattle.machine.proofs.Runs.{at_entry, inside, stuck_here, stuck_behind, jumps_nowhere, exits, falls, jumps}
 use Rattle.machine.proofs.run.run_checked.Goals as goal
 use Rattle.machine.proofs.run.run_checked.Goals.{in-Next, in-Jump+in-Some}

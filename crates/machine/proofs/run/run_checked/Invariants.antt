@@ -1,6 +1,5 @@
 use Rattle.std.proofs.Common.{length}
-use Rattle.insn.specs.Program.{places}
-use Rattle.machine.specs.Frame.{state_of}
+use Rattle.machine.proofs.Names.{places, state_of}
 use Rattle.machine.proofs.Runs.{IsAt}
 use Rattle.machine.proofs.run.run_checked.Given as goal
 

@@ -1,6 +1,5 @@
 use Rattle.std.proofs.Common.{length}
-use Rattle.insn.specs.Program.{places}
-use Rattle.machine.specs.Frame.{state_of}
+use Rattle.machine.proofs.Names.{places, state_of}
 use Rattle.machine.proofs.Telling.{IsToldAt}
 use Rattle.machine.proofs.trace.run_traced.Given as goal
 

@@ -1,11 +1,6 @@
 use Rattle.std.proofs.Common.{◌≡◌, ℕ, ◌+◌, ◌-◌, ◌≤◌, List, length, map, arith, rules, ap, ◌∙◌}
-use Rattle.std.proofs.lemmas.List.{length-map}
+use Rattle.machine.proofs.Names.{length-map, Byte, size_bytes, low_bytes, record_size, STACK_SIZE, state_of}
 use Rattle.insn.specs.declared.state.Cell.{Cell}
-use Rattle.insn.specs.declared.state.Cell.TheVariants.{Byte}
-use Rattle.insn.specs.Instruction.{size_bytes}
-use Rattle.insn.specs.Memory.{low_bytes}
-use Rattle.insn.specs.Values.{record_size, STACK_SIZE}
-use Rattle.machine.specs.Frame.{state_of}
 use Rattle.insn.specs.MemoryLaws.{length-low_bytes}
 use Rattle.machine.proofs.Writing.{low_in_part, part_written}
 use Rattle.machine.proofs.frame.Frame.put_number.Goals as goal

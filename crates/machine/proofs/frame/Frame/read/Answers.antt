@@ -1,15 +1,9 @@
 use Rattle.std.proofs.Common.{◌≡◌, ◌∙◌, ℕ, ◌+◌, map, take, drop, Option, Some, arith, ap, sym}
+use Rattle.machine.proofs.Names.{to_z-of_z, Byte, size_bytes, ◌>>=◌, pointer_at, value_in, access_place, loaded, passed, value_at, state_of}
 use Rattle.std.specs.List.{drop-map, take-map}
-use Rattle.std.proofs.lemmas.Int.{to_z-of_z}
 use Rattle.insn.specs.declared.state.Pointer.{Pointer}
 use Rattle.insn.specs.declared.state.Value.TheVariants.{Address}
-use Rattle.insn.specs.declared.state.Cell.TheVariants.{Byte}
-use Rattle.insn.specs.Instruction.{size_bytes}
-use Rattle.insn.specs.Values.{◌>>=◌, at as pointer_at}
-use Rattle.insn.specs.Memory.{value_in}
-use Rattle.insn.specs.Outcomes.{access_place, loaded, passed, value_at}
 use Rattle.insn.specs.OutcomeLaws.{passed_then, passed_value}
-use Rattle.machine.specs.Frame.{state_of}
 use Rattle.machine.proofs.Writing.{same_part}
 use Rattle.machine.proofs.frame.Frame.read.Goals as goal
 
