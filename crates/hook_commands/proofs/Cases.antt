@@ -1,5 +1,5 @@
 -- What is told of some cases.
-use Rattle.std.proofs.Common.{◌≡◌, ℕ, ◌+◌, ◌<◌, ◌++◌, List, [], ◌∷◌, Box, Global, map, refl, sym, ap, ◌∙◌, arith, get_or, take, length, subst}
+use Rattle.std.proofs.Common.{◌≡◌, ℕ, ◌+◌, ◌<◌, ◌++◌, List, [], ◌∷◌, Box, Global, map, refl, sym, ap, ◌∙◌, get_or, take, length}
 use Rattle.std.specs.Box.{box_value}
 use Rattle.std.proofs.lemmas.List.{map-append, take_more}
 use Rattle.insn.specs.declared.instruction.Insn.{Insn}

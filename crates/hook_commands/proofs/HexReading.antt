@@ -1,10 +1,9 @@
 -- A text of hex is read from its front, a blank or a pair of digits at a time.
-use Rattle.std.proofs.Common.{◌≡◌, ℕ, ◌+◌, ◌*◌, List, [], ◌∷◌, ◌++◌, inl, inr, Option, Some, None, Result, Ok, MatchResult, slice_index_or, refl, sym, ap, ◌∙◌, subst, append_assoc, append-nil, length, arith}
-use Rattle.std.specs.List.{AllByRecursion}
+use Rattle.std.proofs.Common.{◌≡◌, ℕ, ◌+◌, ◌*◌, List, [], ◌∷◌, ◌++◌, inl, inr, Option, Some, None, Result, Ok, MatchResult, slice_index_or, refl, sym, ap, ◌∙◌, subst, append_assoc, append-nil}
 use Rattle.std.specs.Option.{option_and_then, option_map}
 use Rattle.hex.specs.Hex.{decode_pairs, decode_sized, hex_digit_value, digit_or_error, ◌>>=◌}
 use Rattle.hex.specs.declared.error.FromHexError.{FromHexError}
-use Rattle.hook_commands.specs.HexText.{byte_of, IsBlank, IsHexOf, IsNoHex}
+use Rattle.hook_commands.specs.HexText.{byte_of, IsBlank, IsHexOf, End, Blank, Pair, IsNoHex}
 
 -- ---- one byte
 
@@ -31,64 +30,24 @@ no_digit c low byte (inr e) h = let at_feed : byte_of 10 low ≡ Some byte = sub
 
 -- ---- the front of a text
 
-blank_before : (c : ℕ) (after more : List ℕ) → IsBlank c → IsHexOf after more → IsHexOf (c ∷ after) more
-blank_before c after [] is_blank h = (is_blank, h)
-blank_before c after (byte ∷ more) is_blank h = let first = h.1 in (
-  h.0,
-  record {
-    blanks = c ∷ first.blanks;
-    high = first.high;
-    low = first.low;
-    blank = (is_blank, first.blank);
-    digits = first.digits;
-    whole = ap (λ t. c ∷ t) first.whole;
-  },
-  h.2,
-)
-
-pair_before : (high low byte : ℕ) (after more : List ℕ) → byte_of high low ≡ Some byte → IsHexOf after more → IsHexOf (high ∷ low ∷ after) (byte ∷ more)
-pair_before high low byte after more digits h =
-    (after, record { blanks = []; high = high; low = low; blank = tt; digits = digits; whole = refl }, h)
-
--- what begins with a blank goes on as hex of the same bytes
 behind_blank : (c : ℕ) (after more : List ℕ) → IsBlank c → IsHexOf (c ∷ after) more → IsHexOf after more
-behind_blank c after [] is_blank h = h.1
-behind_blank c after (byte ∷ more) is_blank h = let first = h.1 in by_blanks first.blanks first.high first.low h.0 first.blank first.digits first.whole h.2
-  where
-    by_blanks : (blanks : List ℕ) (high low : ℕ) (rest : List ℕ) → AllByRecursion IsBlank blanks → byte_of high low ≡ Some byte
-        → c ∷ after ≡ blanks ++ (high ∷ low ∷ rest) → IsHexOf rest more → IsHexOf after (byte ∷ more)
-    by_blanks [] high low rest blank digits whole later = let same : high ≡ c = cc in absurd (no_digit c low byte is_blank (subst (λ x. byte_of x low ≡ Some byte) same digits))
-    by_blanks (b ∷ blanks) high low rest blank digits whole later =
-        (rest, record { blanks = blanks; high = high; low = low; blank = blank.1; digits = digits; whole = cc }, later)
+behind_blank c after more is_blank (Blank b h) = h
+behind_blank c after more is_blank (Pair {low = low} {byte = byte} digits h) = absurd (no_digit c low byte is_blank digits)
 
--- what begins with something else than a blank begins with a byte's two digits
-pub record IsPairFirst (c : ℕ) (after more : List ℕ) : Type 0 where
-  pub low : ℕ
-  pub byte : ℕ
-  pub rest : List ℕ
-  pub later : List ℕ
-  pub behind : after ≡ low ∷ rest
-  pub digits : byte_of c low ≡ Some byte
-  pub bytes : more ≡ byte ∷ later
-  pub goes_on : IsHexOf rest later
+behind_pair : (c d byte : ℕ) (behind more : List ℕ) → (IsBlank c → ⊥) → byte_of c d ≡ Some byte → IsHexOf (c ∷ d ∷ behind) more
+    → (later : List ℕ) × (more ≡ byte ∷ later) × IsHexOf behind later
+behind_pair c d byte behind more no_blank digits (Blank b h) = absurd (no_blank b)
+behind_pair c d byte behind more no_blank digits (Pair {byte = first} {bytes = later} found h) = let same : first ≡ byte = cc in (later, ap (λ x. x ∷ later) same, h)
 
-pair_first : (c : ℕ) (after more : List ℕ) → (IsBlank c → ⊥) → IsHexOf (c ∷ after) more → IsPairFirst c after more
-pair_first c after [] no_blank h = absurd (no_blank h.0)
-pair_first c after (byte ∷ more) no_blank h = let first = h.1 in by_blanks first.blanks first.high first.low h.0 first.blank first.digits first.whole h.2
-  where
-    by_blanks : (blanks : List ℕ) (high low : ℕ) (rest : List ℕ) → AllByRecursion IsBlank blanks → byte_of high low ≡ Some byte
-        → c ∷ after ≡ blanks ++ (high ∷ low ∷ rest) → IsHexOf rest more → IsPairFirst c after (byte ∷ more)
-    by_blanks [] high low rest blank digits whole later = let same : high ≡ c = cc in record {
-      low = low;
-      byte = byte;
-      rest = rest;
-      later = more;
-      behind = cc;
-      digits = subst (λ x. byte_of x low ≡ Some byte) same digits;
-      bytes = refl;
-      goes_on = later;
-    }
-    by_blanks (b ∷ blanks) high low rest blank digits whole later = let same : b ≡ c = cc in absurd (no_blank (subst IsBlank same blank.0))
+nothing_more : (more : List ℕ) → IsHexOf [] more → more ≡ []
+nothing_more more End = refl
+
+no_digits : (c d : ℕ) (behind more : List ℕ) → (IsBlank c → ⊥) → None ≡ byte_of c d → IsHexOf (c ∷ d ∷ behind) more → ⊥
+no_digits c d behind more no_blank none (Blank b h) = no_blank b
+no_digits c d behind more no_blank none (Pair digits h) = cc
+
+one_digit : (c : ℕ) (more : List ℕ) → (IsBlank c → ⊥) → IsHexOf (c ∷ []) more → ⊥
+one_digit c more no_blank (Blank b h) = no_blank b
 
 -- ---- a text that is read so far
 
@@ -100,65 +59,31 @@ pub record IsRead (text done rest : List ℕ) : Type 0 where
 pub nothing_read : (text : List ℕ) → IsRead text [] text
 nothing_read text = record { sound = λ more h. h; whole = λ bytes h. (bytes, refl, h) }
 
-pub blank_read : (text done rest : List ℕ) (c : ℕ) (after : List ℕ) → rest ≡ c ∷ after → IsBlank c → IsRead text done rest → IsRead text done after
-blank_read text done rest c after front is_blank so_far =
-    let read : IsRead text done (c ∷ after) = subst (IsRead text done) front so_far in
-    record {
-      sound = λ more h. read.sound more (blank_before c after more is_blank h);
-      whole = λ bytes h. let left = read.whole bytes h in (left.0, left.1, behind_blank c after left.0 is_blank left.2);
-    }
+module _ (text done : List ℕ) where
+  pub blank_read : (c : ℕ) (after : List ℕ) → IsBlank c → IsRead text done (c ∷ after) → IsRead text done after
+  blank_read c after is_blank read = record {
+    sound = λ more h. read.sound more (Blank is_blank h);
+    whole = λ bytes h. let left = read.whole bytes h in (left.0, left.1, behind_blank c after left.0 is_blank left.2);
+  }
 
-pub pair_read : (text done rest : List ℕ) (c : ℕ) (after : List ℕ) (d : ℕ) (behind : List ℕ) (byte : ℕ) → rest ≡ c ∷ after → after ≡ d ∷ behind
-    → (IsBlank c → ⊥) → Some byte ≡ byte_of c d → IsRead text done rest → IsRead text (done ++ byte ∷ []) behind
-pair_read text done rest c after d behind byte front next no_blank digits so_far =
-    let read : IsRead text done (c ∷ d ∷ behind) = subst (IsRead text done) (front ∙ ap (λ l. c ∷ l) next) so_far in
-    record {
-      sound = λ more h. subst (IsHexOf text) (sym (append_assoc done (byte ∷ []) more)) (read.sound (byte ∷ more) (pair_before c d byte behind more (sym digits) h));
-      whole = λ bytes h.
-          let left = read.whole bytes h in
-          let first = pair_first c (d ∷ behind) left.0 no_blank left.2 in
-          let same_low : first.low ≡ d = let e = first.behind in cc in
-          let same_rest : first.rest ≡ behind = let e = first.behind in cc in
-          let read_byte : byte_of c d ≡ Some first.byte = subst (λ x. byte_of c x ≡ Some first.byte) same_low first.digits in
-          let same_byte : first.byte ≡ byte = cc in (
-            first.later,
-            left.1 ∙ ap (λ l. done ++ l) (first.bytes ∙ ap (λ b. b ∷ first.later) same_byte) ∙ sym (append_assoc done (byte ∷ []) first.later),
-            subst (λ l. IsHexOf l first.later) same_rest first.goes_on,
-          );
-    }
+  pub pair_read : (c d byte : ℕ) (behind : List ℕ) → (IsBlank c → ⊥) → byte_of c d ≡ Some byte → IsRead text done (c ∷ d ∷ behind)
+      → IsRead text (done ++ byte ∷ []) behind
+  pair_read c d byte behind no_blank digits read = record {
+    sound = λ more h. rw append_assoc (read.sound (byte ∷ more) (Pair digits h));
+    whole = λ bytes h.
+        let left = read.whole bytes h in
+        let first = behind_pair c d byte behind left.0 no_blank digits left.2 in
+        (first.0, rw append_assoc (left.1 ∙ ap (λ l. done ++ l) first.1), first.2);
+  }
 
-pub all_read : (text done rest : List ℕ) → length rest ≡ 0 → IsRead text done rest → IsHexOf text done
-all_read text done [] none read = subst (IsHexOf text) (append-nil done) (read.sound [] tt)
-all_read text done (c ∷ rest) none read = absurd (omega arith)
+  pub all_read : IsRead text done [] → IsHexOf text done
+  all_read read = rw (append-nil done) at (read.sound [] End)
 
-pub only_read : (text done rest : List ℕ) → length rest ≡ 0 → IsRead text done rest → (other : List ℕ) → IsHexOf text other → other ≡ done
-only_read text done [] none read other h = let left = read.whole other h in left.1 ∙ nothing_more left.0 left.2
-  where
-    nothing_more : (more : List ℕ) → IsHexOf [] more → done ++ more ≡ done
-    nothing_more [] end = append-nil done
-    nothing_more (byte ∷ more) end = absurd (no_front end.1.blanks end.1.whole)
-      where
-        no_front : (blanks : List ℕ) → [] ≡ blanks ++ (end.1.high ∷ end.1.low ∷ end.0) → ⊥
-        no_front [] e = cc
-        no_front (b ∷ blanks) e = cc
-only_read text done (c ∷ rest) none read other h = absurd (omega arith)
+  pub only_read : IsRead text done [] → (other : List ℕ) → IsHexOf text other → other ≡ done
+  only_read read other h = let left = read.whole other h in left.1 ∙ ap (λ l. done ++ l) (nothing_more left.0 left.2) ∙ append-nil done
 
--- a digit that stands alone
-pub odd_digit : (text done rest : List ℕ) (c : ℕ) (after : List ℕ) → rest ≡ c ∷ after → length after ≡ 0 → (IsBlank c → ⊥)
-    → IsRead text done rest → IsNoHex text
-odd_digit text done rest c [] front none no_blank read bytes h =
-    let left = read.whole bytes h in
-    let first = pair_first c [] left.0 no_blank (subst (λ l. IsHexOf l left.0) front left.2) in
-    let e = first.behind in
-    cc
-odd_digit text done rest c (d ∷ after) front none no_blank read bytes h = absurd (omega arith)
+  pub odd_digit : (c : ℕ) → (IsBlank c → ⊥) → IsRead text done (c ∷ []) → IsNoHex text
+  odd_digit c no_blank read bytes h = let left = read.whole bytes h in one_digit c left.0 no_blank left.2
 
--- two characters that are no byte's digits
-pub no_pair : (text done rest : List ℕ) (c : ℕ) (after : List ℕ) (d : ℕ) (behind : List ℕ) → rest ≡ c ∷ after → after ≡ d ∷ behind
-    → (IsBlank c → ⊥) → None ≡ byte_of c d → IsRead text done rest → IsNoHex text
-no_pair text done rest c after d behind front next no_blank none read bytes h =
-    let left = read.whole bytes h in
-    let first = pair_first c (d ∷ behind) left.0 no_blank (subst (λ l. IsHexOf l left.0) (front ∙ ap (λ l. c ∷ l) next) left.2) in
-    let same_low : first.low ≡ d = let e = first.behind in cc in
-    let e = none ∙ subst (λ x. byte_of c x ≡ Some first.byte) same_low first.digits in
-    cc
+  pub no_pair : (c d : ℕ) (behind : List ℕ) → (IsBlank c → ⊥) → None ≡ byte_of c d → IsRead text done (c ∷ d ∷ behind) → IsNoHex text
+  no_pair c d behind no_blank none read bytes h = let left = read.whole bytes h in no_digits c d behind left.0 no_blank none left.2

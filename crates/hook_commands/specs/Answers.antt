@@ -14,11 +14,10 @@ use Rattle.hook_commands.specs.declared.judge.JudgeFault.{JudgeFault}
 use Rattle.hook_commands.specs.declared.judge.JudgeFault.TheVariants as judge
 use Rattle.hook_commands.specs.declared.fault.HookCommandFault.{HookCommandFault}
 use Rattle.hook_commands.specs.declared.fault.HookCommandFault.TheVariants.{BadArguments, BadRecord, Insn, Verify, OutOfMemory}
-use Rattle.hook_commands.specs.Assembly.{IsAssembledAs}
-use Rattle.hook_commands.specs.File.{File, IsCheckedOn, IsListedAs}
+use Rattle.hook_commands.specs.Asking.{IsAskedAs}
+use Rattle.hook_commands.specs.File.{File, IsAssembledAs, IsCheckedOn, IsExplainedOn, IsListedAs, IsListedWithSlotsAs}
 use Rattle.hook_commands.specs.HexText.{IsHexOf, IsNoHex}
 use Rattle.hook_commands.specs.Judge.{IsJudged, asked_in}
-use Rattle.hook_commands.specs.Telling.{IsAskedAs, IsExplainedOn, IsListedWithSlotsAs}
 
 -- a hook's code and a record, both as hex text, are judged so
 pub record IsJudgedText (code_hex record_hex : List ℕ) (judged : Result Judged JudgeFault) : Type 0 where
@@ -73,11 +72,9 @@ IsHookAnsweredBy (commands.Ask layout words) file outcome = IsAskedAs layout wor
 
 -- the path of the file that a command is about
 abbrev pub file_of_hook_command : HookCommand → Option (List ℕ)
-file_of_hook_command (commands.Run code_hex record_hex) = None
-file_of_hook_command (commands.Trace code_hex record_hex) = None
 file_of_hook_command (commands.Assemble path) = Some path.now
 file_of_hook_command (commands.List path) = Some path.now
 file_of_hook_command (commands.ListSlots path) = Some path.now
 file_of_hook_command (commands.Check layout path) = Some path.now
 file_of_hook_command (commands.Why layout path) = Some path.now
-file_of_hook_command (commands.Ask layout words) = None
+file_of_hook_command command = None

@@ -1,5 +1,5 @@
 -- An ask that is told by a few numbers, and its record as hex.
-use Rattle.std.specs.Prelude.{◌≡◌, ◌<◌, ℕ, ◌^◌, List, Some}
+use Rattle.std.specs.Prelude.{◌≡◌, ◌<◌, ℕ, ◌^◌, List, Some, ⊤, Result, Ok, Err}
 use Rattle.std.specs.Str.Parse.{IsNumeral, digits_value}
 use Rattle.hex.specs.Hex.{encode_lower}
 use Rattle.insn.specs.declared.layout.Layout.{Layout}
@@ -7,6 +7,11 @@ use Rattle.insn.specs.declared.layout.Layout.TheVariants.{V1, V2}
 use Rattle.hook_record.specs.declared.Ask.{Ask}
 use Rattle.hook_record.specs.Record.{kind_of, record_v1, record_v2}
 use Rattle.hook_commands.specs.declared.asking.AskWords.{AskWords}
+use Rattle.std.specs.String.{string_bytes}
+use Rattle.hook_commands.specs.declared.answer.HookAnswer.{HookAnswer}
+use Rattle.hook_commands.specs.declared.answer.HookAnswer.TheVariants as answers
+use Rattle.hook_commands.specs.declared.fault.HookCommandFault.{HookCommandFault}
+use Rattle.hook_commands.specs.declared.fault.HookCommandFault.TheVariants as faults
 
 -- a text is one decimal digit or more, for a number below a limit
 pub record IsNumber (limit : ℕ) (text : List ℕ) (n : ℕ) : Type 0 where
@@ -31,10 +36,15 @@ pub record SayAsk (words : AskWords) (ask : Ask) : Type 0 where
   pub access_limit : ask.access_limit ≡ ask.life
   pub refresh_limit : ask.refresh_limit ≡ ask.life
 
--- the bytes of an ask's record, in the version of a layout
-abbrev pub record_bytes : Layout → Ask → List ℕ
-record_bytes V1 ask = record_v1 ask
-record_bytes V2 ask = record_v2 ask
-
+-- an ask's record as hex, in the version of a layout
 abbrev pub record_hex : Layout → Ask → List ℕ
-record_hex layout ask = encode_lower (record_bytes layout ask)
+record_hex V1 ask = encode_lower (record_v1 ask)
+record_hex V2 ask = encode_lower (record_v2 ask)
+
+-- the answer is the record of the ask that words tell, as hex; they are bad where they tell none
+abbrev pub IsAskedAs : Layout → AskWords → Result HookAnswer HookCommandFault → Type 0
+IsAskedAs layout words (Ok (answers.Code hex)) = (ask : Ask) × SayAsk words ask × (string_bytes hex ≡ record_hex layout ask)
+IsAskedAs layout words (Ok answer) = ⊥
+IsAskedAs layout words (Err faults.BadArguments) = (ask : Ask) → SayAsk words ask → ⊥
+IsAskedAs layout words (Err faults.OutOfMemory) = ⊤
+IsAskedAs layout words (Err fault) = ⊥

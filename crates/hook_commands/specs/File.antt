@@ -1,18 +1,23 @@
 -- What the commands answer to a file. A file is its bytes, and nothing where it cannot be read.
-use Rattle.std.specs.Prelude.{◌≡◌, ◌⊎◌, ⊤, ℕ, List, length, Option, Some, None, IsSomeAnd, IsUtf8, Result, Ok, Err}
+use Rattle.std.specs.Prelude.{◌≡◌, ◌⊎◌, ⊤, ℕ, List, length, Option, Some, None, IsSomeAnd, IsUtf8, Result, Ok, Err, Bool, false, ◌&&◌, ◌==◌, ◌∷◌, IsTrue}
 use Rattle.std.specs.String.{string_bytes}
 use Rattle.insn.specs.declared.instruction.Insn.{Insn}
 use Rattle.insn.specs.declared.layout.Layout.{Layout}
 use Rattle.insn.specs.declared.fault.InsnFault.{InsnFault}
 use Rattle.insn.specs.declared.verify_fault.VerifyFault.{VerifyFault}
 use Rattle.encoding.specs.Spelling.{FirstInsnFault, Spells}
-use Rattle.assembly.specs.Text.{canonical_text}
+use Rattle.assembly.specs.Text.{canonical_text, Text}
 use Rattle.hook_commands.specs.declared.answer.HookAnswer.{HookAnswer}
 use Rattle.hook_commands.specs.declared.answer.HookAnswer.TheVariants as answers
 use Rattle.hook_commands.specs.declared.fault.HookCommandFault.{HookCommandFault}
 use Rattle.hook_commands.specs.declared.fault.HookCommandFault.TheVariants as faults
 use Rattle.hook_commands.specs.HexText.{IsHexOf, IsNoHex}
-use Rattle.hook_commands.specs.Verdict.{IsTakenProgram, IsTurnedAway}
+use Rattle.hook_commands.specs.Judge.{IsTakenProgram, IsTurnedAway}
+use Rattle.hex.specs.Hex.{encode_lower}
+use Rattle.assembler.specs.declared.fault.AsmFault.{AsmFault}
+use Rattle.assembler.specs.Faults.{FirstTextFault}
+use Rattle.hook_commands.specs.Explanations.{IsExplanation}
+use Rattle.lister.specs.Slots.{slot_lines}
 
 abbrev pub File : Type 0
 File = Option (List ℕ)
@@ -94,3 +99,61 @@ abbrev pub IsCheckedOn : Layout → List ℕ → File → Result HookAnswer Hook
 IsCheckedOn layout path file (Ok (answers.Accepted count)) = IsAcceptedOn layout file count
 IsCheckedOn layout path file (Ok answer) = ⊥
 IsCheckedOn layout path file (Err fault) = HoldsNoProgram path file fault ⊎ IsFileNotAccepted layout file fault
+
+-- ---- `asm`
+
+-- a file's text says a program, and the hex is that of the program's bytes, in small letters
+pub record IsAssembled (file : File) (hex : List ℕ) : Type 0 where
+  pub text : List ℕ
+  pub program : List Insn
+  pub code : List ℕ
+  pub held : HoldsText file text
+  pub said : Text text program
+  pub spelled : Spells code program
+  pub digits : hex ≡ encode_lower code
+
+-- a file's text says no program: this is its first fault
+pub record HasTextFault (file : File) (fault : AsmFault) : Type 0 where
+  pub text : List ℕ
+  pub held : HoldsText file text
+  pub first : FirstTextFault text fault
+
+-- why the text of a file says no program, where it is one
+abbrev pub SaysNoProgram : File → HookCommandFault → Type 0
+SaysNoProgram file (faults.Text fault) = HasTextFault file fault
+SaysNoProgram file faults.OutOfMemory = ⊤
+SaysNoProgram file fault = ⊥
+
+-- what `asm` answers to the file of a path
+abbrev pub IsAssembledAs : List ℕ → File → Result HookAnswer HookCommandFault → Type 0
+IsAssembledAs path file (Ok (answers.Code hex)) = IsAssembled file (string_bytes hex)
+IsAssembledAs path file (Ok answer) = ⊥
+IsAssembledAs path file (Err fault) = HoldsNoText path file fault ⊎ SaysNoProgram file fault
+
+-- bytes begin as an ELF file does
+abbrev pub is_elf : List ℕ → Bool
+is_elf (a ∷ b ∷ c ∷ d ∷ rest) = (a == 127) && (b == 69) && (c == 76) && (d == 70)
+is_elf bytes = false
+
+-- why the file of a path holds no program, where one that is not hex is told with its path, and an ELF file as one
+abbrev pub HoldsNoToldProgram : List ℕ → File → HookCommandFault → Type 0
+HoldsNoToldProgram path file (faults.IsElf named) = (named.now ≡ path) × IsSomeAnd file (λ bytes. IsTrue (is_elf bytes)) × IsSomeAnd file IsNoHex
+HoldsNoToldProgram path file (faults.IsNotHex named) = (named.now ≡ path) × IsSomeAnd file (λ bytes. is_elf bytes ≡ false) × IsSomeAnd file IsNoHex
+HoldsNoToldProgram path file faults.BadArguments = ⊥
+HoldsNoToldProgram path file fault = HoldsNoProgram path file fault
+
+-- ---- `list --slots`
+
+-- the file's program is listed with its slots
+abbrev pub IsListedWithSlotsAs : List ℕ → File → Result HookAnswer HookCommandFault → Type 0
+IsListedWithSlotsAs path file (Ok (answers.Slots lines)) =
+    (program : List Insn) × HoldsProgram file program × (lines.items ≡ slot_lines program)
+IsListedWithSlotsAs path file (Ok answer) = ⊥
+IsListedWithSlotsAs path file (Err fault) = HoldsNoToldProgram path file fault
+
+-- ---- `check --why` and `check2 --why`
+
+-- the answer tells what is found of the file's program
+abbrev pub IsExplainedOn : Layout → List ℕ → File → Result HookAnswer HookCommandFault → Type 0
+IsExplainedOn layout path file (Ok answer) = (program : List Insn) × HoldsProgram file program × IsExplanation layout program answer
+IsExplainedOn layout path file (Err fault) = HoldsNoToldProgram path file fault

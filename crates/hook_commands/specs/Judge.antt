@@ -1,12 +1,12 @@
 -- What a hook's bytes do with a record's: the layers that both cross, one below the other.
-use Rattle.std.specs.Prelude.{◌≡◌, ℕ, ◌==◌, if◌then◌else◌, List, length, take, Option, Some, None, Result, Ok, Err}
+use Rattle.std.specs.Prelude.{◌≡◌, ℕ, ◌==◌, if◌then◌else◌, List, length, take, Option, Some, None, Result, Ok, Err, ◌≢◌}
 use Rattle.std.specs.Option.{option_map}
 use Rattle.insn.specs.declared.instruction.Insn.{Insn}
 use Rattle.insn.specs.declared.fault.InsnFault.{InsnFault}
 use Rattle.insn.specs.declared.verify_fault.VerifyFault.{VerifyFault}
 use Rattle.insn.specs.declared.layout.Layout.TheVariants.{V1, V2}
 use Rattle.encoding.specs.Spelling.{FirstInsnFault, Spells}
-use Rattle.insn.specs.Step.{IsExit}
+use Rattle.insn.specs.Step.{IsExit, Safe}
 use Rattle.insn.specs.Values.{record_size}
 use Rattle.hook_record.specs.Narrowing.{narrowed}
 use Rattle.hook_record.specs.Record.{ask_in_v1, ask_in_v2}
@@ -14,7 +14,10 @@ use Rattle.hook_commands.specs.declared.judge.Asked.{Asked}
 use Rattle.hook_commands.specs.declared.judge.Judged.{Judged}
 use Rattle.hook_commands.specs.declared.judge.JudgeFault.{JudgeFault}
 use Rattle.hook_commands.specs.declared.judge.JudgeFault.TheVariants as faults
-use Rattle.hook_commands.specs.Verdict.{IsTakenProgram, IsTurnedAway}
+use Rattle.insn.specs.declared.layout.Layout.{Layout}
+use Rattle.insn.specs.declared.verify_fault.VerifyFault.TheVariants.{Memory}
+use Rattle.insn.specs.Refusals.{look_verdict}
+use Rattle.verifier.specs.Verdicts.{IsVerdict}
 
 -- what a record asks, of the version that its length says
 abbrev pub asked_in : List ℕ → Option Asked
@@ -23,15 +26,21 @@ asked_in bytes =
     else if length bytes == record_size V2 then option_map (λ ask. record { layout = V2; ask = ask }) (ask_in_v2 bytes)
     else None
 
--- the first 64 bytes of a record, which both versions have
-abbrev pub first_fields : List ℕ → List ℕ
-first_fields bytes = take (record_size V1) bytes
-
--- a program's run on a record exits so, and what it leaves there narrows the ask so
+-- a program's run on a record exits so, and what it leaves in the first 64 bytes, which both versions have, narrows the ask so
 pub record IsAnswer (program : List Insn) (asked : Asked) (bytes : List ℕ) (judged : Judged) : Type 0 where
   pub after : List ℕ
   pub exit : IsExit asked.layout program bytes judged.r0 judged.steps after
-  pub answer : judged.answer ≡ narrowed asked.ask judged.r0 (first_fields after)
+  pub answer : judged.answer ≡ narrowed asked.ask judged.r0 (take (record_size V1) after)
+
+-- a program is taken: the first look finds nothing, and from every record the run exits
+pub record IsTakenProgram (layout : Layout) (program : List Insn) : Type 0 where
+  pub looked : look_verdict program ≡ None
+  pub safe : Safe layout program
+
+-- a program is not taken, with its verdict, or for want of memory, which comes after the first look
+pub record IsTurnedAway (layout : Layout) (program : List Insn) (fault : VerifyFault) : Type 0 where
+  pub verdict : fault ≢ Memory → IsVerdict layout program fault
+  pub memory : fault ≡ Memory → look_verdict program ≡ None
 
 -- the record asks something, and the code spells a program that is accepted for its version, whose run there exits so
 pub record IsAccepted (code bytes : List ℕ) (judged : Judged) : Type 0 where

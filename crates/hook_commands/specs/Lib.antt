@@ -1,7 +1,6 @@
 -- What public clauses cite. docs/DEFINITIONS.md says what to read in which order.
 pub mod Answers
 pub mod Asking
-pub mod Assembly
 pub mod Back
 pub mod BytesTold
 pub mod Explanations
@@ -10,8 +9,6 @@ pub mod HexText
 pub mod Judge
 pub mod Printed
 pub mod Reading
-pub mod Telling
-pub mod Verdict
 pub mod Ways
 -- What only the contracts of this crate's own parts and their proofs cite.
 pub mod WaySteps

@@ -4,19 +4,14 @@ use Rattle.insn.specs.declared.register.RegNo.{RegNo}
 use Rattle.insn.specs.declared.register.RegNo.TheVariants.{R0}
 use Rattle.insn.specs.declared.operation.AluOp.{AluOp}
 use Rattle.insn.specs.declared.operation.AluOp.TheVariants.{Mov}
-use Rattle.insn.specs.declared.instruction.Operand.{Operand}
-use Rattle.insn.specs.declared.instruction.Operand.TheVariants.{Reg, Imm}
+use Rattle.insn.specs.declared.instruction.Operand.TheVariants.{Reg}
 use Rattle.insn.specs.declared.instruction.Insn.{Insn}
-use Rattle.insn.specs.declared.instruction.Insn.TheVariants.{Alu64Imm, Alu64Reg, Alu32Imm, Alu32Reg, Divide, Remainder, Negate, MoveSigned, SwapBytes, LoadWide, Load, LoadSigned, StoreReg, StoreImm, Jump, JumpLong, Jump64IfImm, Jump64IfReg, Jump32IfImm, Jump32IfReg, Exit}
+use Rattle.insn.specs.declared.instruction.Insn.TheVariants.{Alu64Imm, Alu64Reg, Alu32Imm, Alu32Reg, Divide, Remainder, Negate, MoveSigned, SwapBytes, Load, LoadSigned, StoreReg, StoreImm, Jump64IfImm, Jump64IfReg, Jump32IfImm, Jump32IfReg, Exit}
 
 -- a move does not read what it writes
 abbrev pub left_register : AluOp → RegNo → Option RegNo
 left_register Mov dst = None
 left_register op dst = Some dst
-
-abbrev pub right_of : Operand → Option RegNo
-right_of (Reg src) = Some src
-right_of (Imm imm) = None
 
 -- the register that is read and stands first: an operand, or what a store leads to
 abbrev pub left_read : Insn → Option RegNo
@@ -27,41 +22,26 @@ left_read (Alu32Reg op dst src) = left_register op dst
 left_read (Divide width signedness dst operand) = Some dst
 left_read (Remainder width signedness dst operand) = Some dst
 left_read (Negate width dst) = Some dst
-left_read (MoveSigned extension dst src) = None
 left_read (SwapBytes kind bits dst) = Some dst
-left_read (LoadWide dst value) = None
-left_read (Load size dst src offset) = None
-left_read (LoadSigned size dst src offset) = None
 left_read (StoreReg size dst src offset) = Some dst
 left_read (StoreImm size dst offset imm) = Some dst
-left_read (Jump offset) = None
-left_read (JumpLong offset) = None
 left_read (Jump64IfImm cond dst offset imm) = Some dst
 left_read (Jump64IfReg cond dst src offset) = Some dst
 left_read (Jump32IfImm cond dst offset imm) = Some dst
 left_read (Jump32IfReg cond dst src offset) = Some dst
 left_read Exit = Some R0
+left_read i = None
 
 -- the register that is read and stands second: an operand, or where a load leads to
 abbrev pub right_read : Insn → Option RegNo
-right_read (Alu64Imm op dst imm) = None
 right_read (Alu64Reg op dst src) = Some src
-right_read (Alu32Imm op dst imm) = None
 right_read (Alu32Reg op dst src) = Some src
-right_read (Divide width signedness dst operand) = right_of operand
-right_read (Remainder width signedness dst operand) = right_of operand
-right_read (Negate width dst) = None
+right_read (Divide width signedness dst (Reg src)) = Some src
+right_read (Remainder width signedness dst (Reg src)) = Some src
 right_read (MoveSigned extension dst src) = Some src
-right_read (SwapBytes kind bits dst) = None
-right_read (LoadWide dst value) = None
 right_read (Load size dst src offset) = Some src
 right_read (LoadSigned size dst src offset) = Some src
 right_read (StoreReg size dst src offset) = Some src
-right_read (StoreImm size dst offset imm) = None
-right_read (Jump offset) = None
-right_read (JumpLong offset) = None
-right_read (Jump64IfImm cond dst offset imm) = None
 right_read (Jump64IfReg cond dst src offset) = Some src
-right_read (Jump32IfImm cond dst offset imm) = None
 right_read (Jump32IfReg cond dst src offset) = Some src
-right_read Exit = None
+right_read i = None

@@ -23,14 +23,11 @@ where_led steps goal (Some to) = if is_led steps goal to then Some to else None
 abbrev pub target_past : Option RegNo → Onward → ℕ → Insn → Option ℕ
 target_past unwritten onward slot i = if goes_past unwritten onward i then Some (slot_behind slot i) else None
 
--- where one goes on from a slot, of what begins there: behind it, and by its jump
-abbrev pub targets_of : Option RegNo → Onward → ℕ → Option Insn → Option ℕ × Option ℕ
-targets_of unwritten onward slot None = (None, None)
-targets_of unwritten onward slot (Some i) = (target_past unwritten onward slot i, jump_target onward slot i)
-
--- the step to one of two slots: past what begins here, if a way leads on there, or else by its jump
-abbrev pub step_of : List (Option Step) → ℕ → Option ℕ × Option ℕ → Option Step
-step_of steps goal to = option_or (option_map Past (where_led steps goal to.0)) (option_map Jumping (where_led steps goal to.1))
+-- the step from a slot, of what begins there: past it, if a way leads on behind it, or else by its jump
+abbrev pub step_of : List (Option Step) → ℕ → Option RegNo → Onward → ℕ → Option Insn → Option Step
+step_of steps goal unwritten onward slot None = None
+step_of steps goal unwritten onward slot (Some i) =
+    option_or (option_map Past (where_led steps goal (target_past unwritten onward slot i))) (option_map Jumping (where_led steps goal (jump_target onward slot i)))
 
 abbrev pub step_slot : Step → ℕ
 step_slot (Past to) = to

@@ -4,7 +4,7 @@ ghost use Rattle.hook_commands.specs.Printed.{hook_answer_text};
 
 use crate::back::JumpBackTold;
 use crate::judge::Judged;
-use crate::trace::StepsText;
+use crate::trace::StepLines;
 use crate::why::RefusalTold;
 use hook_record::Narrowed;
 use insn::verify_fault::VerifyFault;
@@ -52,16 +52,27 @@ impl Display for HookAnswer {
         match self {
             HookAnswer::Judged(judged) => write!(f, "{judged}"),
             HookAnswer::Traced { trace, judged } => {
-                let steps = StepsText(&trace.steps);
-                write!(f, "{steps}{judged}")
+                for step in &trace.steps {
+                    let lines = StepLines(*step);
+                    write!(f, "{lines}")?;
+                }
+                write!(f, "{judged}")
             }
             HookAnswer::Code(hex) => write!(f, "{hex}\n"),
             HookAnswer::Listing(text) => write!(f, "{text}"),
-            HookAnswer::Slots(lines) => write!(f, "{}", SlotLines(lines)),
+            HookAnswer::Slots(lines) => {
+                for line in lines {
+                    write!(f, "{line}")?;
+                }
+                Ok(())
+            }
             HookAnswer::Accepted(count) => write!(f, "accepted {count}\n"),
             HookAnswer::Reached { count, unreached } => {
-                let unreached = Unreached(unreached);
-                write!(f, "accepted {count}\n{unreached}")
+                write!(f, "accepted {count}\n")?;
+                for slot in unreached {
+                    write!(f, "no way reaches slot {slot}\n")?;
+                }
+                Ok(())
             }
             HookAnswer::Looked { fault, jump, help } => {
                 write!(f, "refused {fault}\n")?;
@@ -84,31 +95,5 @@ impl Display for Judged {
             Narrowed::Denied => write!(f, "denied\n"),
             Narrowed::EmptyScope => write!(f, "empty scope\n"),
         }
-    }
-}
-
-/// The lines of instructions, behind their slots.
-#[derive(Clone, Copy)]
-struct SlotLines<'s>(&'s [SlotLine]);
-
-impl<'s> Display for SlotLines<'s> {
-    fn fmt<W: Write>(&self, f: &mut Formatter<W>) -> fmt::Result {
-        for line in self.0 {
-            write!(f, "{line}")?;
-        }
-        Ok(())
-    }
-}
-
-/// A line for each slot that no way reaches.
-#[derive(Clone, Copy)]
-struct Unreached<'s>(&'s [usize]);
-
-impl<'s> Display for Unreached<'s> {
-    fn fmt<W: Write>(&self, f: &mut Formatter<W>) -> fmt::Result {
-        for slot in self.0 {
-            write!(f, "no way reaches slot {slot}\n")?;
-        }
-        Ok(())
     }
 }

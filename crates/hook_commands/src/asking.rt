@@ -1,10 +1,12 @@
-//! The record of an ask that is told by a few numbers.
+//! `ask` and `ask2`: the record of an ask that is told by a few numbers, as hex for `run`.
 
 ghost use Rattle.std.specs.Prelude.{◌≡◌, ◌^◌, ℕ, IfOk, IfSome, IfNone};
 ghost use Rattle.std.specs.String.{string_bytes};
 ghost use Rattle.hook_record.specs.Record.{kind_of};
-ghost use Rattle.hook_commands.specs.Asking.{record_hex, IsNumber, SayAsk};
+ghost use Rattle.hook_commands.specs.Asking.{record_hex, IsAskedAs, IsNumber, SayAsk};
 
+use crate::answer::HookAnswer;
+use crate::fault::HookCommandFault;
 use hook_record::{Ask, Kind, write, write_v2};
 use insn::layout::Layout;
 use std::alloc::{AllocError, Global};
@@ -37,17 +39,6 @@ fn number(text: &str) -> Option<u64>
     text.parse::<u64>().ok()
 }
 
-/// The number that digits say, where it is below `2^32`.
-fn short_number(text: &str) -> Option<u32>
-    ensures some { IfSome result (IsNumber (2 ^ 32) text.now) }
-    ensures none { IfNone result ((n : ℕ) → IsNumber (2 ^ 32) text.now n → ⊥) }
-{
-    if text.starts_with('+') {
-        return None;
-    }
-    text.parse::<u32>().ok()
-}
-
 /// The kind that a number names.
 fn kind_of(number: u64) -> Option<Kind>
     ensures { result ≡ kind_of number }
@@ -61,7 +52,7 @@ fn kind_of(number: u64) -> Option<Kind>
 }
 
 /// The ask that words tell.
-pub fn told_ask(words: AskWords<'_>) -> Option<Ask>
+fn told_ask(words: AskWords<'_>) -> Option<Ask>
     ensures some { IfSome result (SayAsk words.entry) }
     ensures none { IfNone result ((ask : Ask) → SayAsk words.entry ask → ⊥) }
 {
@@ -70,7 +61,7 @@ pub fn told_ask(words: AskWords<'_>) -> Option<Ask>
     let client = number(words.client)?;
     let owner = number(words.owner)?;
     let scope = number(words.scope)?;
-    let life = short_number(words.life)?;
+    let life = u32::try_from(number(words.life)?).ok()?;
     Some(Ask {
         kind,
         now,
@@ -87,11 +78,26 @@ pub fn told_ask(words: AskWords<'_>) -> Option<Ask>
 }
 
 /// The record of an ask, in the version of a layout, as hex.
-pub fn hex_of(alloc: Global, layout: Layout, ask: &Ask) -> Result<String, AllocError>
+fn hex_of(alloc: Global, layout: Layout, ask: &Ask) -> Result<String, AllocError>
     ensures { IfOk result (λ hex. string_bytes hex ≡ record_hex layout ask.entry.now) }
 {
     match layout {
         Layout::V1 => hex::encode(alloc, write(ask)),
         Layout::V2 => hex::encode(alloc, write_v2(ask)),
     }
+}
+
+/// The hex of the record of the ask that words tell, in one version.
+pub fn asked(
+    alloc: Global,
+    layout: Layout,
+    words: AskWords<'_>,
+) -> Result<HookAnswer, HookCommandFault<'static>>
+    ensures { IsAskedAs layout words.entry result }
+{
+    let Some(ask) = told_ask(words) else {
+        return Err(HookCommandFault::BadArguments);
+    };
+    let hex = hex_of(alloc, layout, &ask)?;
+    Ok(HookAnswer::Code(hex))
 }

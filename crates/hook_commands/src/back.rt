@@ -1,9 +1,10 @@
 //! A jump back: where it stands, and where it leads.
 
-ghost use Rattle.std.specs.Prelude.{◌≡◌, ◌≤◌, ◌≤ℤ◌, ℕ, negsuc, IfSome};
-ghost use Rattle.insn.specs.Program.{SLOT_LIMIT};
-ghost use Rattle.hook_commands.specs.Back.{line_at as spec_line_at, IsBackTo, IsBefore, IsJumpTold};
+ghost use Rattle.std.specs.Prelude.{◌≡◌, ◌≤◌, IfSome};
+ghost use Rattle.insn.specs.Program.{begins_at, slot_count, SLOT_LIMIT};
+ghost use Rattle.hook_commands.specs.Back.{line_at as spec_line_at, IsBackTo, IsJumpTold};
 
+use insn::instruction::Insn;
 use insn::places::skip;
 use insn::program::Program;
 use insn::verify_fault::VerifyFault;
@@ -29,40 +30,33 @@ impl Display for JumpBackTold {
 }
 
 /// The instruction that begins at a slot, if one does.
-fn line_at(program: &Program, slot: usize) -> Option<SlotLine>
-    ensures value { result ≡ spec_line_at program.now slot }
-    ensures few { IfSome result (λ line. line.slot ≤ SLOT_LIMIT) }
+pub fn insn_at(program: &Program, slot: usize) -> Option<Insn>
+    ensures value { result ≡ begins_at program.now slot }
+    ensures short { slot_count program.now ≤ SLOT_LIMIT }
 {
     match skip(program.insns(), slot)? {
-        [insn, ..] => Some(SlotLine { slot, insn: *insn }),
+        [insn, ..] => Some(*insn),
         [] => None,
     }
 }
 
-/// The slot so far before another, by a distance below 0; none where it would lie before the first.
-fn slot_before(slot: usize, distance: i32) -> Option<usize>
-    requires back { distance ≤ℤ negsuc 0 }
-    ensures { (n : ℕ) → distance ≡ negsuc n → IsBefore slot n result }
+/// The same, behind its slot.
+#[tactic(auto, using(crate::proofs::Ways::begins_inside))]
+fn line_at(program: &Program, slot: usize) -> Option<SlotLine>
+    ensures value { result ≡ spec_line_at program.now slot }
+    ensures few { IfSome result (λ line. line.slot ≤ SLOT_LIMIT) }
 {
-    let back = (-1 - distance) as usize;
-    if back < slot {
-        Some(slot - 1 - back)
-    } else {
-        None
-    }
+    let insn = insn_at(program, slot)?;
+    Some(SlotLine { slot, insn })
 }
 
-/// The slot to which a jump leads that leads back.
+/// The slot to which a jump leads that leads back; none where it would lie before the first.
 fn back_from(line: SlotLine) -> Option<usize>
     requires { line.slot ≤ SLOT_LIMIT }
     ensures { IsBackTo line result }
 {
     let distance = line.insn.distance()?;
-    if distance < 0 {
-        slot_before(line.slot + line.insn.slots(), distance)
-    } else {
-        None
-    }
+    (line.slot + line.insn.slots()).checked_sub(distance.unsigned_abs() as usize)
 }
 
 /// What is told of a jump back; of another fault nothing.

@@ -5,8 +5,7 @@ ghost use Rattle.std.specs.Option.{option_copied};
 ghost use Rattle.hook_commands.specs.Answers.{file_of_hook_command, IsHookAnsweredBy};
 
 use crate::answer::HookAnswer;
-use crate::asking::AskWords;
-use crate::commands::ask::asked;
+use crate::asking::{AskWords, asked};
 use crate::commands::asm::assembled;
 use crate::commands::check::{check, explained_check};
 use crate::commands::list::{listing, listing_with_slots};

@@ -1,10 +1,7 @@
-//! What a person types about a hook: a file for each command.
+//! What a person types about a hook: a file for each command, and one for the files that they read.
 
-pub mod ask;
 pub mod asm;
 pub mod check;
+pub mod file;
 pub mod list;
-mod program_file;
 pub mod run;
-pub mod text_file;
-mod told_file;

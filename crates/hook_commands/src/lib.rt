@@ -1,14 +1,14 @@
 //! The commands that try a hook: what each answers, by values alone.
 //!
-//! `command` has them as one enum, with a function for each in `commands`; `answer` is what they answer, and `fault` why
-//! one has no answer. Each is a value that has all that is told, and its `Display` spells it. `judge` takes a hook's bytes
-//! and a record's through the layers below, and `hex_text` reads hex as arguments and files have it. No word of a command
-//! line, no file and no status is known here.
+//! `command` has them as one enum, with a function for each in `commands` or `asking`; `answer` is what they answer,
+//! and `fault` why one has no answer. Each is a value that has all that is told, and its `Display` spells it. `judge`
+//! takes a hook's bytes and a record's through the layers below, and `hex_text` reads hex as arguments and files have
+//! it. No word of a command line, no file and no status is known here.
 //!
 //! `why` tells what `verifier::explain` finds, with what the manual says of a fault; `reading` names the registers that
-//! an instruction reads, `known_text` spells what is known of one, and `bytes_told` tells of the stack's bytes that a load
-//! reads; `way` finds the jumps that lead to an instruction, and `back` where a jump back leads. `trace` spells the steps of a run, and `asking` makes
-//! the record that a run is tried on.
+//! an instruction reads, `known_text` spells what is known of one, and `bytes_told` tells of the stack's bytes that a
+//! load reads; `way` finds the jumps that lead to an instruction, and `back` where a jump back leads. `trace` spells
+//! the steps of a run, and `asking` makes the record that a run is tried on.
 #![tactic(auto)]
 
 pub mod answer;
@@ -29,6 +29,6 @@ mod why;
 pub use answer::HookAnswer;
 pub use asking::AskWords;
 pub use command::HookCommand;
-pub use commands::text_file::text_in;
+pub use commands::file::text_in;
 pub use fault::HookCommandFault;
 pub use hex_text::bytes_of_hex;

@@ -1,7 +1,7 @@
 //! The registers that an instruction reads.
 
 ghost use Rattle.std.specs.Prelude.{◌≡◌};
-ghost use Rattle.hook_commands.specs.Reading.{left_register, left_read as spec_left_read, right_of, right_read as spec_right_read};
+ghost use Rattle.hook_commands.specs.Reading.{left_register, left_read as spec_left_read, right_read as spec_right_read};
 
 use insn::instruction::{Insn, Operand};
 use insn::operation::AluOp;
@@ -14,16 +14,6 @@ fn left_register(op: AluOp, dst: RegNo) -> Option<RegNo>
     match op {
         AluOp::Mov => None,
         _ => Some(dst),
-    }
-}
-
-/// The register of an operand.
-fn right_of(operand: Operand) -> Option<RegNo>
-    ensures { result ≡ right_of operand }
-{
-    match operand {
-        Operand::Reg(src) => Some(src),
-        Operand::Imm(_) => None,
     }
 }
 
@@ -40,12 +30,7 @@ pub fn left_read(insn: Insn) -> Option<RegNo>
         Insn::Jump64IfImm { dst, .. } | Insn::Jump64IfReg { dst, .. } => Some(dst),
         Insn::Jump32IfImm { dst, .. } | Insn::Jump32IfReg { dst, .. } => Some(dst),
         Insn::Exit => Some(RegNo::R0),
-        Insn::MoveSigned { .. }
-        | Insn::LoadWide { .. }
-        | Insn::Load { .. }
-        | Insn::LoadSigned { .. }
-        | Insn::Jump { .. }
-        | Insn::JumpLong { .. } => None,
+        _ => None,
     }
 }
 
@@ -56,19 +41,12 @@ pub fn right_read(insn: Insn) -> Option<RegNo>
     match insn {
         Insn::Alu64Reg { src, .. } | Insn::Alu32Reg { src, .. } => Some(src),
         Insn::MoveSigned { src, .. } | Insn::StoreReg { src, .. } => Some(src),
-        Insn::Divide { operand, .. } | Insn::Remainder { operand, .. } => right_of(operand),
+        Insn::Divide { operand, .. } | Insn::Remainder { operand, .. } => match operand {
+            Operand::Reg(src) => Some(src),
+            Operand::Imm(_) => None,
+        },
         Insn::Load { src, .. } | Insn::LoadSigned { src, .. } => Some(src),
         Insn::Jump64IfReg { src, .. } | Insn::Jump32IfReg { src, .. } => Some(src),
-        Insn::Alu64Imm { .. }
-        | Insn::Alu32Imm { .. }
-        | Insn::Negate { .. }
-        | Insn::SwapBytes { .. }
-        | Insn::LoadWide { .. }
-        | Insn::StoreImm { .. }
-        | Insn::Jump { .. }
-        | Insn::JumpLong { .. }
-        | Insn::Jump64IfImm { .. }
-        | Insn::Jump32IfImm { .. }
-        | Insn::Exit => None,
+        _ => None,
     }
 }

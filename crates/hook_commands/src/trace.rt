@@ -1,7 +1,7 @@
 //! The steps of a run, in words.
 
 use crate::known_text::from_end;
-use insn::state::{Region, Value};
+use insn::state::{Pointer, Region, Value};
 use lister::Line;
 use machine::trace::Traced;
 use std::fmt::{self, Display, Formatter, Write};
@@ -15,23 +15,20 @@ impl Display for Held {
     fn fmt<W: Write>(&self, f: &mut Formatter<W>) -> fmt::Result {
         match self.0 {
             Value::Number(number) => write!(f, "{number}"),
-            Value::Address(pointer) => {
-                let offset = pointer.offset;
-                match pointer.region {
-                    Region::Record => write!(f, "record, {offset}"),
-                    Region::Stack => {
-                        let behind = from_end(offset);
-                        write!(f, "stack, {behind}")
-                    }
+            Value::Address(Pointer { region, offset }) => match region {
+                Region::Record => write!(f, "record, {offset}"),
+                Region::Stack => {
+                    let behind = from_end(offset);
+                    write!(f, "stack, {behind}")
                 }
-            }
+            },
         }
     }
 }
 
 /// The lines of a step: the instruction behind its slot, and what it wrote into its register.
 #[derive(Clone, Copy)]
-struct StepLines(Traced);
+pub struct StepLines(pub Traced);
 
 impl Display for StepLines {
     fn fmt<W: Write>(&self, f: &mut Formatter<W>) -> fmt::Result {
@@ -44,19 +41,5 @@ impl Display for StepLines {
             }
             _ => Ok(()),
         }
-    }
-}
-
-/// The lines of the steps of a run.
-#[derive(Clone, Copy)]
-pub struct StepsText<'s>(pub &'s [Traced]);
-
-impl<'s> Display for StepsText<'s> {
-    fn fmt<W: Write>(&self, f: &mut Formatter<W>) -> fmt::Result {
-        for step in self.0 {
-            let lines = StepLines(*step);
-            write!(f, "{lines}")?;
-        }
-        Ok(())
     }
 }

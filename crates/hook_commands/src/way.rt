@@ -1,10 +1,11 @@
 //! The way to a slot: by which jumps control can come there from slot 0, going on from each slot as the walk did.
 
 ghost use Rattle.std.specs.Prelude.{◌≡◌, ◌<◌, ◌≤◌, ◌^◌, Some, None, IfOk, length, slice_index_or};
-ghost use Rattle.insn.specs.Program.{places, slot_count, SLOT_LIMIT};
+ghost use Rattle.insn.specs.Program.{slot_count, SLOT_LIMIT};
 ghost use Rattle.hook_commands.specs.Ways.{goes_past, hops_of, jump_target, onward_at, roads_of, IsToldWay, IsWayFound};
-ghost use Rattle.hook_commands.specs.WaySteps.{step_of, target_past, targets_of, where_led, AreWaySteps};
+ghost use Rattle.hook_commands.specs.WaySteps.{step_of, target_past, where_led, AreWaySteps};
 
+use crate::back::insn_at;
 use insn::instruction::Insn;
 use insn::program::Program;
 use insn::register::RegNo;
@@ -59,11 +60,7 @@ fn target_past(unwritten: Option<RegNo>, onward: Onward, slot: usize, insn: Insn
     requires { slot ≤ SLOT_LIMIT }
     ensures { result ≡ target_past unwritten onward slot insn }
 {
-    if goes_past(unwritten, onward, insn) {
-        Some(slot + insn.slots())
-    } else {
-        None
-    }
+    goes_past(unwritten, onward, insn).then_some(slot + insn.slots())
 }
 
 /// Where the jump of an instruction at a slot leads, if the walk went there.
@@ -71,14 +68,8 @@ fn jump_target(onward: Onward, slot: usize, insn: Insn) -> Option<usize>
     requires { slot ≤ SLOT_LIMIT }
     ensures { result ≡ jump_target onward slot insn }
 {
-    if !onward.ahead {
-        return None;
-    }
-    let distance = insn.distance()?;
-    if distance < 0 {
-        return None;
-    }
-    Some(slot + insn.slots() + distance as usize)
+    let distance = usize::try_from(insn.distance()?).ok()?;
+    onward.ahead.then_some(slot + insn.slots() + distance)
 }
 
 /// The step that a table has for a slot.
@@ -100,48 +91,24 @@ fn where_led(steps: &[Option<Step>], goal: usize, slot: Option<usize>) -> Option
     }
 }
 
-/// Where one goes on from a slot, of what begins there: behind it, and by its jump.
-fn targets_of(
+/// The step from a slot, of what begins there: past it, if a way leads on behind it, or else by its jump.
+fn step_of(
+    steps: &[Option<Step>],
+    goal: usize,
     unwritten: Option<RegNo>,
     onward: Onward,
     slot: usize,
     begins: Option<Insn>,
-) -> (Option<usize>, Option<usize>)
+) -> Option<Step>
     requires { slot ≤ SLOT_LIMIT }
-    ensures { result ≡ targets_of unwritten onward slot begins }
+    ensures { result ≡ step_of steps.now goal unwritten onward slot begins }
 {
-    match begins {
-        Some(insn) => (
-            target_past(unwritten, onward, slot, insn),
-            jump_target(onward, slot, insn),
-        ),
-        None => (None, None),
-    }
-}
-
-/// The step to one of two slots: past what begins here, if a way leads on there, or else by its jump.
-fn step_of(steps: &[Option<Step>], goal: usize, to: (Option<usize>, Option<usize>)) -> Option<Step>
-    ensures { result ≡ step_of steps.now goal to }
-{
-    if let Some(behind) = where_led(steps, goal, to.0) {
+    let insn = begins?;
+    if let Some(behind) = where_led(steps, goal, target_past(unwritten, onward, slot, insn)) {
         return Some(Step::Past(behind));
     }
-    let ahead = where_led(steps, goal, to.1)?;
+    let ahead = where_led(steps, goal, jump_target(onward, slot, insn))?;
     Some(Step::Jumping(ahead))
-}
-
-/// What begins at each slot of some instructions.
-fn places_of(alloc: Global, insns: &[Insn]) -> Result<Vec<Option<Insn>>, AllocError>
-    ensures { IfOk result (λ begins. begins.items ≡ places insns.now) }
-{
-    let mut begins = Vec::new(alloc);
-    for insn in insns {
-        begins.push(Some(*insn))?;
-        if insn.slots() == 2 {
-            begins.push(None)?;
-        }
-    }
-    Ok(begins)
 }
 
 /// For each slot the step by which one goes on towards a goal.
@@ -154,13 +121,12 @@ fn steps_to(
 ) -> Result<Vec<Option<Step>>, AllocError>
     ensures { IfOk result (λ steps. AreWaySteps (roads_of program.now onward.now unwritten) goal 0 steps.items) }
 {
-    let begins = places_of(alloc, program.insns())?;
-    let mut slot = begins.len();
+    let mut slot = program.slots();
     let mut steps: Vec<Option<Step>> = vec![in alloc; None; slot]?;
     while slot > 0 {
         slot -= 1;
-        let to = targets_of(unwritten, onward_at(onward, slot), slot, begins[slot]);
-        let step = step_of(&steps, goal, to);
+        let here = onward_at(onward, slot);
+        let step = step_of(&steps, goal, unwritten, here, slot, insn_at(program, slot));
         steps[slot] = step;
     }
     Ok(steps)

@@ -1,10 +1,10 @@
 //! `asm FILE`: the code of the program that the text of a file says.
 
 ghost use Rattle.std.specs.Option.{option_copied};
-ghost use Rattle.hook_commands.specs.Assembly.{IsAssembledAs};
+ghost use Rattle.hook_commands.specs.File.{IsAssembledAs};
 
 use crate::answer::HookAnswer;
-use crate::commands::text_file::text_in;
+use crate::commands::file::text_in;
 use crate::fault::HookCommandFault;
 use assembler::assemble;
 use encoding::encode;

@@ -2,12 +2,10 @@
 //! refused.
 
 ghost use Rattle.std.specs.Option.{option_copied};
-ghost use Rattle.hook_commands.specs.File.{IsCheckedOn};
-ghost use Rattle.hook_commands.specs.Telling.{IsExplainedOn};
+ghost use Rattle.hook_commands.specs.File.{IsCheckedOn, IsExplainedOn};
 
 use crate::answer::HookAnswer;
-use crate::commands::program_file::program_in;
-use crate::commands::told_file::told_program_in;
+use crate::commands::file::{program_in, told_program_in};
 use crate::fault::HookCommandFault;
 use crate::why::explanation;
 use insn::layout::Layout;

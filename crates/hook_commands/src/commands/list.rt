@@ -2,12 +2,10 @@
 //! each line.
 
 ghost use Rattle.std.specs.Option.{option_copied};
-ghost use Rattle.hook_commands.specs.File.{IsListedAs};
-ghost use Rattle.hook_commands.specs.Telling.{IsListedWithSlotsAs};
+ghost use Rattle.hook_commands.specs.File.{IsListedAs, IsListedWithSlotsAs};
 
 use crate::answer::HookAnswer;
-use crate::commands::program_file::program_in;
-use crate::commands::told_file::told_program_in;
+use crate::commands::file::{program_in, told_program_in};
 use crate::fault::HookCommandFault;
 use lister::{list, slot_lines};
 use std::alloc::Global;

@@ -1,7 +1,9 @@
 //! `run HEX RECORDHEX`: what the hook of some code answers to a record; with `--trace`, behind the steps of its run.
 
-ghost use Rattle.std.specs.Prelude.{Ok};
-ghost use Rattle.hook_commands.specs.Answers.{IsJudgedText, IsRunOn, IsTracedOn};
+ghost use Rattle.std.specs.Prelude.{Err, IfErr, IfOk, Ok};
+ghost use Rattle.hook_commands.specs.Answers.{IsRunOn, IsTracedOn};
+ghost use Rattle.hook_commands.specs.HexText.{IsHexOf};
+ghost use Rattle.hook_commands.specs.Judge.{IsJudged};
 
 use crate::answer::HookAnswer;
 use crate::fault::HookCommandFault;
@@ -11,13 +13,17 @@ use encoding::decode;
 use machine::trace::run_traced;
 use std::alloc::Global;
 
-/// What the hook of some code answers to a record, both as hex text. The code's text is tested first.
-pub fn run(
+/// The bytes of a hook's code and of a record, both given as hex text, and how they are judged. The code's text is tested
+/// first.
+fn judged_text(
     alloc: Global,
     code_hex: &str,
     record_hex: &str,
-) -> Result<HookAnswer, HookCommandFault<'static>>
-    ensures { IsRunOn code_hex.now record_hex.now result }
+) -> Result<(Vec<u8>, Vec<u8>, Judged), HookCommandFault<'static>>
+    ensures code { IfOk result (λ r. IsHexOf code_hex.now r.0.items) }
+    ensures record_bytes { IfOk result (λ r. IsHexOf record_hex.now r.1.items) }
+    ensures judged { IfOk result (λ r. IsJudged r.0.items r.1.items (Ok r.2)) }
+    ensures none { IfErr result (λ fault. IsRunOn code_hex.now record_hex.now (Err fault)) }
 {
     let Some(code) = bytes_of_hex(alloc, code_hex.as_bytes())? else {
         return Err(HookCommandFault::BadArguments);
@@ -26,7 +32,7 @@ pub fn run(
         return Err(HookCommandFault::BadRecord);
     };
     match judge(alloc, &code, &record) {
-        Ok(judged) => Ok(HookAnswer::Judged(judged)),
+        Ok(judged) => Ok((code, record, judged)),
         Err(JudgeFault::BadRecord) => Err(HookCommandFault::BadRecord),
         Err(JudgeFault::Insn(fault)) => Err(HookCommandFault::Insn(fault)),
         Err(JudgeFault::Verify(fault)) => Err(HookCommandFault::Verify(fault)),
@@ -34,31 +40,16 @@ pub fn run(
     }
 }
 
-/// The steps of the run of the hook of some code on a record, both as hex text, and behind them how it is judged.
-fn with_steps(
+/// What the hook of some code answers to a record, both as hex text.
+pub fn run(
     alloc: Global,
     code_hex: &str,
     record_hex: &str,
-    judged: Judged,
 ) -> Result<HookAnswer, HookCommandFault<'static>>
-    requires { IsJudgedText code_hex.now record_hex.now (Ok judged) }
-    ensures { IsTracedOn code_hex.now record_hex.now result }
+    ensures { IsRunOn code_hex.now record_hex.now result }
 {
-    let Some(code) = bytes_of_hex(alloc, code_hex.as_bytes())? else {
-        return Err(HookCommandFault::BadArguments);
-    };
-    let Some(mut record) = bytes_of_hex(alloc, record_hex.as_bytes())? else {
-        return Err(HookCommandFault::BadRecord);
-    };
-    let Some(asked) = Asked::read(&record) else {
-        return Err(HookCommandFault::BadRecord);
-    };
-    let program = match decode(alloc, &code) {
-        Ok(program) => program,
-        Err(fault) => return Err(HookCommandFault::Insn(fault)),
-    };
-    let trace = run_traced(alloc, &program, asked.layout, &mut record)?;
-    Ok(HookAnswer::Traced { trace, judged })
+    let (_, _, judged) = judged_text(alloc, code_hex, record_hex)?;
+    Ok(HookAnswer::Judged(judged))
 }
 
 /// What the hook of some code answers to a record, as `run` has it, behind the steps of its run.
@@ -69,8 +60,14 @@ pub fn traced(
 ) -> Result<HookAnswer, HookCommandFault<'static>>
     ensures { IsTracedOn code_hex.now record_hex.now result }
 {
-    match run(alloc, code_hex, record_hex)? {
-        HookAnswer::Judged(judged) => with_steps(alloc, code_hex, record_hex, judged),
-        _ => unreachable!(),
-    }
+    let (code, mut record, judged) = judged_text(alloc, code_hex, record_hex)?;
+    let Some(asked) = Asked::read(&record) else {
+        return Err(HookCommandFault::BadRecord);
+    };
+    let program = match decode(alloc, &code) {
+        Ok(program) => program,
+        Err(fault) => return Err(HookCommandFault::Insn(fault)),
+    };
+    let trace = run_traced(alloc, &program, asked.layout, &mut record)?;
+    Ok(HookAnswer::Traced { trace, judged })
 }

@@ -1,8 +1,5 @@
-use Rattle.std.proofs.Common.{◌≡◌, ◌∙◌, ap, arith}
-use Rattle.hook_commands.specs.BytesTold.{are_unset}
+use Rattle.std.proofs.Common.{◌≡◌, arith}
 use Rattle.hook_commands.proofs.bytes_told.are_unset.Goals as goal
 
 pub returns : goal.returns
-returns c =
-    let all : c.loop-byte.byte ≡ 8 = omega arith in
-    c.loop-byte.invariant ∙ ap (are_unset c.args.stack.now c.args.from) all
+returns c = let all : c.loop-byte.byte ≡ 8 = omega arith in rw all at c.loop-byte.invariant

@@ -1,0 +1,69 @@
+//! Files that are text, or in which the hex of a program stands.
+
+ghost use Rattle.std.specs.Prelude.{◌≡◌, IfErr, IfNone, IfOk, IfSome};
+ghost use Rattle.std.specs.Option.{option_copied};
+ghost use Rattle.hook_commands.specs.File.{is_elf as spec_is_elf, HoldsNoProgram, HoldsNoToldProgram, HoldsProgram, HoldsText, IsNoText};
+
+use crate::fault::HookCommandFault;
+use crate::hex_text::bytes_of_hex;
+use encoding::decode;
+use insn::program::Program;
+use std::alloc::Global;
+
+/// The text of a file. `None` where it is not UTF-8, which counts as one that cannot be read.
+pub fn text_in(file: Option<&[u8]>) -> Option<&str>
+    ensures found { IfSome result (λ text. HoldsText (option_copied file.entry) text.now) }
+    ensures none { IfNone result (IsNoText (option_copied file.entry)) }
+{
+    str::from_utf8(file?).ok()
+}
+
+/// The program whose hex stands in a file. First the file has to be read, then to be hex, and then to be a program.
+pub fn program_in<'w>(
+    alloc: Global,
+    path: &'w str,
+    file: Option<&[u8]>,
+) -> Result<Program, HookCommandFault<'w>>
+    ensures found { IfOk result (HoldsProgram (option_copied file.entry)) }
+    ensures none { IfErr result (HoldsNoProgram path.now (option_copied file.entry)) }
+{
+    let Some(text) = file else {
+        return Err(HookCommandFault::CannotRead(path));
+    };
+    let Some(code) = bytes_of_hex(alloc, text)? else {
+        return Err(HookCommandFault::BadArguments);
+    };
+    match decode(alloc, &code) {
+        Ok(program) => Ok(program),
+        Err(fault) => Err(HookCommandFault::Insn(fault)),
+    }
+}
+
+/// Whether bytes begin as an ELF file does, which is what a compiler writes.
+fn is_elf(bytes: &[u8]) -> bool
+    ensures { result ≡ spec_is_elf bytes.now }
+{
+    matches!(bytes, [0x7f, b'E', b'L', b'F', ..])
+}
+
+/// The program whose hex stands in a file, as `program_in` has it, but that an ELF file is told as one, and any other that
+/// is not hex with its path.
+pub fn told_program_in<'w>(
+    alloc: Global,
+    path: &'w str,
+    file: Option<&[u8]>,
+) -> Result<Program, HookCommandFault<'w>>
+    ensures found { IfOk result (HoldsProgram (option_copied file.entry)) }
+    ensures none { IfErr result (HoldsNoToldProgram path.now (option_copied file.entry)) }
+{
+    let elf = match file {
+        Some(bytes) => is_elf(bytes),
+        None => false,
+    };
+    match program_in(alloc, path, file) {
+        Ok(program) => Ok(program),
+        Err(HookCommandFault::BadArguments) if elf => Err(HookCommandFault::IsElf(path)),
+        Err(HookCommandFault::BadArguments) => Err(HookCommandFault::IsNotHex(path)),
+        Err(fault) => Err(fault),
+    }
+}
