@@ -1,15 +1,13 @@
 -- How long the text of a hook's fault becomes.
 use Rattle.std.proofs.Common.{◌≤◌, ◌<◌, ◌^◌, ℕ, List, ◌++◌, length, length-append, arith}
-use Rattle.std.specs.Prelude.{codes, decimal}
+use Rattle.answers.proofs.Names.{decimal, HookFault, Insn, Verify, NameTaken, BadName, Full, Unknown, Memory, hook_fault_text}
+use Rattle.std.specs.Prelude.{codes}
 use Rattle.std.proofs.lemmas.Fmt.{length-decimal-le}
 use Rattle.insn.specs.declared.fault.InsnFault.{InsnFault}
 use Rattle.insn.specs.declared.fault.InsnFault.TheVariants as insn
 use Rattle.insn.specs.declared.verify_fault.VerifyFault.{VerifyFault}
 use Rattle.insn.specs.declared.verify_fault.VerifyFault.TheVariants as verify
 use Rattle.insn.specs.FaultTexts.{at_slot, insn_fault_text, verify_fault_text}
-use Rattle.hook_host.specs.declared.fault.HookFault.{HookFault}
-use Rattle.hook_host.specs.declared.fault.HookFault.TheVariants.{Insn, Verify, NameTaken, BadName, Full, Unknown, Memory}
-use Rattle.hook_host.specs.Faults.{hook_fault_text}
 
 -- the slot that the fault names: 0 where it names none
 abbrev pub insn_slot : InsnFault → ℕ

@@ -1,3 +1,4 @@
 pub mod FaultSizes
 pub mod Listing
 pub mod Sizes
+pub mod Names

@@ -1,15 +1,11 @@
 -- The names of the hooks, one after the other.
 use Rattle.std.proofs.Common.{◌≡◌, ◌≤◌, ◌+◌, inl, inr, ℕ, List, [], ◌∷◌, ◌++◌, Some, None, length, Bor, map, take, take_all, refl, sym, ap, ◌∙◌, arith}
-use Rattle.std.specs.Prelude.{◌*◌, All, codes, slice_get}
+use Rattle.answers.proofs.Names.{◌*◌, All, slice_get, AreHookNames, IsHookName, plain, Texts, Told, IsSmallReply, texts_size}
+use Rattle.std.specs.Prelude.{codes}
 use Rattle.std.proofs.lemmas.List.{map-append}
 use Rattle.std.proofs.Math.Seq.{take-suc}
 use Rattle.std.proofs.lemmas.Option.{slice_get_cases, slice_get_within, get_or_from_slice_get}
 use Rattle.std.proofs.lemmas.List.Elements.{All-tail}
-use Rattle.hook_host.specs.Names.{AreHookNames, IsHookName}
-use Rattle.messages.specs.Reply.{plain}
-use Rattle.messages.specs.Members.Member.{Texts}
-use Rattle.messages.specs.Reply.Body.{Told}
-use Rattle.messages.specs.Small.{IsSmallReply, texts_size}
 use native.Mathlib.Numerals.{unary_clauses}
 
 pub map_push : (items : List (Bor (List ℕ))) (name : Bor (List ℕ)) →

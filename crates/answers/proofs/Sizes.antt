@@ -1,14 +1,10 @@
 -- Replies are short where their texts are.
 use Rattle.std.proofs.Common.{◌≡◌, ◌≤◌, true, ℕ, List, Ok, Err, refl, length, arith}
-use Rattle.std.specs.Prelude.{Result, IfOk, codes, Option}
+use Rattle.answers.proofs.Names.{Result, IfOk, Reply, plain, sent_back, Failure, Written, in_writing, error_text, IsSmallReply, is_reply_status, status_of}
+use Rattle.std.specs.Prelude.{codes, Option}
 use Rattle.messages.specs.declared.error.ErrorName.{ErrorName}
 use Rattle.messages.specs.declared.error.ErrorName.TheVariants.{InvalidRequest, InvalidClient, InvalidGrant, InvalidScope, UnauthorizedClient, UnsupportedGrantType, UnsupportedResponseType, AccessDenied}
-use Rattle.messages.specs.Reply.{Reply, plain, sent_back}
-use Rattle.messages.specs.Reply.Body.{Failure}
-use Rattle.messages.specs.Written.{Written, in_writing, error_text}
-use Rattle.messages.specs.Small.{IsSmallReply, is_reply_status}
 use Rattle.messages.specs.SmallLaws.{small_bytes, small_sent_back}
-use Rattle.answers.specs.Outcomes.{status_of}
 use Rattle.answers.specs.Short.{IsShortReply, IsShortReturn}
 
 -- a reply that is written of a small one

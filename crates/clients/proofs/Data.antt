@@ -1,11 +1,8 @@
 -- Text that is JSON, and bytes that are not.
 use Rattle.std.proofs.Common.{◌≡◌, ℕ, List, Bool, true, false, refl, Option, Some, None, Ok, Err}
-use Rattle.std.specs.Str.{IsUtf8, is_utf8}
-use Rattle.std.proofs.lemmas.Str.{IsUtf8-from_is_utf8, is_utf8-from_IsUtf8}
+use Rattle.clients.proofs.Names.{IsUtf8, is_utf8, IsUtf8-from_is_utf8, is_utf8-from_IsUtf8, data_of, NotJson, Memory}
 use Rattle.serde_json.specs.Data.{Data}
 use Rattle.serde_json.specs.Read.{read}
-use Rattle.clients.specs.Registry.{data_of}
-use Rattle.clients.specs.declared.fault.ConfigFault.TheVariants.{NotJson, Memory}
 
 pub data_where : (bytes : List ℕ) (value : Data) → IsUtf8 bytes → read bytes ≡ Some value → data_of bytes ≡ Ok value
 data_where bytes value is found = rw (is_utf8-from_IsUtf8 bytes is, found) refl

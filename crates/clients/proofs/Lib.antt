@@ -2,3 +2,4 @@ pub mod Items
 pub mod Places
 pub mod Listed
 pub mod Data
+pub mod Names

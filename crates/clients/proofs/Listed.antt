@@ -1,7 +1,6 @@
 -- Texts that are listed.
 use Rattle.std.proofs.Common.{◌≡◌, ℕ, List, [], ◌∷◌, ◌||◌, map, ap, refl, String, Global, string_bytes}
-use Rattle.std.specs.List.{list_any}
-use Rattle.std.specs.Str.{bytes_eq}
+use Rattle.clients.proofs.Names.{list_any, bytes_eq}
 
 -- a text is among the texts of strings where one of the strings has it
 pub any_text : (text : List ℕ) (strings : List (String Global))

@@ -1,14 +1,8 @@
 -- A further text among numbered ones.
 use Rattle.std.proofs.Common.{◌≡◌, ◌<◌, ◌≤◌, IfSome, ℕ, ◌+◌, add-zero, Bool, true, false, cond, List, [], ◌∷◌, ◌++◌, length, Option, Some, None, refl, sym, ap, subst, map, ◌∙◌, arith, string_bytes, String, Global}
-use Rattle.std.specs.List.{position_from}
-use Rattle.std.specs.Str.{bytes_eq}
-use Rattle.std.specs.String.{string_cmp}
-use Rattle.std.specs.BTreeMap.{BTreeMap, Updates}
+use Rattle.clients.proofs.Names.{position_from, bytes_eq, string_cmp, BTreeMap, Updates, IsUtf8, IsUtf8-string_bytes, number_among, IsIndex}
 use Rattle.std.proofs.lemmas.Slice.Eq.{bytes_eq-Decides}
 use Rattle.std.proofs.lemmas.Map.Text.{btree_map_updates_text}
-use Rattle.std.specs.Str.{IsUtf8}
-use Rattle.std.proofs.lemmas.Str.{IsUtf8-string_bytes}
-use Rattle.clients.specs.Numbers.{number_among, IsIndex}
 
 -- where the last one does not pass, the place is as before
 place_before : {X : Type 0} (p : X → Bool) (i : ℕ) (xs : List X) (x : X) → p x ≡ false

@@ -1,38 +1,15 @@
 -- What a ruling comes to is answered, at its endpoint and by its path.
 use Rattle.std.proofs.Common.{◌≡◌, ◌≤◌, ℕ, List, [], ◌++◌, Bool, true, false, max, refl, ap, sym, ◌∙◌, arith, append-nil, subst, Result, Ok, Err, Option, Some, None}
+use Rattle.endpoints.proofs.Names.{RegistryRecord, changes_of, as_list, AllFollow, Event, happening, with_changes, Changes, DatedFact, HookFault, Hosting, Asked, path_of, Written, in_writing, Draws}
+use Rattle.endpoints.proofs.Names.{Held, FitsStore, fits_later, Outcome, bare, reply_of, Ruling, hook_change_at, HostRun, IsHostFault, says_with, IsSame, Makes, MakesHost, StandsAlone, with_notes}
+use Rattle.endpoints.proofs.Names.{AllRightAfter, CanMakeAll, endpoint_at, method_at, Asking, FitsNow, IsRuling, comes_to, setting_now, AnswersRequest, before_now, SeenServer, Outset, Before}
+use Rattle.endpoints.proofs.Names.{FitsServer, AreUnkept, AreNoted, IsStep, outset_of}
 use Rattle.std.specs.Prelude.{bytes_eq}
-use Rattle.clients.specs.RegistryRecord.{RegistryRecord}
-use Rattle.consent.specs.Changes.{changes_of, as_list, AllFollow}
-use Rattle.consent.specs.History.{Event, Change as happening, with_changes}
-use Rattle.consent.specs.declared.change.Changes.{Changes}
-use Rattle.change_codec.specs.Spelling.{DatedFact}
 use Rattle.change_codec.specs.Happened.{all_dated}
 use Rattle.change_codec.specs.HappenedLaws.{Happened-joined, Happened-own}
-use Rattle.hook_host.specs.declared.fault.HookFault.{HookFault}
-use Rattle.hook_host.specs.declared.host.HookHost.{Ghosts as Hosting}
-use Rattle.messages.specs.Asked.{Asked}
-use Rattle.messages.specs.Target.{path_of}
-use Rattle.messages.specs.Written.{Written, in_writing}
-use Rattle.messages.specs.declared.request.Draws.{Draws}
-use Rattle.token_store.specs.Kept.{Held}
-use Rattle.token_store.specs.Fits.{FitsStore}
-use Rattle.token_store.specs.FitsLaws.{fits_later}
-use Rattle.answers.specs.Outcomes.{Outcome, bare}
-use Rattle.answers.specs.Replies.{reply_of}
 use Rattle.answers.specs.declared.endpoint.Endpoint.{Endpoint}
-use Rattle.endpoints.specs.declared.ruling.Ruling.{Ruling}
-use Rattle.endpoints.specs.HookPaths.{hook_change_at}
-use Rattle.endpoints.specs.Hosts.{HostRun, IsHostFault, says_with}
-use Rattle.endpoints.specs.Making.{IsSame, Makes, MakesHost, StandsAlone}
-use Rattle.endpoints.specs.Noting.{with_notes}
-use Rattle.endpoints.specs.Bounded.{AllRightAfter}
-use Rattle.endpoints.specs.Ruling.{CanMakeAll}
-use Rattle.answers.specs.Paths.{endpoint_at, method_at}
 use Rattle.endpoints.specs.Replies.{request_outcome, hook_change}
-use Rattle.endpoints.specs.Rulings.{Asking, FitsNow, IsRuling, comes_to, setting_now}
-use Rattle.endpoints.specs.RulingsParts.{AnswersRequest, before_now}
-use Rattle.endpoints.specs.Server.{SeenServer, Outset, Before, FitsServer, AreUnkept, AreNoted, IsStep, outset_of}
-use Rattle.endpoints.proofs.Ruled.{told_changes, told_reply}
+use Rattle.endpoints.proofs.Ruled.{told_parts}
 
 pub at_moment : (greatest m moment n : ℕ) → n ≡ max greatest moment → greatest ≡ m → (m ≤ n) × (n ≡ max m moment)
 at_moment greatest m moment n is same = (omega (arith, is, same), is ∙ ap (λ x. max x moment) same)
@@ -52,18 +29,6 @@ still_noted : {H : Type 0} (old new : SeenServer H) (history : List Event) → n
 still_noted old new history same kept noted = rw (append-nil history) (subst (λ u. AreUnkept u kept history) (sym same) noted)
 
 module _ {H : Type 0} (hosting : Hosting H) where
-  -- time goes on
-  pub gone_on : (old : SeenServer H) (outset : Outset H) (history : List Event) (n m : ℕ) → n ≤ m →
-      FitsServer hosting old outset history n → FitsServer hosting (record old { greatest = m }) outset history m
-  gone_on old outset history n m le fits = record {
-    rules_are = fits.rules_are;
-    greatest_is = refl;
-    store = fits_later old.store history n m le fits.store;
-    consents = fits.consents;
-    hosts = fits.hosts;
-    right = fits.right;
-  }
-
   -- time goes on, and what has expired is let go of
   pub swept : (old : SeenServer H) (outset : Outset H) (history : List Event) (n m : ℕ) (kept : Held) → n ≤ m →
       FitsServer hosting old outset history n → (FitsStore old.store history m → FitsStore kept history m) →
@@ -98,7 +63,8 @@ module _ {H : Type 0} (hosting : Hosting H) where
   answered old mid new first history asking ruling reply r same makes runs noted is fits =
       let outset = outset_of old.rules first in
       let o = comes_to hosting old history asking r.fault in
-      let changes = told_changes hosting (setting_now hosting old history asking.draws r.fault) ruling.decision o r.told_is in
+      let told = told_parts hosting (setting_now hosting old history asking.draws r.fault) ruling.decision o r.told_is in
+      let changes = told.0 in
       let go = subst (λ (n : ℕ). FitsServer hosting mid outset history n → changes_of history n (as_list ruling.decision.changes) ≡ Some o.changes →
       AllFollow history n o.changes → AllRightAfter old.rules history n o.changes → StandsAlone (as_list ruling.decision.changes) →
       CanMakeAll hosting mid.host (as_list ruling.decision.changes) ruling.checked → FitsServer hosting new outset (with_changes history n o.changes) n)
@@ -106,7 +72,7 @@ module _ {H : Type 0} (hosting : Hosting H) where
         r.fault,
         r.host_has,
         record {
-          reply_is = is ∙ ap in_writing (sym (told_reply hosting (setting_now hosting old history asking.draws r.fault) ruling.decision o r.told_is));
+          reply_is = is ∙ ap in_writing (sym told.1);
           fits = go (same.fits outset history old.greatest fits) changes r.follow r.right r.alone (rw same.host r.hooks);
           hosts =
               subst (λ (h : H). HostRun hosting h (with_changes [] old.greatest o.changes) new.host) same.host

@@ -1,31 +1,14 @@
 -- What is made beside the store.
-use Rattle.std.proofs.Common.{◌≡◌, ◌∙◌, ap, sym, subst, refl, ℕ, List, [], ◌∷◌, Option, Some, None}
+use Rattle.std.proofs.Common.{◌≡◌, ◌∙◌, ap, sym, subst, refl, ℕ, List, [], ◌∷◌, Option, Some, None, false}
+use Rattle.endpoints.proofs.Names.{option_map, same_Some, change_of, changes_of, family_ended, issued_with, as_list, AllFollow, KeptConsents, FitsConsents, begins, fits_consents-push_other}
+use Rattle.endpoints.proofs.Names.{is_consent, Event, happening, Grant, event_at, grant_at, with_change, with_changes, IssuedAlone, Spent, Changes, Nothing, One, Used, NewToken, DatedFact, Hosting}
+use Rattle.endpoints.proofs.Names.{FitsStore, Held, HostRun, HostStep, AllPlain, IsPlain, Makes, MakesHost, CanMake, Checked, NoHook, Installs, Removes, SeenServer}
 use Rattle.std.specs.Borrow.{Bor}
-use Rattle.std.specs.Prelude.{option_map}
-use Rattle.consent.specs.Changes.{change_of, changes_of, family_ended, issued_with, as_list, AllFollow}
-use Rattle.consent.specs.Consents.{KeptConsents, FitsConsents}
-use Rattle.consent.specs.ConsentLaws.{fits_consents-push_other}
-use Rattle.consent.specs.History.{Event, Change as happening, Grant, event_at, grant_at, with_change, with_changes}
-use Rattle.consent.specs.History.{Change as told}
 use Rattle.consent.specs.declared.record_version.RecordVersion.{RecordVersion}
 use Rattle.consent.specs.declared.change.Change.{Change}
-use Rattle.consent.specs.declared.change.Change.TheVariants.{Consented, CodeGiven, IssuedAlone, Issued, Spent, FamilyEnded, HookSet, HookGone}
-use Rattle.consent.specs.declared.change.Changes.{Changes}
-use Rattle.consent.specs.declared.change.Changes.TheVariants.{Nothing, One, Two, Three}
-use Rattle.consent.specs.declared.change.NewToken.{NewToken}
-use Rattle.change_codec.specs.Spelling.{DatedFact}
-use Rattle.endpoints.specs.Layouts.{layout_of}
-use Rattle.hook_host.specs.declared.host.HookHost.{Ghosts as Hosting}
-use Rattle.token_store.specs.Fits.{FitsStore}
-use Rattle.token_store.specs.Kept.{Held}
-use Rattle.endpoints.specs.Hosts.{HostRun, HostStep}
-use Rattle.endpoints.specs.Making.{AllPlain, IsPlain, Makes, MakesHost}
+use Rattle.consent.specs.declared.change.Change.TheVariants.{Consented, CodeGiven, Issued, FamilyEnded, HookSet, HookGone}
 use Rattle.endpoints.specs.MakingParts.{MakesConsents}
-use Rattle.endpoints.specs.Ruling.{CanMake}
-use Rattle.endpoints.specs.declared.ruling.Checked.{Checked}
-use Rattle.endpoints.specs.declared.ruling.Checked.TheVariants.{NoHook, Installs, Removes}
-use Rattle.endpoints.specs.Server.{SeenServer}
-use Rattle.endpoints.proofs.Ruled.{begins, same_some}
+use Rattle.endpoints.proofs.Points.{option_map_some}
 use Rattle.endpoints.proofs.Stepping.{AllQuiet, IsQuiet, all_right-more, host_join, quiet_consents, quiet_host}
 
 -- a change that is none of these is plain
@@ -35,64 +18,56 @@ pub plain_of : (c : Change) → ((owner client mask : ℕ) → c ≡ Consented o
 plain_of (Consented owner client mask) no_consent no_set no_gone = absurd (no_consent owner client mask refl)
 plain_of (HookSet name version code) no_consent no_set no_gone = absurd (no_set name version code refl)
 plain_of (HookGone name) no_consent no_set no_gone = absurd (no_gone name refl)
-plain_of (CodeGiven facts digest) no_consent no_set no_gone = tt
-plain_of (IssuedAlone client token) no_consent no_set no_gone = tt
-plain_of (Issued of token) no_consent no_set no_gone = tt
-plain_of (Spent digest) no_consent no_set no_gone = tt
-plain_of (FamilyEnded of) no_consent no_set no_gone = tt
+plain_of _ no_consent no_set no_gone = tt
 
-issued_quiet : (o : Option Grant) (token : NewToken) (next : happening) → option_map (issued_with token) o ≡ Some next → IsQuiet next
-issued_quiet None token next is = absurd (cc)
-issued_quiet (Some g) token next is = subst IsQuiet (same_some _ next is) tt
-
-ended_quiet : (o : Option Grant) (next : happening) → option_map family_ended o ≡ Some next → IsQuiet next
-ended_quiet None next is = absurd (cc)
-ended_quiet (Some g) next is = subst IsQuiet (same_some _ next is) tt
+named_quiet : (f : Grant → happening) (o : Option Grant) (next : happening) → ((g : Grant) → IsQuiet (f g)) → option_map f o ≡ Some next → IsQuiet next
+named_quiet f o next each is = option_map_some f o next is (λ g _ same. subst IsQuiet same (each g))
 
 quiet_meant : (history : List Event) (m : ℕ) (c : Change) (next : happening) → IsPlain c → change_of history m c ≡ Some next → IsQuiet next
 quiet_meant history m (Consented owner client mask) next is_plain is = absurd is_plain
 quiet_meant history m (HookSet name version code) next is_plain is = absurd is_plain
 quiet_meant history m (HookGone name) next is_plain is = absurd is_plain
-quiet_meant history m (CodeGiven facts digest) next is_plain is = subst IsQuiet (same_some _ next is) tt
-quiet_meant history m (IssuedAlone client token) next is_plain is = subst IsQuiet (same_some _ next is) tt
-quiet_meant history m (Issued of token) next is_plain is = issued_quiet (grant_at history of m) token next is
-quiet_meant history m (Spent digest) next is_plain is = subst IsQuiet (same_some _ next is) tt
-quiet_meant history m (FamilyEnded of) next is_plain is = ended_quiet (grant_at history of m) next is
+quiet_meant history m (CodeGiven facts digest) next is_plain is = subst IsQuiet (same_Some _ next is) tt
+quiet_meant history m (IssuedAlone client token) next is_plain is = subst IsQuiet (same_Some _ next is) tt
+quiet_meant history m (Issued of token) next is_plain is = named_quiet (issued_with token) (grant_at history of m) next (λ g. tt) is
+quiet_meant history m (Spent digest) next is_plain is = subst IsQuiet (same_Some _ next is) tt
+quiet_meant history m (FamilyEnded of) next is_plain is = named_quiet family_ended (grant_at history of m) next (λ g. tt) is
 
 all_quiet : (history : List Event) (m : ℕ) (cs : List Change) (next : List happening) → AllPlain cs → changes_of history m cs ≡ Some next → AllQuiet next
-all_quiet history m [] next are is = subst AllQuiet (same_some [] next is) tt
+all_quiet history m [] next are is = subst AllQuiet (same_Some [] next is) tt
 all_quiet history m (c ∷ cs) next are is =
     let b = begins history m c cs next is in
-    subst AllQuiet (sym b.next_is) (quiet_meant history m c b.first are.0 b.first_is, all_quiet (with_change history m b.first) m cs b.later are.1 b.later_are)
+    subst AllQuiet (sym b.told_is) (quiet_meant history m c b.first are.0 b.first_is, all_quiet (with_change history m b.first) m cs b.later are.1 b.later_are)
 
 -- the one change is the one that is meant
 one_meant : (history : List Event) (m : ℕ) (c : Change) (next : List happening) (wanted : happening) → changes_of history m (c ∷ []) ≡ Some next →
     change_of history m c ≡ Some wanted → next ≡ wanted ∷ []
 one_meant history m c next wanted is meant =
     let b = begins history m c [] next is in
-    let first : b.first ≡ wanted = same_some _ _ (sym b.first_is ∙ meant) in
-    let later : b.later ≡ [] = sym (same_some [] b.later b.later_are) in
-    b.next_is ∙ ap (λ f. f ∷ b.later) first ∙ ap (λ l. wanted ∷ l) later
+    let first : b.first ≡ wanted = same_Some _ _ (sym b.first_is ∙ meant) in
+    let later : b.later ≡ [] = sym (same_Some [] b.later b.later_are) in
+    b.told_is ∙ ap (λ f. f ∷ b.later) first ∙ ap (λ l. wanted ∷ l) later
 
 pub plain_consents : (kept : KeptConsents) (cs : List Change) → AllPlain cs → MakesConsents kept cs kept
 plain_consents kept cs are history m next alone is fits = quiet_consents kept history m next (all_quiet history m cs next are is) fits
 
-pub set_consents : (kept : KeptConsents) (c : Change) (name : Bor (List ℕ)) (version : RecordVersion) (code : Bor (List ℕ)) → c ≡ HookSet name version code → MakesConsents kept (c ∷ []) kept
-set_consents kept c name version code same history m next alone is fits =
-    let meant = one_meant history m c next (told.HookSet name.now version code.now) is (ap (change_of history m) same) in
-    subst (λ n. FitsConsents kept (with_changes history m n)) (sym meant) (fits_consents-push_other kept history (event_at m (told.HookSet name.now version code.now)) refl fits)
+-- a change that means one of the hooks
+pub hook_consents : (kept : KeptConsents) (c : Change) (meant : happening) → ((history : List Event) (m : ℕ) → change_of history m c ≡ Some meant) →
+    is_consent meant ≡ false → MakesConsents kept (c ∷ []) kept
+hook_consents kept c meant means other history m next alone is fits =
+    subst (λ n. FitsConsents kept (with_changes history m n)) (sym (one_meant history m c next meant is (means history m)))
+    (fits_consents-push_other kept history (event_at m meant) other fits)
 
-pub gone_consents : (kept : KeptConsents) (c : Change) (name : Bor (List ℕ)) → c ≡ HookGone name → MakesConsents kept (c ∷ []) kept
-gone_consents kept c name same history m next alone is fits =
-    let meant = one_meant history m c next (told.HookGone name.now) is (ap (change_of history m) same) in
-    subst (λ n. FitsConsents kept (with_changes history m n)) (sym meant) (fits_consents-push_other kept history (event_at m (told.HookGone name.now)) refl fits)
+-- a use is plain
+used_plain : (of : List ℕ) (access : NewToken) (refresh : Option NewToken) → AllPlain (as_list (Used of access refresh))
+used_plain of access None = (tt, (tt, tt))
+used_plain of access (Some token) = (tt, (tt, (tt, tt)))
 
 -- changes of which not one stands alone
 pub many_consents : (kept : KeptConsents) (changes : Changes) → ((c : Change) → changes ≡ One c → ⊥) → MakesConsents kept (as_list changes) kept
 many_consents kept Nothing other = plain_consents kept [] tt
 many_consents kept (One c) other = absurd (other c refl)
-many_consents kept (Two a b) other = λ history m next alone. plain_consents kept (a ∷ b ∷ []) alone history m next alone
-many_consents kept (Three a b c) other = λ history m next alone. plain_consents kept (a ∷ b ∷ c ∷ []) alone history m next alone
+many_consents kept (Used of access refresh) other = plain_consents kept (as_list (Used of access refresh)) (used_plain of access refresh)
 
 module _ {H : Type 0} (hosting : Hosting H) where
   pub plain_host : (host : H) (cs : List Change) (checked : Checked H) → AllPlain cs → MakesHost hosting host cs checked host
@@ -101,24 +76,12 @@ module _ {H : Type 0} (hosting : Hosting H) where
   pub many_host : (host : H) (changes : Changes) (checked : Checked H) → ((c : Change) → changes ≡ One c → ⊥) → MakesHost hosting host (as_list changes) checked host
   many_host host Nothing checked other = plain_host host [] checked tt
   many_host host (One c) checked other = absurd (other c refl)
-  many_host host (Two a b) checked other = λ history m next alone. plain_host host (a ∷ b ∷ []) checked alone history m next alone
-  many_host host (Three a b c) checked other = λ history m next alone. plain_host host (a ∷ b ∷ c ∷ []) checked alone history m next alone
+  many_host host (Used of access refresh) checked other = plain_host host (as_list (Used of access refresh)) checked (used_plain of access refresh)
 
-  step_host : (old new : H) (c : Change) (checked : Checked H) (wanted : happening) → ((history : List Event) (m : ℕ) → change_of history m c ≡ Some wanted) →
+  pub step_host : (old new : H) (c : Change) (checked : Checked H) (wanted : happening) → ((history : List Event) (m : ℕ) → change_of history m c ≡ Some wanted) →
       HostStep hosting old wanted new → MakesHost hosting old (c ∷ []) checked new
   step_host old new c checked wanted meant step history m next alone can is =
       subst (λ n. HostRun hosting old (with_changes [] m n) new) (sym (one_meant history m c next wanted is (meant history m))) (new, step, refl)
-
-  pub consented_host : (host : H) (c : Change) (checked : Checked H) (owner client mask : ℕ) → c ≡ Consented owner client mask → MakesHost hosting host (c ∷ []) checked host
-  consented_host host c checked owner client mask same = step_host host host c checked (told.Consented owner client mask) (λ history m. ap (change_of history m) same) refl
-
-  pub set_host : (old new : H) (c : Change) (checked : Checked H) (name : Bor (List ℕ)) (version : RecordVersion) (code : Bor (List ℕ)) → c ≡ HookSet name version code →
-      hosting.installs old name.now (layout_of version) code.now new → MakesHost hosting old (c ∷ []) checked new
-  set_host old new c checked name version code same done =
-      step_host old new c checked (told.HookSet name.now version code.now) (λ history m. ap (change_of history m) same) done
-
-  pub gone_host : (old new : H) (c : Change) (checked : Checked H) (name : Bor (List ℕ)) → c ≡ HookGone name → hosting.removes old name.now new → MakesHost hosting old (c ∷ []) checked new
-  gone_host old new c checked name same done = step_host old new c checked (told.HookGone name.now) (λ history m. ap (change_of history m) same) done
 
   -- a hook is set only where it was checked
   unset : (host : H) (name : Bor (List ℕ)) (version : RecordVersion) (code : Bor (List ℕ)) (checked : Checked H) → ((hook : H) → checked ≡ Installs hook → ⊥) →

@@ -1,53 +1,26 @@
 -- What the endpoints do but the token endpoint may come next and is right.
-use Rattle.std.proofs.Common.{◌≡◌, ◌⊎◌, inl, inr, ℕ, List, [], ◌∷◌, true, Option, Some, None, length, refl, ap, ◌∙◌}
-use Rattle.std.specs.Prelude.{◌==◌, not, codes, bytes_eq, is_some, option_and_then, Result, Ok, Err}
-use Rattle.std.specs.Option.{option_map_or}
-use Rattle.std.specs.Result.{result_ok}
-use Rattle.sha2.specs.Sha256.{sha256}
-use Rattle.pkce.specs.Token.{token_text}
-use Rattle.params.specs.Form.{read_params, value_sent}
-use Rattle.clients.specs.ClientRecord.{ClientRecord}
-use Rattle.clients.specs.Clients.{ids, client_at}
+use Rattle.std.proofs.Common.{◌≡◌, ◌⊎◌, inl, inr, ℕ, List, [], ◌∷◌, true, Option, Some, refl, ap, ◌∙◌}
+use Rattle.endpoints.proofs.Names.{is_some, option_map_or, result_ok, not-false, option_and_then_some, sha256, read_params, value_sent, ClientRecord, ids, client_at, has_grant, AuthorizationCode}
+use Rattle.endpoints.proofs.Names.{AllFollow, is_taken-parts, Grant, IsHistory, is_within, is_code, consented_scope, grant_at, live_grant, has_consent_room, grant_at-placed, Asked, query_of}
+use Rattle.endpoints.proofs.Names.{ErrorName, InvalidRequest, InvalidGrant, InvalidScope, UnauthorizedClient, UnsupportedResponseType, AccessDenied, Reply, plain, Empty, Inactive, Told, Outcome}
+use Rattle.endpoints.proofs.Names.{bare, only, refuse, unavailable, Parameters, KnownClient, known_client, client_named, form_of, owner_of_key, scope_asked, scope_within, Setting, digest_told}
+use Rattle.endpoints.proofs.Names.{live_token, authorize, challenge_sent, code_sent_back, redirect_sent, turned_back, AllRightAfter, MayHave, allowed_to, give_consent, introspect, revoke_token}
+use Rattle.endpoints.proofs.Names.{revoked}
+use Rattle.std.specs.Prelude.{◌==◌, not, codes, bytes_eq, option_and_then, Result, Ok, Err}
 use Rattle.clients.specs.Numbers.{number_among}
-use Rattle.clients.specs.Grants.{has_grant}
-use Rattle.clients.specs.declared.grant.GrantType.TheVariants.{AuthorizationCode}
-use Rattle.consent.specs.Changes.{AllFollow}
-use Rattle.consent.specs.GrowthLaws.{is_taken-parts}
-use Rattle.consent.specs.History.{Change, Grant, IsHistory, is_within, is_code, consented_scope, live_grant, has_consent_room}
-use Rattle.consent.specs.History.Change.{Consented, CodeGiven, Issued, Spent, FamilyEnded, HookSet, HookGone}
-use Rattle.consent.specs.HistoryLaws.{grant_at-placed}
+use Rattle.consent.specs.History.{Change}
+use Rattle.consent.specs.History.Change.{Consented, FamilyEnded}
 use Rattle.consent.specs.Facts.{GivenCode}
-use Rattle.messages.specs.Asked.{Asked}
 use Rattle.messages.specs.Members.{Member}
-use Rattle.messages.specs.Target.{query_of}
-use Rattle.messages.specs.declared.error.ErrorName.{ErrorName}
-use Rattle.messages.specs.declared.error.ErrorName.TheVariants.{InvalidRequest, InvalidGrant, InvalidScope, UnauthorizedClient, UnsupportedResponseType, AccessDenied}
-use Rattle.messages.specs.Reply.{Reply, plain, sent_back}
-use Rattle.messages.specs.Reply.Body.{Empty, Inactive, Told}
-use Rattle.answers.specs.Outcomes.{Outcome, bare, only, refuse, unavailable}
-use Rattle.answers.specs.Requesters.{Parameters, KnownClient, known_client, client_named, form_of, owner_of_key, scope_asked, scope_within}
-use Rattle.answers.specs.Setting.{Setting}
-use Rattle.answers.specs.Texts.{digest_told, where_passes}
-use Rattle.answers.specs.Tokens.{live_token}
-use Rattle.endpoints.specs.Authorize.{authorize, challenge_sent, code_sent_back, redirect_sent, state_sent, turned_back}
-use Rattle.endpoints.specs.Bounded.{AllRightAfter, MayHave, allowed_to}
-use Rattle.endpoints.specs.ConsentPath.{give_consent}
 use Rattle.endpoints.specs.Documents.{document_outcome}
-use Rattle.endpoints.specs.Introspect.{introspect}
-use Rattle.endpoints.specs.Revoke.{revoke_token, revoked}
 use Rattle.endpoints.proofs.Points.{known_at, error_all, unavailable_all, point_all, need_all, unless_all, authenticated_all}
-use Rattle.endpoints.proofs.Sound.{scope_is_within, not_false}
+use Rattle.endpoints.proofs.Sound.{passes, scope_is_within}
 use Rattle.endpoints.proofs.Stepping.{AllQuiet}
-use Rattle.endpoints.proofs.Telling.{live_named}
+use Rattle.endpoints.proofs.Telling.{good}
 
 abbrev pub IsConsent : Change → Type 0
 IsConsent (Consented owner client mask) = Unit {0}
-IsConsent (CodeGiven family code digest) = ⊥
-IsConsent (Issued family parties token) = ⊥
-IsConsent (Spent digest) = ⊥
-IsConsent (FamilyEnded family) = ⊥
-IsConsent (HookSet name version code) = ⊥
-IsConsent (HookGone name) = ⊥
+IsConsent _ = ⊥
 
 -- it is one consent
 abbrev pub IsOneConsent : List Change → Type 0
@@ -92,12 +65,10 @@ module _ (s : Setting) (is : IsHistory s.history s.moment) where
 
   -- the live token of the text is named by the text's digest
   ended : (text : List ℕ) (token : Grant) → live_token s.history s.moment text ≡ Some token → AllFollow s.history s.moment (FamilyEnded token.family ∷ [])
-  ended text token live = by_digest (digest_told text) live
-    where
-      by_digest : (o : Option (List ℕ)) → where_passes (λ (g : Grant). not (is_code g.kind)) (option_and_then (λ digest. live_grant s.history digest s.moment) o) ≡ Some token →
-          AllFollow s.history s.moment (FamilyEnded token.family ∷ [])
-      by_digest None h = absurd (cc)
-      by_digest (Some digest) h = (grant_at-placed s.history digest s.moment token is.placed (live_named s.history digest s.moment token h), tt)
+  ended text token live =
+      option_and_then_some (λ digest. live_grant s.history digest s.moment) (digest_told text) token
+      (passes (λ (g : Grant). not (is_code g.kind)) (option_and_then (λ digest. live_grant s.history digest s.moment) (digest_told text)) token live).0
+      (λ digest _ live. (grant_at-placed s.history digest s.moment token is.placed (good s.history digest s.moment (grant_at s.history digest s.moment) token live), tt))
 
   pub revoke_fair : (asked : Asked) → Fair (revoke_token s asked)
   revoke_fair asked =
@@ -121,12 +92,7 @@ module _ (s : Setting) (is : IsHistory s.history s.moment) where
       is_within new.scope (consented_scope s.history new.owner new.client) ≡ true → Fair (code_sent_back s params new)
   code_fair params new allowed consented =
       let digest = sha256 s.draws.first in
-      unless_all Fair still s (digest ∷ [])
-      (record {
-        reply = sent_back new.redirect (codes "code") (token_text s.draws.first) (state_sent params);
-        changes = CodeGiven (length s.history) new digest ∷ [];
-      })
-      (λ free. record {
+      unless_all Fair still s (digest ∷ []) _ (λ free. record {
         follow = ((refl, (is_taken-parts s.history s.moment digest [] free).0), tt);
         right = ((allowed, consented), tt);
         tame = inl (tt, tt);
@@ -134,11 +100,9 @@ module _ (s : Setting) (is : IsHistory s.history s.moment) where
 
   -- a client that is named is one of the registry's
   named_at : (params : Parameters) (known : KnownClient) → client_named s.rules params ≡ Some known → client_at known.number s.rules.clients ≡ Some known.client
-  named_at params known named = by_number (option_and_then (λ id. number_among id (ids s.rules.clients)) (value_sent (codes "client_id") params)) named
-    where
-      by_number : (o : Option ℕ) → option_and_then (known_client s.rules) o ≡ Some known → client_at known.number s.rules.clients ≡ Some known.client
-      by_number None h = absurd (cc)
-      by_number (Some number) h = known_at s.rules number known h
+  named_at params known named =
+      option_and_then_some (known_client s.rules) (option_and_then (λ id. number_among id (ids s.rules.clients)) (value_sent (codes "client_id") params)) known named
+      (λ number _ is. known_at s.rules number known is)
 
   pub authorize_fair : (asked : Asked) → Fair (authorize s asked)
   authorize_fair asked =
@@ -157,4 +121,4 @@ module _ (s : Setting) (is : IsHistory s.history s.moment) where
       point_all Fair still (not (is_within scope (consented_scope s.history owner known.number))) (turned AccessDenied) _ (λ _. still _) (λ consented.
       code_fair params (record { client = known.number; owner = owner; scope = scope; redirect = uri; challenge = challenge })
       (record { is_client = ap is_some at; within = ap (is_within scope) allowed ∙ scope_is_within s.rules known.client.allowed params scope within })
-      (not_false _ consented)))))))))))
+      (not-false _ consented)))))))))))

@@ -14,3 +14,4 @@ pub mod Sweeping
 pub mod Besides
 pub mod Redoing
 pub mod Restored
+pub mod Names

@@ -1,35 +1,25 @@
 -- What holds of each reply with which nothing happens and of what the points lead on to, holds of a list of points.
 use Rattle.std.proofs.Common.{◌≡◌, ℕ, List, Bool, true, false, Option, Some, None, refl, subst}
-use Rattle.std.specs.Prelude.{option_map, Result, Ok, Err, not}
-use Rattle.clients.specs.RegistryRecord.{RegistryRecord}
-use Rattle.clients.specs.ClientRecord.{ClientRecord}
-use Rattle.clients.specs.Clients.{client_at}
+use Rattle.endpoints.proofs.Names.{option_map, same_Some, RegistryRecord, client_at, Asked, Reply, plain, Failure, Empty, ErrorName, InvalidRequest, InvalidClient, has_room, is_taken, Allowed}
+use Rattle.endpoints.proofs.Names.{Denied, EmptyScope, Extent, Outcome, point, need, only, refuse, status_of, unavailable, unless_denied, unless_taken, Parameters, KnownClient, known_client, form_of}
+use Rattle.endpoints.proofs.Names.{with_client, with_authenticated, Setting}
+use Rattle.std.specs.Prelude.{Result, Ok, Err, not}
 use Rattle.authentication.specs.Authentication.{authenticated}
 use Rattle.authentication.specs.declared.authentication.AuthFault.{AuthFault}
 use Rattle.authentication.specs.declared.authentication.AuthFault.TheVariants as auth
-use Rattle.messages.specs.Asked.{Asked}
-use Rattle.messages.specs.Reply.{Reply, plain}
-use Rattle.messages.specs.Reply.Body.{Failure, Empty}
-use Rattle.messages.specs.declared.error.ErrorName.{ErrorName}
-use Rattle.messages.specs.declared.error.ErrorName.TheVariants.{InvalidRequest, InvalidClient}
-use Rattle.consent.specs.History.{has_room, is_taken}
 use Rattle.hook_record.specs.declared.Narrowed.{Narrowed}
-use Rattle.hook_record.specs.declared.Narrowed.TheVariants.{Allowed, Denied, EmptyScope}
-use Rattle.answers.specs.Outcomes.{Extent, Outcome, point, need, only, refuse, status_of, unavailable, unless_denied, unless_taken}
-use Rattle.answers.specs.Requesters.{Parameters, KnownClient, known_client, form_of, with_client, with_authenticated}
-use Rattle.answers.specs.Setting.{Setting}
+
+-- what is mapped to something is something
+pub option_map_some : {A B P : Type 0} (f : A → B) (o : Option A) (y : B) → option_map f o ≡ Some y → ((x : A) → o ≡ Some x → f x ≡ y → P) → P
+option_map_some f None y e k = absurd (cc)
+option_map_some f (Some x) y e k = k x refl (same_Some (f x) y e)
 
 -- what is known of a client is its number's
 pub known_at : (rules : RegistryRecord) (number : ℕ) (known : KnownClient) → known_client rules number ≡ Some known →
     client_at known.number rules.clients ≡ Some known.client
-known_at rules number known is = by_client (client_at number rules.clients) refl is
-  where
-    by_client : (o : Option ClientRecord) → client_at number rules.clients ≡ o → option_map (λ client. record { number = number; client = client }) o ≡ Some known →
-        client_at known.number rules.clients ≡ Some known.client
-    by_client None at h = absurd (cc)
-    by_client (Some client) at h =
-        let same : record { number = number; client = client } ≡ known = cc in
-        subst (λ (k : KnownClient). client_at k.number rules.clients ≡ Some k.client) same at
+known_at rules number known is =
+    option_map_some (λ client. record { number = number; client = client }) (client_at number rules.clients) known is
+    (λ client at same. subst (λ (k : KnownClient). client_at k.number rules.clients ≡ Some k.client) same at)
 
 module _ (Q : Outcome → Type 0) (still : (reply : Reply) → Q (only reply)) where
   pub error_all : (error : ErrorName) → Q (refuse error)
@@ -49,15 +39,9 @@ module _ (Q : Outcome → Type 0) (still : (reply : Reply) → Q (only reply)) w
 
   pub unless_all : (s : Setting) (digests : List (List ℕ)) (given : Outcome) →
       (is_taken s.history s.moment digests ≡ false → Q given) → Q (unless_taken s digests given)
-  unless_all s digests given free = by_room (has_room s.history s.moment digests)
-    where
-      by_taken : (taken : Bool) → (taken ≡ false → Q given) → Q (point taken unavailable given)
-      by_taken true z = unavailable_all
-      by_taken false z = z refl
-
-      by_room : (room : Bool) → Q (point (not room) unavailable (point (is_taken s.history s.moment digests) unavailable given))
-      by_room true = by_taken (is_taken s.history s.moment digests) free
-      by_room false = unavailable_all
+  unless_all s digests given free =
+      point_all (not (has_room s.history s.moment digests)) unavailable _ (λ _. unavailable_all)
+      (λ _. point_all (is_taken s.history s.moment digests) unavailable given (λ _. unavailable_all) free)
 
   -- by what a host left
   pub left_all : (left : Narrowed) (denied empty : Outcome) (later : Extent → Outcome) → Q denied → Q empty →
@@ -71,10 +55,8 @@ module _ (Q : Outcome → Type 0) (still : (reply : Reply) → Q (only reply)) w
   client_all rules (Ok number) next each =
       need_all {A = KnownClient} (known_client rules number) unavailable next unavailable_all (λ known is. each known (known_at rules number known is))
   client_all rules (Err auth.TwoMethods) next each = error_all InvalidRequest
-  client_all rules (Err auth.NoClient) next each = error_all InvalidClient
-  client_all rules (Err auth.BadSecret) next each = error_all InvalidClient
-  client_all rules (Err auth.BadHeader) next each = error_all InvalidClient
   client_all rules (Err auth.Memory) next each = unavailable_all
+  client_all rules (Err _) next each = error_all InvalidClient
 
   -- of what is done for an authenticated client, where it holds of each client's
   pub authenticated_all : (rules : RegistryRecord) (asked : Asked) (next : Parameters → KnownClient → Outcome) →

@@ -1,36 +1,21 @@
 -- What is made again.
-use Rattle.std.proofs.Common.{◌≡◌, ◌≤◌, ◌⊎◌, ◌∙◌, ap, sym, refl, inl, inr, cond, not, ℕ, List, [], ◌∷◌, Bool, true, false, Option, Some, None, arith, subst}
-use Rattle.std.specs.Prelude.{◌&&◌, ◌==◌, ◌<◌, ◌↔◌, find, nat_le, is_some, option_map, Result, Ok, Err, OnOk}
-use Rattle.std.specs.Option.{option_and_then, option_map_or}
-use Rattle.std.proofs.lemmas.Bool.{and_parts, eqb-true, leb-true}
-use Rattle.clients.specs.ClientRecord.{ClientRecord}
-use Rattle.clients.specs.Clients.{client_at}
-use Rattle.clients.specs.RegistryRecord.{RegistryRecord}
-use Rattle.consent.specs.Changes.{change_of, changes_of, issued_with, family_ended}
-use Rattle.consent.specs.Consents.{FitsConsents}
-use Rattle.consent.specs.GrowthLaws.{is_taken-parts}
-use Rattle.consent.specs.History.{Event, Change as Happening, Grant, Terms, IsHistory, code_terms, consented_scope, grant_at, grants, has_ended, is_code, is_code_of, is_taken, is_within, has_room, terms_of, with_change, CanFollow}
-use Rattle.consent.specs.HistoryLaws.{code_terms-kin, grant_at-kin, grant_at-placed, opener-fresh}
+use Rattle.std.proofs.Common.{◌≡◌, ◌≤◌, ◌⊎◌, ◌∙◌, ap, sym, refl, inl, inr, not, ℕ, List, [], ◌∷◌, Bool, true, false, Option, Some, None, arith, subst}
+use Rattle.endpoints.proofs.Names.{◌<◌, ◌↔◌, find, nat_le, is_some, option_map, OnOk, nat_tests, and_parts, eqb-true, leb-true, not-true, RegistryRecord, change_of, changes_of, issued_with}
+use Rattle.endpoints.proofs.Names.{family_ended, FitsConsents, is_taken-parts, Event, Happening, Grant, Terms, IsHistory, code_terms, consented_scope, grant_at, grants, has_ended, is_code_of}
+use Rattle.endpoints.proofs.Names.{is_taken, is_within, terms_of, with_change, CanFollow, code_terms-kin, grant_at-kin, grant_at-placed, opener-fresh, NewToken, IssuedAlone, Spent, Hosting}
+use Rattle.endpoints.proofs.Names.{FitsStore, refusal, fits_later, store_history, Held, IsOfCode, IsOwn, IsRightChange, MayHave, is_of_code, token_life_limit, IsSame, Makes, RedoesChange}
+use Rattle.endpoints.proofs.Names.{RefusesRedo, history_refusal, or_not_right, unless_known, wanting, comes_of, is_right, is_right_of, may_have, may_have_token, CanMake, FitsServer, Outset}
+use Rattle.endpoints.proofs.Names.{SeenServer, Checked}
+use Rattle.std.specs.Prelude.{◌==◌, Result, Ok, Err}
+use Rattle.std.specs.Option.{option_and_then}
 use Rattle.consent.specs.Seen.{seen_at, seen_in}
-use Rattle.consent.specs.declared.change.NewToken.{NewToken}
 use Rattle.consent.specs.declared.change.Change.{Change}
-use Rattle.consent.specs.declared.change.Change.TheVariants.{Consented, CodeGiven, IssuedAlone, Issued, Spent, FamilyEnded, HookSet, HookGone}
-use Rattle.hook_host.specs.declared.host.HookHost.{Ghosts as Hosting}
-use Rattle.token_store.specs.Fits.{FitsStore, refusal, refusal_by}
-use Rattle.token_store.specs.FitsLaws.{fits_later, store_history}
+use Rattle.consent.specs.declared.change.Change.TheVariants.{Consented, CodeGiven, Issued, FamilyEnded, HookSet, HookGone}
 use Rattle.token_store.specs.Found.{code_scope_of, found_seen}
-use Rattle.token_store.specs.Kept.{Held}
 use Rattle.token_store.specs.declared.found.Found.{Found}
-use Rattle.endpoints.specs.Bounded.{IsOfCode, IsOwn, IsRightChange, MayHave, is_of_code, token_life_limit}
-use Rattle.endpoints.specs.Making.{IsSame, Makes}
-use Rattle.endpoints.specs.Redo.{RedoesChange, RefusesRedo, history_refusal, or_not_right, unless_known, wanting}
-use Rattle.endpoints.specs.Right.{comes_of, is_right, is_right_of, may_have, may_have_token}
 use Rattle.endpoints.specs.RedoParts.{FollowsEach, IsOfHistory}
-use Rattle.endpoints.specs.Ruling.{CanMake}
-use Rattle.endpoints.specs.Server.{FitsServer, Outset, SeenServer}
 use Rattle.endpoints.specs.declared.redo.RedoFault.{RedoFault}
-use Rattle.endpoints.specs.declared.redo.RedoFault.TheVariants.{MomentBack, Unknown, Store, ConsentsFull, NotRight, Hook, Memory}
-use Rattle.endpoints.specs.declared.ruling.Checked.{Checked}
+use Rattle.endpoints.specs.declared.redo.RedoFault.TheVariants.{MomentBack, Store, Hook, Memory}
 use Rattle.endpoints.proofs.Answering.{swept}
 
 mapped : {A B : Type 0} (f : A → B) (o : Option A) → is_some (option_map f o) ≡ is_some o
@@ -43,23 +28,14 @@ pub known_is : (history : List Event) (digest : List ℕ) (m : ℕ) (o : Option 
 known_is history digest m o is = sym (mapped found_seen o) ∙ ap is_some is ∙ mapped (seen_in history digest m) (grant_at history digest m)
 
 -- a digest that nothing refuses is free
-not_taken : (room taken : Bool) → option_map Store (refusal_by room taken) ≡ None → taken ≡ false
-not_taken room false is = refl
-not_taken true true is = absurd (cc)
-not_taken false true is = absurd (cc)
-
 free : (history : List Event) (m : ℕ) (digest : List ℕ) → option_map Store (refusal history m (digest ∷ [])) ≡ None → grant_at history digest m ≡ None
 free history m digest is =
-    (is_taken-parts history m digest [] (not_taken (has_room history m (digest ∷ [])) (is_taken history m (digest ∷ [])) is)).0
+    let free_of : is_taken history m (digest ∷ []) ≡ false = grind (arith, nat_tests, is) in (is_taken-parts history m digest [] free_of).0
 
 -- RIGHTNESS
 
 may : (rules : RegistryRecord) (client scope : ℕ) → may_have rules client scope ≡ true → MayHave rules client scope
-may rules client scope is = by (client_at client rules.clients) refl is
-  where
-    by : (o : Option ClientRecord) → client_at client rules.clients ≡ o → option_map_or (λ c. is_within scope c.allowed) o false ≡ true → MayHave rules client scope
-    by None at h = absurd (cc)
-    by (Some c) at h = record { is_client = ap is_some at; within = ap (λ o. is_within scope (option_map_or (λ c. c.allowed) o 0)) at ∙ h }
+may rules client scope is = record { is_client = grind (arith, is); within = grind (arith, is) }
 
 may_token : (rules : RegistryRecord) (client : ℕ) (token : NewToken) → may_have_token rules client token ≡ true →
     MayHave rules client token.scope × (token.life ≤ token_life_limit rules token.kind)
@@ -70,19 +46,7 @@ may_token rules client token is =
 -- a family without a code was opened by none
 uncoded : (family : ℕ) (gs : List Grant) → option_map terms_of (find (is_code_of family) gs) ≡ None → is_of_code (find (λ g. g.family == family) gs) ≡ false
 uncoded family [] none = refl
-uncoded family (g ∷ gs) none = by (is_code g.kind) refl (g.family == family) none (uncoded family gs)
-  where
-    by : (code : Bool) → is_code g.kind ≡ code → (same : Bool) → option_map terms_of (cond (code && same) (Some g) (find (is_code_of family) gs)) ≡ None →
-        (option_map terms_of (find (is_code_of family) gs) ≡ None → is_of_code (find (λ g. g.family == family) gs) ≡ false) →
-        is_of_code (cond same (Some g) (find (λ g. g.family == family) gs)) ≡ false
-    by true is true h more = absurd (cc)
-    by true is false h more = more h
-    by false is true h more = is
-    by false is false h more = more h
-
-not_true : (b : Bool) → not b ≡ true → b ≡ false
-not_true false h = refl
-not_true true h = absurd (cc)
+uncoded family (g ∷ gs) none = let more = uncoded family gs in grind (arith, nat_tests, none, more)
 
 terms_are : (c o : ℕ) (t : Terms) → t.client ≡ c → t.owner ≡ o → t ≡ record { client = c; owner = o; scope = t.scope }
 terms_are c o t client owner =
@@ -100,7 +64,7 @@ comes history of m g scope is at may_come = by (code_terms history g.family) ref
     by (Some t) terms h =
         let parts = and_parts (is_within scope t.scope) (not (has_ended history g.family)) h in
         let kin = code_terms-kin history of m g t is.kin at terms in
-        inr (t.scope, terms ∙ ap (λ (x : Terms). Some x) (terms_are g.client g.owner t kin.0 kin.1), parts.0, not_true (has_ended history g.family) parts.1)
+        inr (t.scope, terms ∙ ap (λ (x : Terms). Some x) (terms_are g.client g.owner t kin.0 kin.1), parts.0, not-true (has_ended history g.family) parts.1)
 
 -- WHAT COMES NEXT
 
@@ -195,20 +159,11 @@ module _ {H : Type 0} (hosting : Hosting H) where
       ((history : List Event) → FitsStore server.store history moment → FitsConsents server.consents history → Some fault ≡ history_refusal server.rules history moment change) →
       RefusesRedo hosting server moment change fault
   refused server moment change MomentBack le own is = absurd own
-  refused server moment change Unknown le own is = λ outset history m fits.
-      of_rules server outset history m fits moment change (Some Unknown)
-      (sym (is history (fits_later server.store history m moment (omega (arith, le, fits.greatest_is)) fits.store) fits.consents))
-  refused server moment change (Store fault) le own is = λ outset history m fits.
-      of_rules server outset history m fits moment change (Some (Store fault))
-      (sym (is history (fits_later server.store history m moment (omega (arith, le, fits.greatest_is)) fits.store) fits.consents))
-  refused server moment change ConsentsFull le own is = λ outset history m fits.
-      of_rules server outset history m fits moment change (Some ConsentsFull)
-      (sym (is history (fits_later server.store history m moment (omega (arith, le, fits.greatest_is)) fits.store) fits.consents))
-  refused server moment change NotRight le own is = λ outset history m fits.
-      of_rules server outset history m fits moment change (Some NotRight)
-      (sym (is history (fits_later server.store history m moment (omega (arith, le, fits.greatest_is)) fits.store) fits.consents))
   refused server moment change (Hook fault) le own is = absurd own
   refused server moment change Memory le own is = absurd own
+  refused server moment change fault le own is = λ outset history m fits.
+      of_rules server outset history m fits moment change (Some fault)
+      (sym (is history (fits_later server.store history m moment (omega (arith, le, fits.greatest_is)) fits.store) fits.consents))
 
   -- no history has a fault
   pub followed : (server : SeenServer H) (moment : ℕ) (change : Change) (found : Option RedoFault) → server.greatest ≤ moment → ((fault : RedoFault) → found ≡ Some fault → ⊥) →

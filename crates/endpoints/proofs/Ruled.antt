@@ -1,96 +1,38 @@
 -- A decision is a ruling that the server can carry out.
 use Rattle.std.proofs.Common.{◌≡◌, ◌≤◌, ◌⊎◌, inl, inr, ◌∙◌, ap, sym, subst, refl, ℕ, List, [], ◌∷◌, Bool, true, false, Option, Some, None, arith}
-use Rattle.std.specs.Prelude.{not, codes, Result, Ok, Err, IfOk, option_map, option_and_then}
-use Rattle.std.specs.Result.{result_ok}
-use Rattle.params.specs.Form.{read_params, value_sent}
-use Rattle.clients.specs.RegistryRecord.{RegistryRecord}
-use Rattle.consent.specs.Changes.{change_of, changes_of, as_list, AllFollow}
-use Rattle.consent.specs.History.{Event, IsHistory, with_change}
-use Rattle.consent.specs.History.{Change as happening}
-use Rattle.consent.specs.declared.record_version.RecordVersion.{RecordVersion}
+use Rattle.endpoints.proofs.Names.{IfOk, option_map, result_ok, same_Some, option_and_then_some, read_params, value_sent, RegistryRecord, change_of, changes_of, as_list, AllFollow, begins, Event}
+use Rattle.endpoints.proofs.Names.{IsHistory, with_change, happening, HookFault, Hosting, Asked, query_of, InvalidRequest, AccessDenied, Draws, Halts, Outcome, bare, need, point, refuse, reply_of}
+use Rattle.endpoints.proofs.Names.{Parameters, form_of, Setting, outcome_told, Halt, store_history, Checked, NoHook, Installs, Removes, Ruling, AllRightAfter, by_fault, hook_change_at, hook_gone}
+use Rattle.endpoints.proofs.Names.{hook_set, hook_set_by, is_operator, version_asked, with_operator, IsHostFault, AllPlain, IsPlain, StandsAlone, hook_points, CanMake, CanMakeAll, CanTake}
+use Rattle.endpoints.proofs.Names.{RulesHooks, Asking, FitsNow, IsRuled, IsRuling, asking_of, comes_to, setting_now, IsAlone, SeenServer}
+use Rattle.std.specs.Prelude.{not, codes, Result, Ok, Err, option_and_then}
 use Rattle.consent.specs.declared.change.Change.{Change}
-use Rattle.consent.specs.declared.change.Change.TheVariants.{Consented, CodeGiven, IssuedAlone, Issued, Spent, FamilyEnded, HookSet, HookGone}
-use Rattle.hook_host.specs.declared.fault.HookFault.{HookFault}
+use Rattle.consent.specs.declared.change.Change.TheVariants.{Consented, HookSet, HookGone}
 use Rattle.hook_host.specs.declared.fault.HookFault.TheVariants as hook
-use Rattle.hook_host.specs.declared.host.HookHost.{Ghosts as Hosting}
-use Rattle.messages.specs.Asked.{Asked}
-use Rattle.messages.specs.Target.{query_of}
-use Rattle.messages.specs.declared.error.ErrorName.TheVariants.{InvalidRequest, AccessDenied}
-use Rattle.messages.specs.declared.request.Draws.{Draws}
-use Rattle.answers.specs.Halts.{Halts}
-use Rattle.answers.specs.Outcomes.{Outcome, bare, need, point, refuse}
-use Rattle.answers.specs.Replies.{reply_of}
-use Rattle.answers.specs.Requesters.{Parameters, form_of}
-use Rattle.answers.specs.Setting.{Setting}
-use Rattle.answers.specs.Told.{outcome_told}
 use Rattle.answers.specs.declared.decision.Decision.{Decision}
-use Rattle.answers.specs.declared.halt.Halt.{Halt}
-use Rattle.token_store.specs.FitsLaws.{store_history}
 use Rattle.token_endpoint.specs.FollowingLaws.{issue_token_follows}
 use Rattle.endpoints.specs.declared.reading.Reading.{Reading}
 use Rattle.endpoints.specs.declared.reading.Reading.TheVariants as reading
-use Rattle.endpoints.specs.declared.ruling.Checked.{Checked}
-use Rattle.endpoints.specs.declared.ruling.Checked.TheVariants.{NoHook, Installs, Removes}
-use Rattle.endpoints.specs.declared.ruling.Ruling.{Ruling}
-use Rattle.endpoints.specs.Bounded.{AllRightAfter}
-use Rattle.endpoints.specs.HookPaths.{by_fault, hook_change_at, hook_gone, hook_set, hook_set_by, is_operator, version_asked, with_operator}
-use Rattle.endpoints.specs.Hosts.{IsHostFault}
-use Rattle.endpoints.specs.Making.{AllPlain, IsPlain, StandsAlone}
-use Rattle.endpoints.specs.Parts.{hook_points}
 use Rattle.endpoints.specs.Reading.{IsRequestRead}
-use Rattle.endpoints.specs.Ruling.{CanMake, CanMakeAll, CanTake}
-use Rattle.endpoints.specs.RulingParts.{RulesHooks}
-use Rattle.endpoints.specs.Rulings.{Asking, FitsNow, IsRuled, IsRuling, asking_of, comes_to, setting_now}
-use Rattle.endpoints.specs.RulingsParts.{IsAlone}
-use Rattle.endpoints.specs.Server.{SeenServer}
 use Rattle.endpoints.proofs.Fair.{IsConsent, IsFair, IsOneConsent, authorize_fair, consent_fair, introspect_fair, document_fair, revoke_fair}
+use Rattle.endpoints.proofs.Points.{option_map_some}
 use Rattle.endpoints.proofs.ReadingOn.{points_of}
 use Rattle.endpoints.proofs.SoundToken.{issue_token_sound}
 use Rattle.endpoints.proofs.Stepping.{AllQuiet, IsQuiet}
 
 -- WHAT CHANGES MEAN
 
-pub same_some : {A : Type 0} (x y : A) → Some x ≡ Some y → x ≡ y
-same_some x y e = cc
-
--- the first change means something, and those after it do
-pub record Begins (history : List Event) (m : ℕ) (c : Change) (cs : List Change) (next : List happening) : Type 0 where
-  pub first : happening
-  pub later : List happening
-  pub first_is : change_of history m c ≡ Some first
-  pub later_are : changes_of (with_change history m first) m cs ≡ Some later
-  pub next_is : next ≡ first ∷ later
-
-pub begins : (history : List Event) (m : ℕ) (c : Change) (cs : List Change) (next : List happening) →
-    changes_of history m (c ∷ cs) ≡ Some next → Begins history m c cs next
-begins history m c cs next is = by_first (change_of history m c) refl is
-  where
-    by_later : (first : happening) (o : Option (List happening)) → change_of history m c ≡ Some first → changes_of (with_change history m first) m cs ≡ o →
-        option_map (λ later. first ∷ later) o ≡ Some next → Begins history m c cs next
-    by_later first None at rest h = absurd (cc)
-    by_later first (Some later) at rest h =
-        record { first = first; later = later; first_is = at; later_are = rest; next_is = sym (same_some (first ∷ later) next h) }
-
-    by_first : (o : Option happening) → change_of history m c ≡ o →
-        option_and_then (λ change. option_map (λ later. change ∷ later) (changes_of (with_change history m change) m cs)) o ≡ Some next → Begins history m c cs next
-    by_first None at h = absurd (cc)
-    by_first (Some first) at h = by_later first (changes_of (with_change history m first) m cs) at refl h
-
 plain : (history : List Event) (m : ℕ) (c : Change) (next : happening) → change_of history m c ≡ Some next → IsQuiet next → IsPlain c
-plain history m (Consented owner client mask) next is quiet = absurd (subst IsQuiet (sym (same_some _ next is)) quiet)
-plain history m (HookSet name version code) next is quiet = absurd (subst IsQuiet (sym (same_some _ next is)) quiet)
-plain history m (HookGone name) next is quiet = absurd (subst IsQuiet (sym (same_some _ next is)) quiet)
-plain history m (CodeGiven facts digest) next is quiet = tt
-plain history m (IssuedAlone client token) next is quiet = tt
-plain history m (Issued of token) next is quiet = tt
-plain history m (Spent digest) next is quiet = tt
-plain history m (FamilyEnded of) next is quiet = tt
+plain history m (Consented owner client mask) next is quiet = absurd (subst IsQuiet (sym (same_Some _ next is)) quiet)
+plain history m (HookSet name version code) next is quiet = absurd (subst IsQuiet (sym (same_Some _ next is)) quiet)
+plain history m (HookGone name) next is quiet = absurd (subst IsQuiet (sym (same_Some _ next is)) quiet)
+plain history m _ next is quiet = tt
 
 all_plain : (history : List Event) (m : ℕ) (cs : List Change) (next : List happening) → changes_of history m cs ≡ Some next → AllQuiet next → AllPlain cs
 all_plain history m [] next is quiet = tt
 all_plain history m (c ∷ cs) next is quiet =
     let b = begins history m c cs next is in
-    let both = subst AllQuiet b.next_is quiet in
+    let both = subst AllQuiet b.told_is quiet in
     (plain history m c b.first b.first_is both.0, all_plain (with_change history m b.first) m cs b.later b.later_are both.1)
 
 -- one change at most
@@ -110,7 +52,7 @@ few_alone history m (c ∷ []) next is few = tt
 few_alone history m (c ∷ d ∷ cs) next is few =
     let a = begins history m c (d ∷ cs) next is in
     let b = begins (with_change history m a.first) m d cs a.later a.later_are in
-    absurd (subst IsAtMostOne (a.next_is ∙ ap (λ l. a.first ∷ l) b.next_is) few)
+    absurd (subst IsAtMostOne (a.told_is ∙ ap (λ l. a.first ∷ l) b.told_is) few)
 
 quiet_alone : (history : List Event) (m : ℕ) (cs : List Change) (next : List happening) → changes_of history m cs ≡ Some next → AllQuiet next → StandsAlone cs
 quiet_alone history m [] next is quiet = tt
@@ -127,16 +69,11 @@ tame_alone history m cs next is (inr one) = few_alone history m cs next is (at_m
 module _ {H : Type 0} (hosting : Hosting H) where
   made : (host : H) (history : List Event) (m : ℕ) (c : Change) (next : happening) → change_of history m c ≡ Some next →
       IsQuiet next ⊎ IsConsent next → CanMake hosting host c NoHook
-  made host history m (HookSet name version code) next is (inl quiet) = absurd (subst IsQuiet (sym (same_some _ next is)) quiet)
-  made host history m (HookSet name version code) next is (inr one) = absurd (subst IsConsent (sym (same_some _ next is)) one)
-  made host history m (HookGone name) next is (inl quiet) = absurd (subst IsQuiet (sym (same_some _ next is)) quiet)
-  made host history m (HookGone name) next is (inr one) = absurd (subst IsConsent (sym (same_some _ next is)) one)
-  made host history m (Consented owner client mask) next is tame = tt
-  made host history m (CodeGiven facts digest) next is tame = tt
-  made host history m (IssuedAlone client token) next is tame = tt
-  made host history m (Issued of token) next is tame = tt
-  made host history m (Spent digest) next is tame = tt
-  made host history m (FamilyEnded of) next is tame = tt
+  made host history m (HookSet name version code) next is (inl quiet) = absurd (subst IsQuiet (sym (same_Some _ next is)) quiet)
+  made host history m (HookSet name version code) next is (inr one) = absurd (subst IsConsent (sym (same_Some _ next is)) one)
+  made host history m (HookGone name) next is (inl quiet) = absurd (subst IsQuiet (sym (same_Some _ next is)) quiet)
+  made host history m (HookGone name) next is (inr one) = absurd (subst IsConsent (sym (same_Some _ next is)) one)
+  made host history m _ next is tame = tt
 
   made_all : (host : H) (history : List Event) (m : ℕ) (cs : List Change) (next : List happening) → changes_of history m cs ≡ Some next →
       AllQuiet next ⊎ IsOneConsent next → CanMakeAll hosting host cs NoHook
@@ -144,28 +81,19 @@ module _ {H : Type 0} (hosting : Hosting H) where
   made_all host history m (c ∷ d ∷ cs) next is tame = tt
   made_all host history m (c ∷ []) next is tame =
       let b = begins history m c [] next is in
-      let alone : b.later ≡ [] = sym (same_some [] b.later b.later_are) in
-      made host history m c b.first b.first_is (by_tame b.first (b.next_is ∙ ap (λ l. b.first ∷ l) alone) tame)
+      let alone : b.later ≡ [] = sym (same_Some [] b.later b.later_are) in
+      made host history m c b.first b.first_is (by_tame b.first (b.told_is ∙ ap (λ l. b.first ∷ l) alone) tame)
     where
       by_tame : (first : happening) → next ≡ first ∷ [] → AllQuiet next ⊎ IsOneConsent next → IsQuiet first ⊎ IsConsent first
       by_tame first same (inl quiet) = inl ((subst AllQuiet same quiet).0)
       by_tame first same (inr one) = inr (subst IsOneConsent same one)
 
-  pub told_changes : (s : Setting) (d : Decision) (o : Outcome) → outcome_told s d ≡ Some o → changes_of s.history s.moment (as_list d.changes) ≡ Some o.changes
-  told_changes s d o is = by_changes (changes_of s.history s.moment (as_list d.changes)) is
-    where
-      by_changes : (changes : Option (List happening)) →
-          option_map (λ changes. record { reply = reply_of s.rules s.host.names d.answer; changes = changes }) changes ≡ Some o → changes ≡ Some o.changes
-      by_changes None h = absurd (cc)
-      by_changes (Some changes) h = ap (λ (o : Outcome). Some o.changes) (same_some _ o h)
-
-  pub told_reply : (s : Setting) (d : Decision) (o : Outcome) → outcome_told s d ≡ Some o → o.reply ≡ reply_of s.rules s.host.names d.answer
-  told_reply s d o is = by_changes (changes_of s.history s.moment (as_list d.changes)) is
-    where
-      by_changes : (changes : Option (List happening)) →
-          option_map (λ changes. record { reply = reply_of s.rules s.host.names d.answer; changes = changes }) changes ≡ Some o → o.reply ≡ reply_of s.rules s.host.names d.answer
-      by_changes None h = absurd (cc)
-      by_changes (Some changes) h = ap (λ (o : Outcome). o.reply) (sym (same_some _ o h))
+  -- what was told of a decision is what its changes mean, and its reply
+  pub told_parts : (s : Setting) (d : Decision) (o : Outcome) → outcome_told s d ≡ Some o →
+      (changes_of s.history s.moment (as_list d.changes) ≡ Some o.changes) × (o.reply ≡ reply_of s.rules s.host.names d.answer)
+  told_parts s d o is =
+      option_map_some (λ changes. record { reply = reply_of s.rules s.host.names d.answer; changes = changes }) (changes_of s.history s.moment (as_list d.changes)) o is
+      (λ changes are same. (are ∙ ap (λ (o : Outcome). Some o.changes) same, sym (ap (λ (o : Outcome). o.reply) same)))
 
   -- an outcome without a change of the hooks
   pub alone_ruling : (server : SeenServer H) (history : List Event) (asking : Asking) (d : Decision) →
@@ -173,7 +101,7 @@ module _ {H : Type 0} (hosting : Hosting H) where
       outcome_told (setting_now hosting server history asking.draws None) d ≡ Some (comes_to hosting server history asking None) →
       IsRuling hosting server history asking (record { decision = d; checked = NoHook })
   alone_ruling server history asking d fair is =
-      let changes = told_changes (setting_now hosting server history asking.draws None) d (comes_to hosting server history asking None) is in
+      let changes = (told_parts (setting_now hosting server history asking.draws None) d (comes_to hosting server history asking None) is).0 in
       record {
         fault = None;
         host_has = tt;
@@ -210,12 +138,7 @@ module _ {H : Type 0} (hosting : Hosting H) where
 pub alone_of : (what : Reading) → ((p : Parameters) → what ≡ reading.InstallHook p → ⊥) → ((p : Parameters) → what ≡ reading.RemoveHook p → ⊥) → IsAlone what
 alone_of (reading.InstallHook params) one other = absurd (one params refl)
 alone_of (reading.RemoveHook params) one other = absurd (other params refl)
-alone_of (reading.Authorize params) one other = tt
-alone_of reading.GiveConsent one other = tt
-alone_of reading.IssueToken one other = tt
-alone_of reading.RevokeToken one other = tt
-alone_of reading.Introspect one other = tt
-alone_of (reading.Read document) one other = tt
+alone_of _ one other = tt
 
 -- CHANGES OF THE HOOKS
 
@@ -258,11 +181,7 @@ read_same true (Some p) params change leads =
 abbrev pub IsHooks : happening → Type 0
 IsHooks (happening.HookSet name version code) = Unit {0}
 IsHooks (happening.HookGone name) = Unit {0}
-IsHooks (happening.Consented owner client mask) = ⊥
-IsHooks (happening.CodeGiven family code digest) = ⊥
-IsHooks (happening.Issued family parties token) = ⊥
-IsHooks (happening.Spent digest) = ⊥
-IsHooks (happening.FamilyEnded family) = ⊥
+IsHooks _ = ⊥
 
 -- at most one change, which is of the hooks
 abbrev pub IsOneOfHooks : List happening → Type 0
@@ -270,27 +189,14 @@ IsOneOfHooks [] = Unit {0}
 IsOneOfHooks (c ∷ []) = IsHooks c
 IsOneOfHooks (c ∷ _ ∷ _) = ⊥
 
-one_follows : (history : List Event) (m : ℕ) (cs : List happening) → IsOneOfHooks cs → AllFollow history m cs
-one_follows history m [] one = tt
-one_follows history m (c ∷ d ∷ cs) one = absurd one
-one_follows history m (happening.HookSet name version code ∷ []) one = (tt, tt)
-one_follows history m (happening.HookGone name ∷ []) one = (tt, tt)
-one_follows history m (happening.Consented owner client mask ∷ []) one = absurd one
-one_follows history m (happening.CodeGiven family code digest ∷ []) one = absurd one
-one_follows history m (happening.Issued family parties token ∷ []) one = absurd one
-one_follows history m (happening.Spent digest ∷ []) one = absurd one
-one_follows history m (happening.FamilyEnded family ∷ []) one = absurd one
-
-one_right : (rules : RegistryRecord) (history : List Event) (m : ℕ) (cs : List happening) → IsOneOfHooks cs → AllRightAfter rules history m cs
-one_right rules history m [] one = tt
-one_right rules history m (c ∷ d ∷ cs) one = absurd one
-one_right rules history m (happening.HookSet name version code ∷ []) one = (tt, tt)
-one_right rules history m (happening.HookGone name ∷ []) one = (tt, tt)
-one_right rules history m (happening.Consented owner client mask ∷ []) one = absurd one
-one_right rules history m (happening.CodeGiven family code digest ∷ []) one = absurd one
-one_right rules history m (happening.Issued family parties token ∷ []) one = absurd one
-one_right rules history m (happening.Spent digest ∷ []) one = absurd one
-one_right rules history m (happening.FamilyEnded family ∷ []) one = absurd one
+-- such a change may come next and is right
+one_fair : (rules : RegistryRecord) (history : List Event) (m : ℕ) (cs : List happening) → IsOneOfHooks cs →
+    AllFollow history m cs × AllRightAfter rules history m cs
+one_fair rules history m [] one = (tt, tt)
+one_fair rules history m (c ∷ d ∷ cs) one = absurd one
+one_fair rules history m (happening.HookSet name version code ∷ []) one = ((tt, tt), (tt, tt))
+one_fair rules history m (happening.HookGone name ∷ []) one = ((tt, tt), (tt, tt))
+one_fair rules history m (_ ∷ []) one = absurd one
 
 one_few : (cs : List happening) → IsOneOfHooks cs → IsAtMostOne cs
 one_few [] one = tt
@@ -300,34 +206,23 @@ one_few (c ∷ d ∷ cs) one = one
 one_by_fault : (change : happening) (fault : Option HookFault) → IsHooks change → IsOneOfHooks (by_fault change fault).changes
 one_by_fault change None is = is
 one_by_fault change (Some hook.Memory) is = tt
-one_by_fault change (Some hook.BadName) is = tt
-one_by_fault change (Some hook.NameTaken) is = tt
-one_by_fault change (Some hook.Full) is = tt
-one_by_fault change (Some hook.Unknown) is = tt
-one_by_fault change (Some (hook.Insn f)) is = tt
-one_by_fault change (Some (hook.Verify f)) is = tt
+one_by_fault change (Some _) is = tt
 
 one_change : (change : Option happening) (fault : Option HookFault) → ((c : happening) → change ≡ Some c → IsHooks c) → IsOneOfHooks (hook_points change fault).changes
 one_change None fault each = tt
 one_change (Some change) fault each = one_by_fault change fault (each change refl)
 
-set_is : (params : Parameters) (code : List ℕ) (c : happening) → hook_set_by params code ≡ Some c → IsHooks c
-set_is params code c is = by_name (value_sent (codes "name") params) is
-  where
-    by_version : (name : List ℕ) (o : Option RecordVersion) → option_map (λ version. happening.HookSet name version code) o ≡ Some c → IsHooks c
-    by_version name None h = absurd (cc)
-    by_version name (Some version) h = subst IsHooks (same_some _ c h) tt
+-- what is mapped to changes of the hooks is one
+mapped_is : {A : Type 0} (f : A → happening) (o : Option A) (c : happening) → ((x : A) → IsHooks (f x)) → option_map f o ≡ Some c → IsHooks c
+mapped_is f o c each is = option_map_some f o c is (λ x _ same. subst IsHooks same (each x))
 
-    by_name : (o : Option (List ℕ)) → option_and_then (hook_set params code) o ≡ Some c → IsHooks c
-    by_name None h = absurd (cc)
-    by_name (Some name) h = by_version name (version_asked (value_sent (codes "record") params)) h
+set_is : (params : Parameters) (code : List ℕ) (c : happening) → hook_set_by params code ≡ Some c → IsHooks c
+set_is params code c is =
+    option_and_then_some (hook_set params code) (value_sent (codes "name") params) c is (λ name _ set.
+    mapped_is (λ version. happening.HookSet name version code) (version_asked (value_sent (codes "record") params)) c (λ version. tt) set)
 
 gone_is : (params : Parameters) (c : happening) → hook_gone params ≡ Some c → IsHooks c
-gone_is params c is = by_name (value_sent (codes "name") params) is
-  where
-    by_name : (o : Option (List ℕ)) → option_map happening.HookGone o ≡ Some c → IsHooks c
-    by_name None h = absurd (cc)
-    by_name (Some name) h = subst IsHooks (same_some _ c h) tt
+gone_is params c is = mapped_is happening.HookGone (value_sent (codes "name") params) c (λ name. tt) is
 
 module _ {H : Type 0} (hosting : Hosting H) (server : SeenServer H) (history : List Event) (asking : Asking) (change : Option happening) where
   hooks_ruled : (result : Result (Ruling H) Halt) → ((fault : Option HookFault) → comes_to hosting server history asking fault ≡ hook_points change fault) →
@@ -340,13 +235,14 @@ module _ {H : Type 0} (hosting : Hosting H) (server : SeenServer H) (history : L
       rules.2 ∙ ap Some (sym (points fault)) in
       let one : IsOneOfHooks (comes_to hosting server history asking fault).changes =
       subst (λ (o : Outcome). IsOneOfHooks o.changes) (sym (points fault)) (one_change change fault each) in
-      let changes = told_changes hosting (setting_now hosting server history asking.draws fault) ruling.decision (comes_to hosting server history asking fault) told_is in
+      let fair = one_fair server.rules history server.greatest (comes_to hosting server history asking fault).changes one in
+      let changes = (told_parts hosting (setting_now hosting server history asking.draws fault) ruling.decision (comes_to hosting server history asking fault) told_is).0 in
       record {
         fault = fault;
         host_has = subst (λ c. IsHostFault hosting server.host c fault) (sym same) rules.1;
         told_is = told_is;
-        follow = one_follows history server.greatest _ one;
-        right = one_right server.rules history server.greatest _ one;
+        follow = fair.0;
+        right = fair.1;
         alone = few_alone history server.greatest (as_list ruling.decision.changes) _ changes (one_few _ one);
         hooks = rules.3;
       }

@@ -1,32 +1,15 @@
 -- What comes of codes and tokens is right, and changes no consent and no hook.
 use Rattle.std.proofs.Common.{◌≡◌, ◌≤◌, ℕ, List, [], ◌∷◌, ◌++◌, Bool, true, false, Option, Some, None, bit_and, refl, sym, ap, ◌∙◌, arith, append_assoc, append-nil, subst, inl, inr}
-use Rattle.std.specs.Prelude.{◌⊎◌, not, if◌then◌else◌, option_and_then}
-use Rattle.std.proofs.lemmas.Bool.{eq-eqb, false≢true}
-use Rattle.sha2.specs.Sha256.{sha256}
-use Rattle.clients.specs.RegistryRecord.{RegistryRecord}
-use Rattle.consent.specs.CoveredLaws.{is_within-trans}
-use Rattle.consent.specs.GrowthLaws.{code_terms-keep, has_ended-push_other}
-use Rattle.consent.specs.History.{Event, Change, Grant, event_at, grant_by, grant_at, is_code, is_within, code_terms, has_ended}
-use Rattle.consent.specs.History.Change.{Consented, CodeGiven, Issued, Spent, FamilyEnded, HookSet, HookGone}
-use Rattle.consent.specs.HistoryLaws.{grant_at-given}
-use Rattle.consent.specs.declared.grant.Kind.{Kind}
-use Rattle.consent.specs.declared.grant.Kind.TheVariants.{Code, Token}
+use Rattle.endpoints.proofs.Names.{if◌then◌else◌, eq-eqb, false≢true, cond_some, option_and_then_some, same_Some, sha256, RegistryRecord, is_within-trans, code_terms-keep, has_ended-push_other}
+use Rattle.endpoints.proofs.Names.{Event, Grant, event_at, grant_by, grant_at, is_code, is_within, code_terms, has_ended, grant_at-given, Kind, Code, Token, Allowed, Reply, ErrorName, Extent}
+use Rattle.endpoints.proofs.Names.{Outcome, only, refuse, Parameters, scope_asked, scope_within, Setting, where_passes, is_refresh, ends_family, access_for, access_issued, both_digests, both_for}
+use Rattle.endpoints.proofs.Names.{left_by_host, new_token, AllRight, AllRightAfter, IsRightChange, IsOfCode, IsOwn, MayHave, allowed_to, own-later}
+use Rattle.std.specs.Prelude.{◌⊎◌}
+use Rattle.consent.specs.History.{Change}
+use Rattle.consent.specs.History.Change.{CodeGiven, Issued}
 use Rattle.consent.specs.declared.grant.TokenKind.TheVariants.{Access}
 use Rattle.hook_record.specs.declared.Ask.{Ask}
-use Rattle.hook_record.specs.declared.Narrowed.TheVariants.{Allowed}
 use Rattle.hook_host.specs.DecisionLaws.{met_with_narrows}
-use Rattle.messages.specs.Reply.{Reply}
-use Rattle.messages.specs.declared.error.ErrorName.{ErrorName}
-use Rattle.answers.specs.Outcomes.{Extent, Outcome, only, refuse}
-use Rattle.answers.specs.Replies.{access_reply, both_reply}
-use Rattle.answers.specs.Requesters.{Parameters, scope_asked, scope_within}
-use Rattle.answers.specs.Setting.{Setting}
-use Rattle.answers.specs.Texts.{where_passes}
-use Rattle.answers.specs.Tokens.{is_refresh}
-use Rattle.token_endpoint.specs.Exchange.{ends_family}
-use Rattle.token_endpoint.specs.Grants.{access_for, access_issued, both_digests, both_for, left_by_host, new_token, refresh_issued}
-use Rattle.endpoints.specs.Bounded.{AllRight, AllRightAfter, IsRightChange, IsOfCode, IsOwn, MayHave, allowed_to}
-use Rattle.endpoints.specs.BoundedLaws.{own-later}
 use Rattle.endpoints.proofs.Points.{error_all, unless_all}
 use Rattle.endpoints.proofs.Stepping.{AllQuiet}
 
@@ -46,32 +29,30 @@ pub may_have-less : (rules : RegistryRecord) (client scope less : ℕ) → MayHa
 may_have-less rules client scope less may within =
     record { is_client = may.is_client; within = is_within-trans less scope (allowed_to rules client) within may.within }
 
+-- it is a client's own, or comes of a code
+abbrev pub Comes : List Event → Grant → Type 0
+Comes history g =
+    IsOwn history g.family g.owner
+    ⊎ ((of : ℕ) × (code_terms history g.family ≡ Some (record { client = g.client; owner = g.owner; scope = of })) × (is_within g.scope of ≡ true))
+
 -- a token keeps to what its client may be allowed, and to its code's scope
 abbrev pub IsRightToken : RegistryRecord → List Event → Grant → Type 0
-IsRightToken rules history g =
-    MayHave rules g.client g.scope
-    × (IsOwn history g.family g.owner ⊎ ((s : ℕ) × (code_terms history g.family ≡ Some (record { client = g.client; owner = g.owner; scope = s })) × (is_within g.scope s ≡ true)))
-
-pub same_grant : (x g : Grant) → Some x ≡ Some g → x ≡ g
-same_grant x g e = cc
+IsRightToken rules history g = MayHave rules g.client g.scope × Comes history g
 
 right_change : (rules : RegistryRecord) (before later : List Event) (e : Event) (moment : ℕ) (c : Change) (g : Grant) →
     e.change ≡ c → grant_by moment c ≡ Some g → IsRightChange rules before c → is_code g.kind ≡ false → IsRightToken rules (before ++ e ∷ later) g
-right_change rules before later e moment (Consented owner client mask) g is at right token = cc
-right_change rules before later e moment (Spent digest) g is at right token = cc
-right_change rules before later e moment (FamilyEnded family) g is at right token = cc
-right_change rules before later e moment (HookSet name version code) g is at right token = cc
-right_change rules before later e moment (HookGone name) g is at right token = cc
 right_change rules before later e moment (CodeGiven family code digest) g is at right token =
-    let same = same_grant _ g at in absurd (false≢true (sym token ∙ sym (ap (λ (x : Grant). is_code x.kind) same)))
+    let same = same_Some _ g at in absurd (false≢true (sym token ∙ sym (ap (λ (x : Grant). is_code x.kind) same)))
 right_change rules before later e moment (Issued family parties new) g is at right token =
-    let same = same_grant _ g at in
-    subst (λ (x : Grant). IsRightToken rules (before ++ e ∷ later) x) same (right.0, by_owner right.2)
-  where
-    by_owner : (IsOwn before family parties.owner ⊎ IsOfCode before family parties.client parties.owner new.scope) →
-        IsOwn (before ++ e ∷ later) family parties.owner ⊎ ((s : ℕ) × (code_terms (before ++ e ∷ later) family ≡ Some (record { client = parties.client; owner = parties.owner; scope = s })) × (is_within new.scope s ≡ true))
-    by_owner (inl own) = inl (own-later before later e family parties new is own)
-    by_owner (inr of) = inr (of.0, code_terms-keep before (e ∷ later) family _ of.1, of.2)
+    let same = same_Some _ g at in
+    subst (λ (x : Grant). IsRightToken rules (before ++ e ∷ later) x) same (
+      right.0,
+      elim right.2 [
+        | inl own ↦ inl (own-later before later e family parties new is own)
+        | inr of ↦ inr (of.0, code_terms-keep before (e ∷ later) family _ of.1, of.2)
+      ],
+    )
+right_change rules before later e moment _ g is at right token = cc
 
 pub right_token : (rules : RegistryRecord) (history : List Event) (digest : List ℕ) (m : ℕ) (g : Grant) → AllRight rules [] history →
     grant_at history digest m ≡ Some g → is_code g.kind ≡ false → IsRightToken rules history g
@@ -83,15 +64,7 @@ right_token rules history digest m g all at token =
 
 pub passes : {A : Type 0} (test : A → Bool) (o : Option A) (x : A) → where_passes test o ≡ Some x → (o ≡ Some x) × (test x ≡ true)
 passes test None x e = absurd (cc)
-passes {A = A} test (Some y) x e = by_test (test y) refl e
-  where
-    by_test : (b : Bool) → test y ≡ b → (if b then Some y else None) ≡ Some x → (Some y ≡ Some x) × (test x ≡ true)
-    by_test true is h = let same : y ≡ x = cc in (h, ap test (sym same) ∙ is)
-    by_test false is h = absurd (cc)
-
-pub not_false : (b : Bool) → not b ≡ false → b ≡ true
-not_false true h = refl
-not_false false h = cc
+passes test (Some y) x e = let both = cond_some (test y) y x e in (ap Some both.1, ap test (sym both.1) ∙ both.0)
 
 pub refresh_no_code : (k : Kind) → is_refresh k ≡ true → is_code k ≡ false
 refresh_no_code Code h = absurd (false≢true h)
@@ -99,15 +72,9 @@ refresh_no_code (Token t) h = refl
 
 -- the scope that is asked for is within the limit
 pub scope_is_within : (rules : RegistryRecord) (limit : ℕ) (params : Parameters) (scope : ℕ) → scope_within rules limit params ≡ Some scope → is_within scope limit ≡ true
-scope_is_within rules limit params scope is = by_asked (scope_asked rules limit params) is
-  where
-    by_test : (asked : ℕ) (b : Bool) → is_within asked limit ≡ b → (if b then Some asked else None) ≡ Some scope → is_within scope limit ≡ true
-    by_test asked true e h = let same : asked ≡ scope = cc in ap (λ n. is_within n limit) (sym same) ∙ e
-    by_test asked false e h = absurd (cc)
-
-    by_asked : (o : Option ℕ) → option_and_then (λ scope. if is_within scope limit then Some scope else None) o ≡ Some scope → is_within scope limit ≡ true
-    by_asked None h = absurd (cc)
-    by_asked (Some asked) h = by_test asked (is_within asked limit) refl h
+scope_is_within rules limit params scope is =
+    option_and_then_some (λ scope. if is_within scope limit then Some scope else None) (scope_asked rules limit params) scope is (λ asked _ h.
+    let both = cond_some (is_within asked limit) asked scope h in ap (λ n. is_within n limit) (sym both.1) ∙ both.0)
 
 module _ (s : Setting) where
   -- nothing happens
@@ -125,18 +92,12 @@ module _ (s : Setting) where
   left_within ask scope life e =
       let narrow = met_with_narrows ask (s.host.answer ask) scope life e in (eq-eqb (bit_and scope ask.scope) scope narrow.within, narrow.no_longer)
 
-  -- it is a client's own, or comes of a code
-  abbrev Comes : Grant → Type 0
-  Comes g =
-      IsOwn s.history g.family g.owner
-      ⊎ ((of : ℕ) × (code_terms s.history g.family ≡ Some (record { client = g.client; owner = g.owner; scope = of })) × (is_within g.scope of ≡ true))
-
-  first : (g : Grant) (less : ℕ) → has_ended s.history g.family ≡ false → is_within less g.scope ≡ true → Comes g →
+  first : (g : Grant) (less : ℕ) → has_ended s.history g.family ≡ false → is_within less g.scope ≡ true → Comes s.history g →
       IsOwn s.history g.family g.owner ⊎ IsOfCode s.history g.family g.client g.owner less
   first g less alive within (inl own) = inl own
   first g less alive within (inr of) = inr (of.0, of.1, is_within-trans less g.scope of.0 within of.2, alive)
 
-  second : (g : Grant) (left : Extent) (kept : ℕ) → has_ended s.history g.family ≡ false → is_within kept g.scope ≡ true → Comes g →
+  second : (g : Grant) (left : Extent) (kept : ℕ) → has_ended s.history g.family ≡ false → is_within kept g.scope ≡ true → Comes s.history g →
       IsOwn (s.history ++ event_at s.moment (access_issued g s.draws.first left) ∷ []) g.family g.owner
       ⊎ IsOfCode (s.history ++ event_at s.moment (access_issued g s.draws.first left) ∷ []) g.family g.client g.owner kept
   second g left kept alive within (inl own) =
@@ -154,12 +115,7 @@ module _ (s : Setting) where
   pub access_sound : (g : Grant) (left : Extent) → IsRightToken s.rules s.history g → has_ended s.history g.family ≡ false →
       is_within left.scope g.scope ≡ true → left.life ≤ s.rules.access_life → IsSound s (access_for s g left)
   access_sound g left right alive within short =
-      unless_all (IsSound s) still s (sha256 s.draws.first ∷ [])
-      (record {
-        reply = access_reply s.rules s.draws.first left.scope left.life;
-        changes = access_issued g s.draws.first left ∷ Spent g.digest ∷ [];
-      })
-      (λ _. record {
+      unless_all (IsSound s) still s (sha256 s.draws.first ∷ []) _ (λ _. record {
         quiet = (tt, (tt, tt));
         right = (
           (may_have-less s.rules g.client g.scope left.scope right.0 within, short, first g left.scope alive within right.1),
@@ -170,15 +126,7 @@ module _ (s : Setting) where
   pub both_sound : (g : Grant) (left : Extent) (kept : ℕ) → IsRightToken s.rules s.history g → has_ended s.history g.family ≡ false →
       is_within left.scope g.scope ≡ true → is_within kept g.scope ≡ true → left.life ≤ s.rules.access_life → IsSound s (both_for s g left kept)
   both_sound g left kept right alive within more short =
-      unless_all (IsSound s) still s (both_digests s.draws)
-      (record {
-        reply = both_reply s.rules s.draws left.scope left.life;
-        changes = access_issued g s.draws.first left
-            ∷ refresh_issued g s.draws.second (record { scope = kept; life = s.rules.refresh_life })
-            ∷ Spent g.digest
-            ∷ [];
-      })
-      (λ _. record {
+      unless_all (IsSound s) still s (both_digests s.draws) _ (λ _. record {
         quiet = (tt, (tt, (tt, tt)));
         right = (
           (may_have-less s.rules g.client g.scope left.scope right.0 within, short, first g left.scope alive within right.1),

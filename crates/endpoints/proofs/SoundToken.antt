@@ -1,32 +1,15 @@
 -- What POST /token does is right.
 use Rattle.std.proofs.Common.{◌≡◌, ℕ, List, [], true, Some, refl}
+use Rattle.endpoints.proofs.Names.{and_parts, value_sent, client_at, grant_named, has_grant, AuthorizationCode, RefreshToken, ClientCredentials, is_within-self, is_within-trans, Grant, grant_at}
+use Rattle.endpoints.proofs.Names.{is_code, has_ended, is_spent, IsHistory, code_terms-of_code, Kind, Code, Token, InvalidRequest, InvalidGrant, InvalidScope, UnauthorizedClient}
+use Rattle.endpoints.proofs.Names.{UnsupportedGrantType, Asked, Outcome, refuse, Parameters, KnownClient, scope_within, Setting, digest_told, code_of_client, refresh_of_client, is_own, is_refresh}
+use Rattle.endpoints.proofs.Names.{client_credentials, own_ask, exchange, ends_family, spent_in_vain, ask_for, left_by_host, AllRight}
 use Rattle.std.specs.Prelude.{◌==◌, not, codes, bytes_eq}
-use Rattle.std.proofs.lemmas.Bool.{and_parts}
-use Rattle.params.specs.Form.{value_sent}
 use Rattle.pkce.specs.Proof.{proves}
-use Rattle.clients.specs.Clients.{client_at}
-use Rattle.clients.specs.Grants.{grant_named, has_grant}
 use Rattle.clients.specs.declared.grant.GrantType.{GrantType}
-use Rattle.clients.specs.declared.grant.GrantType.TheVariants.{AuthorizationCode, RefreshToken, ClientCredentials}
-use Rattle.consent.specs.CoveredLaws.{is_within-self, is_within-trans}
-use Rattle.consent.specs.History.{Grant, grant_at, is_code, has_ended, is_spent, IsHistory}
-use Rattle.consent.specs.HistoryLaws.{code_terms-of_code}
-use Rattle.consent.specs.declared.grant.Kind.{Kind}
-use Rattle.consent.specs.declared.grant.Kind.TheVariants.{Code, Token}
 use Rattle.hook_record.specs.declared.Kind.TheVariants as kind
-use Rattle.messages.specs.declared.error.ErrorName.TheVariants.{InvalidRequest, InvalidGrant, InvalidScope, UnauthorizedClient, UnsupportedGrantType}
-use Rattle.messages.specs.Asked.{Asked}
-use Rattle.answers.specs.Outcomes.{Outcome, refuse}
-use Rattle.answers.specs.Requesters.{Parameters, KnownClient, scope_within}
-use Rattle.answers.specs.Setting.{Setting}
-use Rattle.answers.specs.Texts.{digest_told}
-use Rattle.answers.specs.Tokens.{code_of_client, refresh_of_client, is_own, is_refresh}
-use Rattle.token_endpoint.specs.ClientCredentials.{client_credentials, own_ask}
-use Rattle.token_endpoint.specs.Exchange.{exchange, ends_family, spent_in_vain}
-use Rattle.token_endpoint.specs.Grants.{ask_for, left_by_host}
 use Rattle.token_endpoint.specs.Refresh.{refresh}
 use Rattle.token_endpoint.specs.TokenPath.{grant_points, issue_token}
-use Rattle.endpoints.specs.Bounded.{AllRight}
 use Rattle.endpoints.proofs.Points.{authenticated_all, left_all, need_all, point_all}
 use Rattle.endpoints.proofs.Sound.{IsSound, still, error_sound, ends_sound, both_sound, left_within, passes, refresh_no_code, right_token, scope_is_within}
 use Rattle.endpoints.proofs.SoundGrants.{right_code, exchanged_sound, granted_sound}

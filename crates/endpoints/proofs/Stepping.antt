@@ -1,25 +1,16 @@
 -- What a request does to the server, by what it does to the store.
 use Rattle.std.proofs.Common.{◌≡◌, ℕ, List, [], ◌∷◌, ◌++◌, false, refl, sym, append_assoc, append-nil, subst}
-use Rattle.clients.specs.RegistryRecord.{RegistryRecord}
-use Rattle.consent.specs.History.{Event, Change, event_at, with_change, with_changes}
-use Rattle.consent.specs.History.Change.{Consented, CodeGiven, Issued, Spent, FamilyEnded, HookSet, HookGone}
-use Rattle.consent.specs.Growth.{is_consent}
-use Rattle.consent.specs.GrowthLaws.{with_changes-cons}
-use Rattle.consent.specs.Consents.{KeptConsents, FitsConsents}
-use Rattle.consent.specs.ConsentLaws.{fits_consents-push_other}
-use Rattle.hook_host.specs.declared.host.HookHost.{Ghosts as Hosting}
-use Rattle.endpoints.specs.Hosts.{HostStep, HostRun}
-use Rattle.endpoints.specs.Bounded.{IsRightChange, AllRight, AllRightAfter}
+use Rattle.endpoints.proofs.Names.{RegistryRecord, Event, event_at, with_change, with_changes, is_consent, with_changes-cons, KeptConsents, FitsConsents, fits_consents-push_other, Hosting, HostStep}
+use Rattle.endpoints.proofs.Names.{HostRun, IsRightChange, AllRight, AllRightAfter}
+use Rattle.consent.specs.History.{Change}
+use Rattle.consent.specs.History.Change.{Consented, HookSet, HookGone}
 
 -- the change is no consent and no hook's
 abbrev pub IsQuiet : Change → Type 0
 IsQuiet (Consented owner client mask) = ⊥
 IsQuiet (HookSet name version code) = ⊥
 IsQuiet (HookGone name) = ⊥
-IsQuiet (CodeGiven family code digest) = Unit {0}
-IsQuiet (Issued family parties token) = Unit {0}
-IsQuiet (Spent digest) = Unit {0}
-IsQuiet (FamilyEnded family) = Unit {0}
+IsQuiet _ = Unit {0}
 
 abbrev pub AllQuiet : List Change → Type 0
 AllQuiet [] = Unit {0}
@@ -29,10 +20,7 @@ no_consent : (c : Change) → IsQuiet c → is_consent c ≡ false
 no_consent (Consented owner client mask) q = absurd q
 no_consent (HookSet name version code) q = absurd q
 no_consent (HookGone name) q = absurd q
-no_consent (CodeGiven family code digest) q = refl
-no_consent (Issued family parties token) q = refl
-no_consent (Spent digest) q = refl
-no_consent (FamilyEnded family) q = refl
+no_consent _ q = refl
 
 pub quiet_consents : (kept : KeptConsents) (history : List Event) (m : ℕ) (changes : List Change) → AllQuiet changes →
     FitsConsents kept history → FitsConsents kept (with_changes history m changes)
@@ -52,10 +40,7 @@ module _ {H : Type 0} (hosting : Hosting H) where
   quiet_step host (Consented owner client mask) q = absurd q
   quiet_step host (HookSet name version code) q = absurd q
   quiet_step host (HookGone name) q = absurd q
-  quiet_step host (CodeGiven family code digest) q = refl
-  quiet_step host (Issued family parties token) q = refl
-  quiet_step host (Spent digest) q = refl
-  quiet_step host (FamilyEnded family) q = refl
+  quiet_step host _ q = refl
 
   pub quiet_host : (host : H) (m : ℕ) (changes : List Change) → AllQuiet changes → HostRun hosting host (with_changes [] m changes) host
   quiet_host host m [] q = refl

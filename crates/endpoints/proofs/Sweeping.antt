@@ -1,12 +1,6 @@
 -- What a step leaves is swept.
 use Rattle.std.proofs.Common.{◌≡◌, ℕ, List, length, max, ap, sym, ◌∙◌, arith, subst}
-use Rattle.consent.specs.History.{Event, unexpired_count}
-use Rattle.hook_host.specs.declared.host.HookHost.{Ghosts as Hosting}
-use Rattle.messages.specs.Written.{Written}
-use Rattle.token_store.specs.Fits.{FitsStore}
-use Rattle.token_store.specs.Kept.{Held}
-use Rattle.endpoints.specs.Server.{SeenServer, Outset, FitsServer}
-use Rattle.endpoints.specs.Steps.{Arrival, IsSwept, Steps, Sweeps}
+use Rattle.endpoints.proofs.Names.{Event, unexpired_count, Hosting, Written, FitsStore, Held, SeenServer, Outset, FitsServer, Arrival, IsSwept, Steps, Sweeps}
 use Rattle.endpoints.proofs.Answering.{swept_step}
 
 module _ {H : Type 0} (hosting : Hosting H) where

@@ -1,42 +1,20 @@
 -- What was decided is what the points come to.
 use Rattle.std.proofs.Common.{◌≡◌, ◌∙◌, ◌+◌, ap, sym, subst, refl, ℕ, List, [], ◌∷◌, Bool, true, false, Option, Some, None}
-use Rattle.std.specs.Prelude.{◌==◌, not, if◌then◌else◌}
-use Rattle.std.proofs.lemmas.Bool.{eq-eqb, eqb-true, false≢true}
+use Rattle.endpoints.proofs.Names.{if◌then◌else◌, eq-eqb, eqb-true, eqb-false, ne_eqb, not-true, not-false, RegistryRecord, Event, Grant, grant_at, has_consent_room, is_code, is_good, live_grant}
+use Rattle.endpoints.proofs.Names.{where_good, Kind, Code, Token, One, consent_body, plain, Active, Empty, Inactive, InvalidGrant, Halts, Outcome, bare, need, only, point, refuse, unavailable, id_of}
+use Rattle.endpoints.proofs.Names.{Setting, outcome_told, Halt, consent_given, introspect, told_of, live_of, with_presented, Presented, revoke_token, revoked, Asked}
+use Rattle.std.specs.Prelude.{◌==◌, not}
 use Rattle.params.specs.Scope.{scope_text}
-use Rattle.clients.specs.RegistryRecord.{RegistryRecord}
 use Rattle.clients.specs.Owners.{sub_of}
-use Rattle.consent.specs.History.{Event, Grant, grant_at, has_consent_room, is_code, is_good, live_grant, where_good}
 use Rattle.consent.specs.History.Change.{Consented, FamilyEnded}
-use Rattle.consent.specs.declared.grant.Kind.{Kind}
-use Rattle.consent.specs.declared.grant.Kind.TheVariants.{Code, Token}
-use Rattle.consent.specs.declared.change.Changes.TheVariants.{One}
 use Rattle.consent.specs.declared.change.Change.TheVariants as change
 use Rattle.consent.specs.declared.grant.TokenKind.{TokenKind}
-use Rattle.messages.specs.Reply.{consent_body, plain}
-use Rattle.messages.specs.Reply.Body.{Active, Empty, Inactive}
-use Rattle.messages.specs.declared.error.ErrorName.TheVariants.{InvalidGrant}
-use Rattle.answers.specs.Halts.{Halts}
-use Rattle.answers.specs.Outcomes.{Outcome, bare, need, only, point, refuse, unavailable}
-use Rattle.answers.specs.Replies.{id_of}
-use Rattle.answers.specs.Setting.{Setting}
-use Rattle.answers.specs.Told.{outcome_told}
-use Rattle.answers.specs.Texts.{where_passes}
 use Rattle.answers.specs.declared.answer.Answer.TheVariants as answer
-use Rattle.answers.specs.declared.halt.Halt.{Halt}
-use Rattle.endpoints.specs.ConsentPath.{consent_given}
-use Rattle.endpoints.specs.Introspect.{introspect, told_of}
-use Rattle.endpoints.specs.Parts.{live_of, with_presented}
-use Rattle.endpoints.specs.declared.revoke.Presented.{Presented}
-use Rattle.endpoints.specs.Revoke.{revoke_token, revoked}
-use Rattle.messages.specs.Asked.{Asked}
+use Rattle.endpoints.proofs.Sound.{passes}
 
 -- the points are others that end so
 pub halts_by : (halt : Halt) (points same : Outcome) → points ≡ same → Halts halt same → Halts halt points
 halts_by halt points same e halts = subst (λ p. Halts halt p) (sym e) halts
-
--- what was told is what they come to
-pub told_by : {o : Option Outcome} (points same : Outcome) → points ≡ same → o ≡ Some same → o ≡ Some points
-told_by points same e is = is ∙ ap Some (sym e)
 
 -- CONSENTS
 
@@ -51,24 +29,16 @@ consent_room s owner client mask room = rw room refl
 
 -- LIVE TOKENS
 
-kept_if : (b : Bool) (x g : Grant) → (if b then Some x else None) ≡ Some g → Some x ≡ Some g
-kept_if true x g is = is
-kept_if false x g is = absurd (cc)
-
 -- what is good is there
-good : (history : List Event) (digest : List ℕ) (m : ℕ) (at : Option Grant) (g : Grant) →
+pub good : (history : List Event) (digest : List ℕ) (m : ℕ) (at : Option Grant) (g : Grant) →
     where_good history digest m at ≡ Some g → at ≡ Some g
 good history digest m None g is = absurd (cc)
-good history digest m (Some x) g is = kept_if (is_good history digest m x) x g is
-
-passes : (test : Grant → Bool) (o : Option Grant) (g : Grant) → where_passes test o ≡ Some g → o ≡ Some g
-passes test None g is = absurd (cc)
-passes test (Some x) g is = kept_if (test x) x g is
+good history digest m (Some x) g is = (passes (is_good history digest m) (Some x) g is).0
 
 -- the live token is named
 pub live_named : (history : List Event) (digest : List ℕ) (m : ℕ) (g : Grant) → live_of history m (Some digest) ≡ Some g → grant_at history digest m ≡ Some g
 live_named history digest m g is =
-    good history digest m (grant_at history digest m) g (passes (λ g. not (is_code g.kind)) (live_grant history digest m) g is)
+    good history digest m (grant_at history digest m) g (passes (λ g. not (is_code g.kind)) (live_grant history digest m) g is).0
 
 -- what is done of the live token, if there is one
 abbrev pub revoked_by : ℕ → Option Grant → Outcome
@@ -78,11 +48,7 @@ pub own_revoked : (number : ℕ) (g : Grant) → g.client ≡ number → revoked
 own_revoked number g same = rw (eq-eqb g.client number same) refl
 
 pub other_refused : (number : ℕ) (g : Grant) → (g.client ≡ number → ⊥) → revoked_by number (Some g) ≡ refuse InvalidGrant
-other_refused number g other = by_test (g.client == number) refl
-  where
-    by_test : (own : Bool) → (g.client == number) ≡ own → revoked_by number (Some g) ≡ refuse InvalidGrant
-    by_test true is = absurd (other (eqb-true g.client number is))
-    by_test false is = rw is refl
+other_refused number g other = rw (ne_eqb g.client number other) refl
 
 -- what is told of the live token, if there is one
 abbrev pub told_by_live : RegistryRecord → Option Grant → Outcome
@@ -100,15 +66,11 @@ no_token (Token t) other = absurd (other t refl)
 pub code_told : (rules : RegistryRecord) (g : Grant) → ((t : TokenKind) → g.kind ≡ Token t → ⊥) → told_by_live rules (Some g) ≡ only (plain 200 Inactive)
 code_told rules g other = rw (no_token g.kind other) refl
 
-not_false : (b : Bool) → not b ≡ false → b ≡ true
-not_false true h = refl
-not_false false h = cc
-
 pub differs : (b : Bool) (n k : ℕ) → b ≡ not (n == k) → b ≡ true → n ≡ k → ⊥
-differs b n k is true_is same = let e = eq-eqb n k same in false≢true (sym (is ∙ ap not e) ∙ true_is)
+differs b n k is true_is = eqb-false n k (not-true (n == k) (sym is ∙ true_is))
 
 pub agrees : (b : Bool) (n k : ℕ) → b ≡ not (n == k) → b ≡ false → n ≡ k
-agrees b n k is false_is = eqb-true n k (not_false (n == k) (sym is ∙ false_is))
+agrees b n k is false_is = eqb-true n k (not-false (n == k) (sym is ∙ false_is))
 
 pub revoked_told : (s : Setting) (digest : List ℕ) (g : Grant) → grant_at s.history digest s.moment ≡ Some g →
     outcome_told s (record { answer = answer.Done; changes = One (change.FamilyEnded digest) })

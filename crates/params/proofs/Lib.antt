@@ -4,3 +4,4 @@ pub mod Replaced
 pub mod Tokens
 pub mod Written
 pub mod Taken
+pub mod Names

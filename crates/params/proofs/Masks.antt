@@ -1,15 +1,8 @@
 -- Names, and masks of them.
 use Rattle.std.proofs.Common.{◌≡◌, ℕ, ◌+◌, ◌*◌, ◌/◌, ◌^◌, ◌<◌, suc, zero, List, [], ◌∷◌, map, length, Bool, true, false, cond, refl, sym, ap, ◌∙◌, arith, Option, Some, None, option_map, bit_or, max, add-one}
-use Rattle.std.specs.Prelude.{String, string_bytes, bytes_eq}
-use Rattle.std.specs.List.{list_any, position_from}
-use Rattle.std.proofs.lemmas.Bool.{or_parts}
-use Rattle.std.proofs.lemmas.Nat.Bits.{bit_at_or, bit_at_lowest, bit_at-suc, bit_at-zero, same_from_bits}
-use Rattle.std.proofs.Math.Nat.{pow-succ', zero-max}
-use Rattle.std.specs.Int.{bit_at}
-use Rattle.params.specs.Form.{any_twice}
-use Rattle.params.specs.FormLaws.{bytes_eq-sym, same_bytes}
-use Rattle.params.specs.ScopeLaws.{bit_of, bit_of-small}
-use Rattle.params.specs.Scope.{is_among, mask_of, place_among}
+use Rattle.params.proofs.Names.{String, bytes_eq, list_any, position_from, or_parts, bit_at_or, bit_at_lowest, bit_at-suc, bit_at-zero, same_from_bits, pow-succ', zero-max, bit_at, any_twice}
+use Rattle.params.proofs.Names.{bytes_eq-sym, same_bytes, bit_of, bit_of-small, is_among, mask_of, place_among}
+use Rattle.std.specs.Prelude.{string_bytes}
 
 module _ {Y : Type 0} where
   pub position_from-texts : (name : List ℕ) (i : ℕ) (names : List (String Y)) → position_from (λ s. bytes_eq name (string_bytes s)) i names ≡ position_from (bytes_eq name) i (map string_bytes names)

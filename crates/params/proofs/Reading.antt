@@ -1,12 +1,7 @@
 -- Names that stand twice.
 use Rattle.std.proofs.Common.{inl, inr, ◌≡◌, ◌<◌, ℕ, List, [], ◌∷◌, ◌++◌, true, false, ◌∙◌, length, refl, arith}
+use Rattle.params.proofs.Names.{bytes_eq, list_any, or_left, or_right, or_cases, list_any-append, any_twice, names_of_pairs, texts_of, bytes_eq-sym}
 use Rattle.std.specs.declared.borrow.CowStr.{CowStr}
-use Rattle.std.specs.Prelude.{bytes_eq}
-use Rattle.std.specs.List.{list_any}
-use Rattle.std.proofs.lemmas.Bool.{or_left, or_right, or_cases}
-use Rattle.std.proofs.lemmas.List.Folds.{list_any-append}
-use Rattle.params.specs.Form.{any_twice, names_of_pairs, texts_of}
-use Rattle.params.specs.FormLaws.{bytes_eq-sym}
 
 -- a name that stands before stands twice
 pub any_twice-later : (names : List (List ℕ)) (name : List ℕ) (left : List (List ℕ)) → list_any (bytes_eq name) names ≡ true → any_twice (names ++ name ∷ left) ≡ true

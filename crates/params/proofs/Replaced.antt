@@ -1,13 +1,7 @@
 -- U+FFFD in a text, and what a search for it answers.
 use Rattle.std.proofs.Common.{zero, suc, inl, inr, ◌≡◌, ℕ, ◌≤◌, List, [], ◌∷◌, ◌++◌, length, drop, Bool, true, false, nat_eq, refl, sym, arith, MatchBool, None, ◌&&◌, ◌||◌, ◌<◌, take, ap, ◌∙◌, IsAscii}
-use Rattle.std.specs.Cmp.Lexicographic.{pointwise}
-use Rattle.std.specs.List.{starts_with}
+use Rattle.params.proofs.Names.{pointwise, starts_with, FindsText, HasMatch, ne_eqb, or_cases, or_left, or_right, Decides-eqb, starts_is, has_replacement}
 use Rattle.std.specs.Str.Lossy.{replacement_bytes}
-use Rattle.std.specs.Str.Pattern.{FindsText, HasMatch}
-use Rattle.std.proofs.lemmas.Bool.{ne_eqb, or_cases, or_left, or_right}
-use Rattle.std.proofs.lemmas.Bool.Decides.{Decides-eqb}
-use Rattle.std.proofs.lemmas.Slice.Eq.{starts_is}
-use Rattle.params.specs.Form.{has_replacement}
 
 -- where it stands, the test says so
 found_at : (text : List ℕ) (i : ℕ) (rest : List ℕ) → drop i text ≡ replacement_bytes ++ rest → has_replacement text ≡ true

@@ -1,13 +1,7 @@
 -- The items of a list one by one, and parameters and names among them.
 use Rattle.std.proofs.Common.{◌≡◌, ◌<◌, ℕ, ◌+◌, add-one, suc, List, [], ◌∷◌, ◌++◌, length, drop, get_or, map, Bool, true, false, ◌||◌, cond, refl, sym, ap, ◌∙◌, Option, Some, is_some}
-use Rattle.std.specs.Prelude.{bytes_eq}
-use Rattle.std.specs.List.{list_any}
+use Rattle.params.proofs.Names.{bytes_eq, list_any, or_left, or_right, drop-map, list_any-append, value_sent, bytes_eq-sym}
 use Rattle.std.proofs.Math.Seq.{drop-cons}
-use Rattle.std.proofs.lemmas.Bool.{or_left, or_right}
-use Rattle.std.proofs.lemmas.List.{drop-map}
-use Rattle.std.proofs.lemmas.List.Folds.{list_any-append}
-use Rattle.params.specs.Form.{value_sent}
-use Rattle.params.specs.FormLaws.{bytes_eq-sym}
 
 -- the next item of a list, and of what it is mapped to
 module _ {X : Type 0} where

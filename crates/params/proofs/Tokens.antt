@@ -1,16 +1,9 @@
 -- A scope text read token by token.
 use Rattle.std.proofs.Common.{◌≡◌, ℕ, ◌*◌, ◌%◌, ◌^◌, ◌<◌, List, [], ◌∷◌, true, false, refl, sym, ap, ◌∙◌, arith, Option, Some, None, is_some, if◌then◌else◌, bit_or, max}
-use Rattle.std.specs.Prelude.{bytes_eq}
+use Rattle.params.proofs.Names.{bytes_eq, list_all, YieldsList, bit_at_or, same_from_bits, bit_at, any_twice, is_among, mask_of, place_among, is_some-position_from}
 use Rattle.std.specs.Borrow.{Bor}
-use Rattle.std.specs.List.{list_all}
-use Rattle.std.proofs.lemmas.Iterator.{YieldsList}
-use Rattle.std.proofs.lemmas.Nat.Bits.{bit_at_or, same_from_bits}
-use Rattle.std.specs.Int.{bit_at}
 use Rattle.std.proofs.Math.Pow.{pow-lt}
 use Rattle.std.specs.Int.Bits.{or_zero_r}
-use Rattle.params.specs.Form.{any_twice}
-use Rattle.params.specs.Scope.{is_among, mask_of, place_among}
-use Rattle.params.specs.ScopeLaws.{is_some-position_from}
 use Rattle.params.proofs.Masks.{mask_of-cons, mask_of-nil}
 
 or_assoc : (a b c : ℕ) → bit_or (bit_or a b) c ≡ bit_or a (bit_or b c)

@@ -1,17 +1,10 @@
 -- The written text of a set of names, and that it is read back as that set.
 use Rattle.std.proofs.Common.{◌≡◌, ◌≢◌, ◌≤◌, ℕ, ◌+◌, ◌/◌, ◌%◌, ◌^◌, ◌<◌, List, [], ◌∷◌, ◌++◌, length, Bool, true, false, ◌&&◌, ◌==◌, refl, sym, ap, ◌∙◌, arith, append_assoc, drop, take, not, nat_le, nat_lt, Some, if◌then◌else◌}
-use Rattle.std.specs.Prelude.{bytes_eq, All}
-use Rattle.std.specs.List.{list_all, join_with_byte}
-use Rattle.std.proofs.Math.Nat.{pow-succ'}
-use Rattle.std.proofs.lemmas.Bool.{or_parts, or_from, or_left, or_right, and_parts, and_from, ne_eqb, eq-eqb, eqb-true, eqb-false, leb-true}
-use Rattle.std.proofs.lemmas.List.{take-append-drop, drop_all}
-use Rattle.std.proofs.lemmas.List.Folds.{list_all-append, list_any-append}
+use Rattle.params.proofs.Names.{bytes_eq, All, list_all, join_with_byte, pow-succ', or_parts, or_from, or_left, or_right, and_parts, and_from, ne_eqb, eq-eqb, eqb-true, eqb-false, leb-true}
+use Rattle.params.proofs.Names.{take-append-drop, drop_all, list_all-append, list_any-append, bytes_eq-Decides, any_twice, is_scope_character, is_scope_token, is_scope_name, is_among, IsCatalogue}
+use Rattle.params.proofs.Names.{tokens_of, mask_of, names_in_mask, scope_mask, scope_text, text_with_name, list_all-names_of}
 use Rattle.std.proofs.lemmas.List.Elements.{All-nil, All-cons}
-use Rattle.std.proofs.lemmas.Slice.Eq.{bytes_eq-Decides}
 use Rattle.std.proofs.lemmas.List.Splits.{slice_split_none, slice_split_at}
-use Rattle.params.specs.Form.{any_twice}
-use Rattle.params.specs.Scope.{is_scope_character, is_scope_token, is_scope_name, is_among, IsCatalogue, tokens_of, mask_of, names_in_mask, scope_mask, scope_text, text_with_name}
-use Rattle.params.specs.ScopeLaws.{list_all-names_of}
 use Rattle.params.proofs.Masks.{mask_of-cons_other, mask_of-nil}
 
 -- the written text, when the names so far have this text and those are left

@@ -1,7 +1,5 @@
 use Rattle.std.proofs.Common.{rules, codes, ◌∷◌, []}
-use Rattle.messages.specs.Members.Member.{Texts}
-use Rattle.messages.specs.Reply.{plain}
-use Rattle.messages.specs.Reply.Body.{Told}
+use Rattle.answers.proofs.Names.{Texts, plain, Told}
 use Rattle.answers.proofs.Listing.{names_small}
 use Rattle.answers.proofs.Sizes.{if_short}
 use Rattle.answers.proofs.writing.all_hooks.Goals as goal

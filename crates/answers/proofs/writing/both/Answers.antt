@@ -1,9 +1,5 @@
 use Rattle.std.proofs.Common.{rules, ◌<◌, ◌≤◌, ◌^◌, length, refl, arith}
-use Rattle.params.specs.Limits.{scope_text_limit}
-use Rattle.params.specs.Scope.{scope_text}
-use Rattle.pkce.specs.Token.{token_text}
-use Rattle.pkce.specs.TokenLaws.{length-token_text}
-use Rattle.answers.specs.Replies.{both_reply}
+use Rattle.answers.proofs.Names.{scope_text_limit, scope_text, token_text, length-token_text, both_reply}
 use Rattle.answers.proofs.Sizes.{if_short}
 use Rattle.answers.proofs.writing.both.Goals as goal
 

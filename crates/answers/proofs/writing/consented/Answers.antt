@@ -1,7 +1,5 @@
 use Rattle.std.proofs.Common.{rules, ◌≤◌, length, refl, arith}
-use Rattle.params.specs.Limits.{scope_text_limit}
-use Rattle.params.specs.Scope.{scope_text}
-use Rattle.messages.specs.Reply.{consent_body, plain}
+use Rattle.answers.proofs.Names.{scope_text_limit, scope_text, consent_body, plain}
 use Rattle.answers.proofs.Sizes.{if_short}
 use Rattle.answers.proofs.writing.consented.Goals as goal
 

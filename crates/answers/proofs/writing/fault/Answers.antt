@@ -1,10 +1,7 @@
 use Rattle.std.proofs.Common.{◌≡◌, ◌<◌, ◌^◌, refl, arith, rules}
+use Rattle.answers.proofs.Names.{HookFault, Insn, Verify, NameTaken, BadName, Full, Unknown, Memory, hook_fault_text, plain, refused_body}
 use Rattle.insn.specs.declared.fault.InsnFault.TheVariants as insn
 use Rattle.insn.specs.declared.verify_fault.VerifyFault.TheVariants as verify
-use Rattle.hook_host.specs.declared.fault.HookFault.{HookFault}
-use Rattle.hook_host.specs.declared.fault.HookFault.TheVariants.{Insn, Verify, NameTaken, BadName, Full, Unknown, Memory}
-use Rattle.hook_host.specs.Faults.{hook_fault_text}
-use Rattle.messages.specs.Reply.{plain, refused_body}
 use Rattle.answers.proofs.FaultSizes.{hook_slot, hook_fault_short}
 use Rattle.answers.proofs.Sizes.{if_short}
 use Rattle.answers.proofs.writing.fault.Goals as goal

@@ -1,8 +1,6 @@
 use Rattle.std.proofs.Common.{rules, ◌≤◌, length, codes, arith}
+use Rattle.answers.proofs.Names.{token_text, length-token_text, sent_back}
 use Rattle.std.specs.Option.{option_copied}
-use Rattle.pkce.specs.Token.{token_text}
-use Rattle.pkce.specs.TokenLaws.{length-token_text}
-use Rattle.messages.specs.Reply.{sent_back}
 use Rattle.answers.proofs.Sizes.{if_short, sent_small}
 use Rattle.answers.proofs.writing.sent.Goals as goal
 

@@ -1,7 +1,6 @@
 use Rattle.std.proofs.Common.{rules, codes}
+use Rattle.answers.proofs.Names.{sent_back, error_text}
 use Rattle.std.specs.Option.{option_copied}
-use Rattle.messages.specs.Reply.{sent_back}
-use Rattle.messages.specs.Written.{error_text}
 use Rattle.answers.proofs.Sizes.{if_short, turned_small}
 use Rattle.answers.proofs.writing.turned.Goals as goal
 

@@ -1,10 +1,7 @@
 use Rattle.std.proofs.Common.{rules, ◌≤◌, ℕ, List, [], Option, Some, None, Bor, refl, length, arith}
-use Rattle.std.specs.Prelude.{IfSome, unwrap_or, option_copied}
+use Rattle.answers.proofs.Names.{IfSome, unwrap_or, name_limit, hook_body, plain, Empty, Failure, Inactive, status_of}
+use Rattle.std.specs.Prelude.{option_copied}
 use Rattle.clients.specs.Limits.{key_limit}
-use Rattle.hook_host.specs.Names.{name_limit}
-use Rattle.messages.specs.Reply.{hook_body, plain}
-use Rattle.messages.specs.Reply.Body.{Empty, Failure, Inactive}
-use Rattle.answers.specs.Outcomes.{status_of}
 use Rattle.answers.proofs.Sizes.{failure_small, if_short, written_short}
 use Rattle.answers.proofs.writing.write.Goals as goal
 

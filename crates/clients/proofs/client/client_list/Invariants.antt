@@ -1,6 +1,5 @@
 use Rattle.std.proofs.Common.{◌≡◌, [], drop, length}
-use Rattle.serde_json.specs.View.{items_view}
-use Rattle.clients.specs.Clients.{clients_after}
+use Rattle.clients.proofs.Names.{items_view, clients_after}
 use Rattle.clients.proofs.client.client_list.Given as goal
 
 abbrev pub invariant-loop-value : goal.invariant-loop-value

@@ -1,6 +1,5 @@
 use Rattle.std.proofs.Common.{◌≡◌, [], drop, length}
-use Rattle.serde_json.specs.View.{items_view}
-use Rattle.clients.specs.Spots.{clients_spot}
+use Rattle.clients.proofs.Names.{items_view, clients_spot}
 use Rattle.clients.proofs.client.clients_spot.Given as goal
 
 abbrev pub invariant-loop-value : goal.invariant-loop-value

@@ -1,7 +1,5 @@
 use Rattle.std.proofs.Common.{◌≡◌, rules, map, string_bytes, Ok}
-use Rattle.serde_json.specs.View.{view}
-use Rattle.clients.specs.Clients.{id_member, secret_member, redirects_member}
-use Rattle.clients.specs.RegistryLaws.{id-read, secret-read, redirects_member-read}
+use Rattle.clients.proofs.Names.{view, id_member, secret_member, redirects_member, id-read, secret-read, redirects_member-read}
 use Rattle.clients.proofs.client.read_client.Goals as goal
 
 pub invariant_of-result : goal.invariant_of-result

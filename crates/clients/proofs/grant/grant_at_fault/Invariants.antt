@@ -1,6 +1,5 @@
 use Rattle.std.proofs.Common.{◌≡◌, drop}
-use Rattle.serde_json.specs.View.{items_view}
-use Rattle.clients.specs.Spots.{grant_at_fault}
+use Rattle.clients.proofs.Names.{items_view, grant_at_fault}
 use Rattle.clients.proofs.grant.grant_at_fault.Given as goal
 
 abbrev pub invariant-loop-value : goal.invariant-loop-value

@@ -1,6 +1,5 @@
 use Rattle.std.proofs.Common.{◌≡◌, [], drop, length}
-use Rattle.serde_json.specs.View.{items_view}
-use Rattle.clients.specs.Owners.{owners_after}
+use Rattle.clients.proofs.Names.{items_view, owners_after}
 use Rattle.clients.proofs.owner.owner_list.Given as goal
 
 abbrev pub invariant-loop-value : goal.invariant-loop-value

@@ -1,8 +1,6 @@
 use Rattle.std.proofs.Common.{◌≡◌, rules, Ok}
-use Rattle.serde_json.specs.View.{view}
-use Rattle.clients.specs.Registry.{registry_of}
+use Rattle.clients.proofs.Names.{view, registry_of, registry-read}
 use Rattle.clients.specs.RegistryRecord.{RegistryRecord}
-use Rattle.clients.specs.RegistryLaws.{registry-read}
 use Rattle.clients.proofs.registry.read_registry.Goals as goal
 
 pub invariant_of-result : goal.invariant_of-result

@@ -1,6 +1,5 @@
 use Rattle.std.proofs.Common.{◌≡◌, [], drop, length}
-use Rattle.serde_json.specs.View.{items_view}
-use Rattle.clients.specs.Spots.{scope_at_fault}
+use Rattle.clients.proofs.Names.{items_view, scope_at_fault}
 use Rattle.clients.proofs.scope.scope_at_fault.Given as goal
 
 abbrev pub invariant-loop-value : goal.invariant-loop-value

@@ -1,8 +1,5 @@
 use Rattle.std.proofs.Common.{◌≡◌, ◌<◌, ◌≤◌, List, [], ◌∷◌, length, Err, refl, rules, arith}
-use Rattle.serde_json.specs.View.{items_view}
-use Rattle.serde_json.specs.declared.value.Value.{Value}
-use Rattle.clients.specs.Clients.{one_or_two}
-use Rattle.clients.specs.declared.fault.ConfigFault.TheVariants.{OutOfRange}
+use Rattle.clients.proofs.Names.{items_view, Value, one_or_two, OutOfRange}
 use Rattle.clients.proofs.secret.one_or_two.Goals as goal
 use Rattle.clients.proofs.secret.one_or_two.Goals.{in_default-via-then-list-lt1, in_default-via-else-list-lt1+else-list-lt2+else-list-lt3}
 

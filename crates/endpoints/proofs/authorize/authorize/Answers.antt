@@ -1,11 +1,6 @@
 use Rattle.std.proofs.Common.{ap, sym, Some, ◌∙◌}
+use Rattle.endpoints.proofs.Names.{sent_back, error_text, asked_of, only, setting_of, authorize_known}
 use Rattle.std.specs.Prelude.{codes}
-use Rattle.messages.specs.Reply.{sent_back}
-use Rattle.messages.specs.Written.{error_text}
-use Rattle.messages.specs.Asked.{asked_of}
-use Rattle.answers.specs.Outcomes.{only}
-use Rattle.answers.specs.Views.{setting_of}
-use Rattle.endpoints.specs.Parts.{authorize_known}
 use Rattle.endpoints.proofs.authorize.authorize.Goals as goal
 
 pub returns-in-Ok-code_facts-clause-decides : goal.returns-in-Ok-code_facts-clause-decides

@@ -1,32 +1,39 @@
-use Rattle.std.proofs.Common.{[], ◌∷◌}
-use Rattle.endpoints.specs.Making.{AllPlain}
-use Rattle.endpoints.proofs.Besides.{plain_of, plain_consents, plain_host, consented_host, set_consents, set_host, unset_host, gone_consents, gone_host, kept_host}
+use Rattle.std.proofs.Common.{[], ◌∷◌, ap, refl}
+use Rattle.endpoints.proofs.Names.{change_of, told, AllPlain}
+use Rattle.endpoints.proofs.Besides.{plain_of, plain_consents, plain_host, step_host, hook_consents, unset_host, kept_host}
 use Rattle.endpoints.proofs.beside.make_one.Goals as goal
 use Rattle.endpoints.proofs.beside.make_one.Goals.{in-Removes, in_default-checked-2}
 
 pub returns-in-Consented-clause-hosts : goal.returns-in-Consented-clause-hosts
-returns-in-Consented-clause-hosts g c = consented_host g.H.HookHost _ _ c.args.checked _ _ _ c.in-Consented.is
+returns-in-Consented-clause-hosts g c =
+    let w = c.in-Consented in
+    step_host g.H.HookHost _ _ _ c.args.checked (told.Consented w.owner w.client w.mask) (λ history m. ap (change_of history m) w.is) refl
 
-pub returns-in-Installs-clause-consents : goal.returns-in-Installs-clause-consents
-returns-in-Installs-clause-consents g c = set_consents _ _ _ _ _ c.in-HookSet.is
-
-pub returns-in-Installs-clause-hosts : goal.returns-in-Installs-clause-hosts
-returns-in-Installs-clause-hosts g c =
-    set_host g.H.HookHost _ _ _ c.args.checked _ _ _ c.in-HookSet.is
-    (c.take.ensures.done _ _ _ (rw c.in-HookSet.is at (rw c.in-Installs.is at c.requires.hook)))
+pub returns-in-Installs : goal.returns-in-Installs
+returns-in-Installs g c =
+    let w = c.in-HookSet in
+    record {
+      consents = hook_consents _ _ (told.HookSet w.name.now w.version w.code.now) (λ history m. ap (change_of history m) w.is) refl;
+      hosts =
+          step_host g.H.HookHost _ _ _ c.args.checked (told.HookSet w.name.now w.version w.code.now) (λ history m. ap (change_of history m) w.is)
+          (c.take.ensures.done _ _ _ (rw w.is at (rw c.in-Installs.is at c.requires.hook)));
+    }
 
 pub returns-in_default-checked : goal.returns-in_default-checked
-returns-in_default-checked g c = record {
-  consents = set_consents _ _ _ _ _ c.in-HookSet.is;
-  hosts = unset_host g.H.HookHost _ _ c.args.checked _ _ _ c.in-HookSet.is c.in_default-checked.not-Installs;
-}
+returns-in_default-checked g c =
+    let w = c.in-HookSet in
+    record {
+      consents = hook_consents _ _ (told.HookSet w.name.now w.version w.code.now) (λ history m. ap (change_of history m) w.is) refl;
+      hosts = unset_host g.H.HookHost _ _ c.args.checked _ _ _ w.is c.in_default-checked.not-Installs;
+    }
 
 pub returns-after-checked-3-clause-consents : goal.returns-after-checked-3-clause-consents
-returns-after-checked-3-clause-consents g c = gone_consents _ _ _ c.in-HookGone.is
+returns-after-checked-3-clause-consents g c =
+    hook_consents _ _ (told.HookGone c.in-HookGone.name.now) (λ history m. ap (change_of history m) c.in-HookGone.is) refl
 
 pub returns-after-checked-3-clause-hosts : goal.returns-after-checked-3-clause-hosts
 returns-after-checked-3-clause-hosts g c = elim c.match-checked-3.branch [
-  | in-Removes w ↦ rw w.host-is (gone_host g.H.HookHost _ _ _ c.args.checked _ c.in-HookGone.is w.drop_named.ensures.done)
+  | in-Removes w ↦ rw w.host-is (step_host g.H.HookHost _ _ _ c.args.checked (told.HookGone c.in-HookGone.name.now) (λ history m. ap (change_of history m) c.in-HookGone.is) w.drop_named.ensures.done)
   | in_default-checked-2 w ↦ rw w.host-is (kept_host g.H.HookHost _ _ c.args.checked _ c.in-HookGone.is w.in_default-checked-2.not-Removes)
 ]
 

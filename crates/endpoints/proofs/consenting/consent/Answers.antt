@@ -1,6 +1,5 @@
 use Rattle.std.proofs.Common.{ap, sym, Some, ◌∙◌}
-use Rattle.answers.specs.Views.{setting_of}
-use Rattle.answers.specs.Told.{outcome_told}
+use Rattle.endpoints.proofs.Names.{setting_of, outcome_told}
 use Rattle.endpoints.proofs.Telling.{halts_by, consent_room, no_consent_room}
 use Rattle.endpoints.proofs.consenting.consent.Goals as goal
 

@@ -1,9 +1,5 @@
 use Rattle.std.proofs.Common.{ap, sym, Some, None, ◌∙◌, arith}
-use Rattle.messages.specs.Asked.{asked_of}
-use Rattle.answers.specs.Found.{grant_found}
-use Rattle.answers.specs.Views.{setting_of}
-use Rattle.answers.specs.Told.{outcome_told}
-use Rattle.endpoints.specs.Parts.{live_of}
+use Rattle.endpoints.proofs.Names.{asked_of, grant_found, setting_of, outcome_told, live_of}
 use Rattle.endpoints.proofs.Telling.{introspected, active_told, code_told, told_by_live}
 use Rattle.endpoints.proofs.introspect.introspect.Goals as goal
 

@@ -1,11 +1,5 @@
 use Rattle.std.proofs.Common.{◌∙◌}
-use Rattle.std.specs.Result.{result_ok}
-use Rattle.params.specs.Form.{read_params}
-use Rattle.messages.specs.Asked.{asked_of}
-use Rattle.messages.specs.Target.{query_of}
-use Rattle.answers.specs.Requesters.{form_of}
-use Rattle.endpoints.specs.HookPaths.{hook_gone, hook_set_by}
-use Rattle.endpoints.specs.Parts.{hook_points}
+use Rattle.endpoints.proofs.Names.{result_ok, read_params, asked_of, query_of, form_of, hook_gone, hook_set_by, hook_points}
 use Rattle.endpoints.proofs.ReadingOn.{points_of}
 use Rattle.endpoints.proofs.Telling.{halts_by}
 use Rattle.endpoints.proofs.reading.read.Goals as goal

@@ -1,12 +1,5 @@
 use Rattle.std.proofs.Common.{rules, ◌≡◌, None, Some, codes, refl, sym, subst, ◌∙◌}
-use Rattle.params.specs.Form.{value_sent}
-use Rattle.messages.specs.Asked.{asked_of}
-use Rattle.messages.specs.declared.error.ErrorName.TheVariants.{InvalidRequest}
-use Rattle.answers.specs.Halts.{Halts}
-use Rattle.answers.specs.Outcomes.{Outcome, need, refuse}
-use Rattle.answers.specs.Requesters.{KnownClient, Parameters, with_credentials}
-use Rattle.answers.specs.Texts.{digest_told}
-use Rattle.endpoints.specs.declared.revoke.Presented.{Presented}
+use Rattle.endpoints.proofs.Names.{value_sent, asked_of, InvalidRequest, Halts, Outcome, need, refuse, KnownClient, Parameters, with_credentials, digest_told, Presented}
 use Rattle.endpoints.proofs.revoke.presented_by.Goals as goal
 
 abbrev named : Parameters → (Presented → Outcome) → KnownClient → Outcome

@@ -1,6 +1,5 @@
 use Rattle.std.proofs.Common.{◌≡◌, ◌≤◌, inl, inr, None, length, sym, ap, ◌∙◌, arith}
-use Rattle.std.specs.Prelude.{option_copied, slice_get}
-use Rattle.std.proofs.lemmas.Option.{slice_get_cases}
+use Rattle.endpoints.proofs.Names.{option_copied, slice_get, slice_get_cases}
 use Rattle.endpoints.proofs.server.hook_count.Goals as goal
 
 pub returns : goal.returns

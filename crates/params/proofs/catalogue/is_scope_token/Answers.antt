@@ -1,8 +1,5 @@
 use Rattle.std.proofs.Common.{arith, rules, tests}
-use Rattle.std.proofs.lemmas.Iterator.Search.{all_from_yields_List}
-use Rattle.std.proofs.lemmas.Iterator.{YieldsList-from_slice}
-use Rattle.std.proofs.lemmas.Bool.Decides.{nat_tests}
-use Rattle.params.specs.Scope.{is_scope_character}
+use Rattle.params.proofs.Names.{all_from_yields_List, YieldsList-from_slice, nat_tests, is_scope_character}
 use Rattle.params.proofs.catalogue.is_scope_token.Goals as goal
 
 pub returns-then-not-is_empty : goal.returns-then-not-is_empty

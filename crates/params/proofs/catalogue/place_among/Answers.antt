@@ -1,10 +1,6 @@
 use Rattle.std.proofs.Common.{◌≡◌, ◌∙◌, ap, rules, tests, is_some, map, string_bytes}
-use Rattle.std.specs.Prelude.{bytes_eq}
+use Rattle.params.proofs.Names.{bytes_eq, position_from_yields_List, YieldsList-from_slice, place_among, is_some-position_from}
 use Rattle.std.proofs.lemmas.Iterator.Adapters.{position_from-zero}
-use Rattle.std.proofs.lemmas.Iterator.Search.{position_from_yields_List}
-use Rattle.std.proofs.lemmas.Iterator.{YieldsList-from_slice}
-use Rattle.params.specs.Scope.{place_among}
-use Rattle.params.specs.ScopeLaws.{is_some-position_from}
 use Rattle.params.proofs.Masks.{position_from-texts}
 use Rattle.params.proofs.catalogue.place_among.Goals as goal
 

@@ -1,11 +1,6 @@
 use Rattle.std.proofs.Common.{◌≡◌, ◌++◌, ◌∷◌, [], ◌∙◌, rules, sym, ap, true, false, drop, append_assoc, is_some, ◌+◌}
-use Rattle.std.specs.Cow.{cow_str_bytes}
-use Rattle.std.specs.BTreeMap.{get_by}
-use Rattle.std.specs.Cmp.Lexicographic.{slice_cmp}
-use Rattle.std.specs.Ordering.{nat_cmp}
+use Rattle.params.proofs.Names.{cow_str_bytes, get_by, slice_cmp, nat_cmp, any_twice, names_of_pairs, texts_of, any_twice-append}
 use Rattle.std.proofs.lemmas.Map.Text.{btree_map_updates_str}
-use Rattle.params.specs.Form.{any_twice, names_of_pairs, texts_of}
-use Rattle.params.specs.FormLaws.{any_twice-append}
 use Rattle.params.proofs.Reading.{any_twice-later, few_once}
 use Rattle.params.proofs.Taken.{next_item, taken_with}
 use Rattle.params.proofs.params.any_twice.Goals as goal

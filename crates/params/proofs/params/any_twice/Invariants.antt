@@ -1,10 +1,5 @@
 use Rattle.std.proofs.Common.{◌≡◌, ◌++◌, ℕ, List, false, drop, is_some}
-use Rattle.std.specs.Prelude.{bytes_eq}
-use Rattle.std.specs.List.{list_any}
-use Rattle.std.specs.BTreeMap.{get_by}
-use Rattle.std.specs.Cmp.Lexicographic.{slice_cmp}
-use Rattle.std.specs.Ordering.{nat_cmp}
-use Rattle.params.specs.Form.{any_twice, names_of_pairs, texts_of}
+use Rattle.params.proofs.Names.{bytes_eq, list_any, get_by, slice_cmp, nat_cmp, any_twice, names_of_pairs, texts_of}
 use Rattle.params.proofs.params.any_twice.Given as goal
 
 abbrev pub invariant-loop-name : goal.invariant-loop-name

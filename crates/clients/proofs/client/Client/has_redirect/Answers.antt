@@ -1,7 +1,5 @@
 use Rattle.std.proofs.Common.{◌≡◌, ◌∙◌, rules, true, map, string_bytes}
-use Rattle.std.specs.List.{list_any}
-use Rattle.std.specs.Str.{bytes_eq}
-use Rattle.clients.specs.RegistryLaws.{redirect-among}
+use Rattle.clients.proofs.Names.{list_any, bytes_eq, redirect-among}
 use Rattle.clients.proofs.Listed.{any_text}
 use Rattle.clients.proofs.client.Client.has_redirect.Goals as goal
 

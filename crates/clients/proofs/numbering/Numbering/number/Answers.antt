@@ -1,6 +1,5 @@
 use Rattle.std.proofs.Common.{◌≡◌, rules, sym}
-use Rattle.std.specs.Str.{IsUtf8}
-use Rattle.clients.specs.Numbers.{number_among}
+use Rattle.clients.proofs.Names.{IsUtf8, number_among}
 use Rattle.clients.proofs.Places.{number_of-listed, number_of-none}
 use Rattle.clients.proofs.numbering.Numbering.number.Goals as goal
 

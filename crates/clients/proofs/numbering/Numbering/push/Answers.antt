@@ -1,8 +1,6 @@
 use Rattle.std.proofs.Common.{◌≡◌, ◌+◌, ◌++◌, ◌∷◌, [], map, length, string_bytes, Some, None, rules, arith}
-use Rattle.std.specs.String.{string_cmp}
-use Rattle.std.specs.BTreeMap.{Updates}
+use Rattle.clients.proofs.Names.{string_cmp, Updates, number_among}
 use Rattle.std.proofs.lemmas.Grind.{common_steps}
-use Rattle.clients.specs.Numbers.{number_among}
 use Rattle.clients.proofs.Places.{IsIndex-push}
 use Rattle.clients.proofs.numbering.Numbering.push.Goals as goal
 

@@ -1,10 +1,7 @@
 use Rattle.std.proofs.Common.{◌≡◌, ◌≤◌, ◌+◌, drop}
+use Rattle.clients.proofs.Names.{position_from, bytes_eq, number_among, keys}
 use Rattle.std.specs.Prelude.{IfSome}
-use Rattle.std.specs.List.{position_from}
-use Rattle.std.specs.Str.{bytes_eq}
 use Rattle.std.specs.Option.{option_or}
-use Rattle.clients.specs.Numbers.{number_among}
-use Rattle.clients.specs.Owners.{keys}
 use Rattle.clients.proofs.owner.Owners.number.Given as goal
 
 abbrev pub invariant-loop-owner : goal.invariant-loop-owner

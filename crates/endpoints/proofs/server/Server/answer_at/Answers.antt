@@ -1,7 +1,5 @@
 use Rattle.std.proofs.Common.{◌≡◌, sym, subst, ◌∙◌}
-use Rattle.messages.specs.Written.{in_writing}
-use Rattle.answers.specs.Replies.{reply_of}
-use Rattle.endpoints.specs.Making.{HasRooms}
+use Rattle.endpoints.proofs.Names.{in_writing, reply_of, HasRooms}
 use Rattle.endpoints.proofs.Answering.{answered}
 use Rattle.endpoints.proofs.Shorter.{halted_short}
 use Rattle.endpoints.proofs.server.Server.answer_at.Goals as goal

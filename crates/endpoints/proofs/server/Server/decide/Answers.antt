@@ -1,6 +1,5 @@
 use Rattle.std.proofs.Common.{[], None}
-use Rattle.endpoints.specs.Noting.{noted_in, prepared_in}
-use Rattle.endpoints.specs.Rulings.{setting_now}
+use Rattle.endpoints.proofs.Names.{noted_in, prepared_in, setting_now}
 use Rattle.endpoints.proofs.Ruled.{alone_fair, alone_of, alone_ruling, if_can_take, install_ruled, remove_ruled}
 use Rattle.endpoints.proofs.server.Server.decide.Goals as goal
 

@@ -1,10 +1,5 @@
 use Rattle.std.proofs.Common.{None, subst, sym}
-use Rattle.messages.specs.Asked.{asked_of}
-use Rattle.answers.specs.Setting.{Setting}
-use Rattle.answers.specs.Told.{Decides}
-use Rattle.endpoints.specs.Noting.{noted_in, prepared_in}
-use Rattle.endpoints.specs.Parts.{query_points}
-use Rattle.endpoints.specs.Rulings.{setting_now}
+use Rattle.endpoints.proofs.Names.{asked_of, Setting, Decides, noted_in, prepared_in, query_points, setting_now}
 use Rattle.endpoints.proofs.server.Server.decide_alone.Goals as goal
 
 pub returns-in-Authorize-clause-decides : goal.returns-in-Authorize-clause-decides

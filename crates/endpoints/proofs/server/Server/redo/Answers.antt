@@ -1,10 +1,5 @@
 use Rattle.std.proofs.Common.{ap, subst, sym, List}
-use Rattle.consent.specs.Changes.{as_list}
-use Rattle.consent.specs.History.{Event}
-use Rattle.token_store.specs.Fits.{FitsStore}
-use Rattle.endpoints.specs.Making.{Makes}
-use Rattle.endpoints.specs.Redo.{RedoesChange}
-use Rattle.endpoints.specs.Server.{SeenServer}
+use Rattle.endpoints.proofs.Names.{as_list, Event, FitsStore, Makes, RedoesChange, SeenServer}
 use Rattle.endpoints.proofs.Redoing.{not_back, redone}
 use Rattle.endpoints.proofs.server.Server.redo.Goals as goal
 

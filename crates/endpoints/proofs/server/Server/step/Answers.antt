@@ -1,6 +1,5 @@
 use Rattle.std.proofs.Common.{◌∙◌, subst, sym}
-use Rattle.messages.specs.Asked.{asked_of}
-use Rattle.endpoints.specs.Steps.{Arrival, Steps, Sweeps}
+use Rattle.endpoints.proofs.Names.{asked_of, Arrival, Steps, Sweeps}
 use Rattle.endpoints.proofs.Sweeping.{swept_steps, sweeps}
 use Rattle.endpoints.proofs.server.Server.step.Goals as goal
 

@@ -1,7 +1,5 @@
 use Rattle.std.proofs.Common.{◌≡◌, ◌++◌, ◌∷◌, [], ◌∙◌, ap, sym, map, subst, string_bytes, rules, None}
-use Rattle.std.proofs.lemmas.List.{map-append}
-use Rattle.params.specs.Scope.{IsCatalogue, name_fault}
-use Rattle.params.specs.ScopeLaws.{IsCatalogue-push}
+use Rattle.params.proofs.Names.{map-append, IsCatalogue, name_fault, IsCatalogue-push}
 use Rattle.params.proofs.catalogue.Catalogue.push.Goals as goal
 
 pub invariant_of-self-2 : goal.invariant_of-self-2

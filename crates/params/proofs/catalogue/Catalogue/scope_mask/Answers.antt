@@ -1,10 +1,6 @@
 use Rattle.std.proofs.Common.{◌≡◌, ◌∙◌, ◌<◌, ap, sym, rules, arith, Some, None, true, false, refl, map, string_bytes}
-use Rattle.std.specs.Str.Iter.{split_steps, split_text, split_has_more, split_pattern}
-use Rattle.std.specs.Str.Pattern.{FindsChar}
+use Rattle.params.proofs.Names.{split_steps, split_text, split_has_more, split_pattern, FindsChar, any_twice, place_among, tokens_of, scope_mask-within}
 use Rattle.std.proofs.lemmas.Iterator.Splits.{YieldsList-from_str_split}
-use Rattle.params.specs.Form.{any_twice}
-use Rattle.params.specs.Scope.{place_among, tokens_of}
-use Rattle.params.specs.ScopeLaws.{scope_mask-within}
 use Rattle.params.proofs.Masks.{place-lt}
 use Rattle.params.proofs.Tokens.{scope_after, scope_after-nil, scope_after-cons, scope_after-none, left-some, left-none}
 use Rattle.params.proofs.catalogue.Catalogue.scope_mask.Goals as goal

@@ -1,8 +1,5 @@
 use Rattle.std.proofs.Common.{◌≡◌, List, ℕ}
-use Rattle.std.specs.Str.Iter.{split_steps}
-use Rattle.std.specs.Str.Pattern.{FindsChar}
-use Rattle.std.proofs.lemmas.Iterator.{YieldsList}
-use Rattle.params.specs.Scope.{scope_mask}
+use Rattle.params.proofs.Names.{split_steps, FindsChar, YieldsList, scope_mask}
 use Rattle.params.proofs.Tokens.{scope_after}
 use Rattle.params.proofs.catalogue.Catalogue.scope_mask.Given as goal
 

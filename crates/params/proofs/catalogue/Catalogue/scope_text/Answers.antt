@@ -1,7 +1,5 @@
 use Rattle.std.proofs.Common.{◌≡◌, ◌+◌, ◌/◌, ◌<◌, ◌≤◌, ◌∙◌, sym, rules, arith, drop, map, string_bytes, length, subst}
-use Rattle.std.proofs.lemmas.List.{length-map}
-use Rattle.params.specs.Scope.{names_in_mask, scope_text, text_with_name}
-use Rattle.params.specs.ScopeLaws.{length-scope_text}
+use Rattle.params.proofs.Names.{length-map, names_in_mask, scope_text, text_with_name, length-scope_text}
 use Rattle.params.proofs.Taken.{next_mapped}
 use Rattle.params.proofs.Written.{text_after, text_after-odd, text_after-even, text_after-some, text_after-end, read_back}
 use Rattle.params.proofs.catalogue.Catalogue.scope_text.Goals.{then-left-eq1+in_ok-append_name, else-left-eq1}

@@ -1,6 +1,5 @@
 use Rattle.std.proofs.Common.{◌≡◌, rules, sym, true, false}
-use Rattle.std.specs.Prelude.{bytes_eq}
-use Rattle.std.specs.Cow.{cow_str_bytes}
+use Rattle.params.proofs.Names.{bytes_eq, cow_str_bytes}
 use Rattle.params.proofs.Taken.{next_mapped, value_at}
 use Rattle.params.proofs.params.Params.get.Goals as goal
 

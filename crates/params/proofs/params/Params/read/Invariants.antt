@@ -1,8 +1,7 @@
 use Rattle.std.proofs.Common.{◌≡◌, ◌++◌, ◌+◌, ◌≤◌, length, false}
-use Rattle.std.specs.List.{list_any}
+use Rattle.params.proofs.Names.{list_any, sent, pairs, is_damaged, texts_of}
 use Rattle.form_urlencoded.specs.Form.{raw_pairs}
 use Rattle.form_urlencoded.specs.Parse.{pairs_left}
-use Rattle.params.specs.Form.{sent, pairs, is_damaged, texts_of}
 use Rattle.params.proofs.params.Params.read.Given as goal
 
 abbrev pub invariant-loop-pair : goal.invariant-loop-pair
