@@ -1,6 +1,6 @@
 -- What is left of a right history under other rules is right under them, and the host came through it as it did.
 use Rattle.std.proofs.Common.{◌≡◌, ◌≤◌, ◌⊎◌, inl, inr, ℕ, List, [], ◌∷◌, ◌++◌, Bool, true, false, cond, Some, refl, ap, sym, subst, ◌∙◌, append_assoc, arith}
-use Rattle.std.specs.Prelude.{◌==◌, not, min, find, count_by, option_map, bit_and}
+use Rattle.std.specs.Prelude.{◌==◌, min, find, count_by, option_map, bit_and}
 use Rattle.std.specs.List.{cons_option}
 use Rattle.std.proofs.lemmas.Bool.{eqb-true, eq-eqb, and_from}
 use Rattle.std.proofs.lemmas.List.{map-append}
@@ -13,13 +13,13 @@ use Rattle.clients.specs.RegistryRecord.{RegistryRecord}
 use Rattle.consent.specs.CoveredLaws.{is_within-trans, is_within-self}
 use Rattle.consent.specs.ListLaws.{count_by-cons}
 use Rattle.consent.specs.History.{Event, Change, Grant, event_at, grant_of, grants, is_code, is_code_of, is_within, terms_of, IsHistory}
-use Rattle.consent.specs.History.Change.{Consented, CodeGiven, Issued, Spent, FamilyEnded, HookSet, HookGone}
+use Rattle.consent.specs.History.Change.{CodeGiven, Issued, FamilyEnded}
 use Rattle.consent.specs.Facts.{GivenCode}
 use Rattle.consent.specs.declared.change.NewToken.{NewToken}
 use Rattle.consent.specs.declared.parties.Parties.{Parties}
-use Rattle.endpoints.specs.Bounded.{IsRightChange, AllRight, IsOwn, IsOfCode, allowed_to, token_life_limit}
+use Rattle.endpoints.specs.Bounded.{IsRightChange, AllRight, IsOwn, IsOfCode, allowed_to}
 use Rattle.endpoints.specs.Hosts.{HostRun, HostStep}
-use Rattle.narrowing.specs.Left.{goes_beyond, do_go_beyond, is_beyond_rules, scope_under, left_of, left_event, left_under, KeepsClients, token_under}
+use Rattle.narrowing.specs.Left.{do_go_beyond, is_beyond_rules, scope_under, left_of, left_event, left_under, KeepsClients, token_under}
 use Rattle.narrowing.specs.LeftLaws.{left_events, consented_left, no_code_left, code_terms_left, ended_left}
 
 -- SCOPES AND LIVES
@@ -38,30 +38,18 @@ met_below scope mask =
     least : (m n : ℕ) → min (min m n) m ≡ min m n
     least m n = omega arith
 
-within_if : (b : Bool) → not b ≡ false → b ≡ true
-within_if true is = refl
-within_if false is = cc
-
-short_if : (b : Bool) (life limit : ℕ) → cond b 0 (min life limit) ≤ limit
-short_if true life limit = omega arith
-short_if false life limit = omega arith
-
 -- THE ONE THAT IS FOUND
 
 one_there : {X : Type 0} (p : X → Bool) (xs ys : List X) (x : X) → p x ≡ true → 1 ≤ count_by p (xs ++ x ∷ ys)
-one_there p [] ys x is = let c = count_by-cons p x ys in let one = ap (λ b. cond {A = ℕ} b 1 0) is in omega (arith, c, one)
+one_there p [] ys x is = let c = count_by-cons p x ys in grind (arith, c, is)
 one_there p (y ∷ xs) ys x is = let c = count_by-cons p y (xs ++ x ∷ ys) in let more = one_there p xs ys x is in omega (arith, c, more)
 
 find-only : {X : Type 0} (p : X → Bool) (xs ys : List X) (x : X) → p x ≡ true → count_by p (xs ++ x ∷ ys) ≤ 1 → find p (xs ++ x ∷ ys) ≡ Some x
 find-only p [] ys x is one = ap (λ b. cond b (Some x) (find p ys)) is
-find-only {X = X} p (y ∷ xs) ys x is one = only_step (p y) refl (find-only p xs ys x is)
-  where
-    only_step : (b : Bool) → p y ≡ b → (count_by p (xs ++ x ∷ ys) ≤ 1 → find p (xs ++ x ∷ ys) ≡ Some x) →
-        cond b (Some y) (find p (xs ++ x ∷ ys)) ≡ Some x
-    only_step true e more =
-        let c = count_by-cons p y (xs ++ x ∷ ys) in let first = ap (λ b. cond {A = ℕ} b 1 0) e in let there = one_there p xs ys x is in
-        absurd (omega (arith, c, first, there, one))
-    only_step false e more = let c = count_by-cons p y (xs ++ x ∷ ys) in more (omega (arith, c, one))
+find-only p (y ∷ xs) ys x is one =
+    let c = count_by-cons p y (xs ++ x ∷ ys) in
+    let there = one_there p xs ys x is in
+    let more = find-only p xs ys x is in grind (arith, c, there, more, one)
 
 -- RIGHT CHANGES
 
@@ -81,7 +69,7 @@ module _ (old new : RegistryRecord) (clients : KeepsClients old new) (history : 
       let here = and_from (is_code g.kind) (g.family == g.family) code (eq-eqb g.family g.family refl) in
       let one = subst (λ (gs : List Grant). count_by (is_code_of g.family) gs ≤ 1) are (one_code g.family) in
       let found = ap (find (is_code_of g.family)) are ∙ find-only (is_code_of g.family) (grants before) (grants later) g here one in
-      within_if (is_within g.scope (allowed_to new g.client)) (sym (ap (λ o. do_go_beyond new (option_map terms_of o)) found) ∙ stays)
+      let within = sym (ap (λ o. do_go_beyond new (option_map terms_of o)) found) ∙ stays in grind (arith, within)
 
   abbrev IsHome : List Event → ℕ → ℕ → ℕ → ℕ → Type 0
   IsHome before family client owner scope = IsOwn before family owner ⊎ IsOfCode before family client owner scope
@@ -108,7 +96,7 @@ module _ (old new : RegistryRecord) (clients : KeepsClients old new) (history : 
   right_token true before f parties token is right = tt
   right_token false before f parties token is right = (
     record { is_client = clients parties.client right.0.is_client; within = met_within token.scope (allowed_to new parties.client) },
-    short_if (goes_beyond new parties.client token.scope) token.life (token_life_limit new token.kind),
+    grind arith,
     home_left before f parties.client parties.owner token.scope (scope_under new parties.client token.scope) is (met_below token.scope (allowed_to new parties.client)) right.2,
   )
 
@@ -122,11 +110,7 @@ module _ (old new : RegistryRecord) (clients : KeepsClients old new) (history : 
           right_code (beyond f) before f code digest refl
           (code_within before later (event_at moment (CodeGiven f code digest)) _ whole refl refl) right
       by moment (Issued f parties token) whole right = right_token (beyond f) before f parties token refl right
-      by moment (Consented o c mask) whole right = tt
-      by moment (Spent digest) whole right = tt
-      by moment (FamilyEnded family) whole right = tt
-      by moment (HookSet name version code) whole right = tt
-      by moment (HookGone name) whole right = tt
+      by moment _ whole right = tt
 
   all_left : (before later : List Event) → history ≡ before ++ later → AllRight old before later → AllRight new (left before) (left later)
   all_left before [] whole all = tt
@@ -153,11 +137,7 @@ module _ {H : Type 0} (hosting : Hosting H) (rules : RegistryRecord) (beyond : �
       gone_step (beyond f) f (CodeGiven f code digest) old now step step
   host_step (Issued f parties token) old now step =
       gone_step (beyond f) f (Issued f parties (token_under rules parties.client token)) old now step step
-  host_step (Consented o c mask) old now step = step
-  host_step (Spent digest) old now step = step
-  host_step (FamilyEnded family) old now step = step
-  host_step (HookSet name version code) old now step = step
-  host_step (HookGone name) old now step = step
+  host_step _ old now step = step
 
   -- it came through what is left
   pub host_run-left : (es : List Event) (first now : H) → HostRun hosting first es now → HostRun hosting first (left_events rules beyond es) now

@@ -35,16 +35,13 @@ loop-place-preserved c =
       }
     ]
 
-pub returns-clause-exact : goal.returns-clause-exact
-returns-clause-exact c =
+pub returns : goal.returns
+returns c =
     let items = c.loop-place.left.items in
     let past : length items ≤ c.loop-place.place = omega (arith, c.loop-place-test.false, c.loop-place.invariant.length) in
-    ap as_kept c.truncate.ensures.items ∙ sym (all_left c.args.rules.now c.args.moment items c.loop-place.count c.loop-place.place past) ∙ c.loop-place.invariant.left
-
-pub returns-clause-fits : goal.returns-clause-fits
-returns-clause-fits c = λ history fits.
-    let items = c.loop-place.left.items in
-    let past : length items ≤ c.loop-place.place = omega (arith, c.loop-place-test.false, c.loop-place.invariant.length) in
-    subst (λ (ks : List Kept). FitsHistory ks (left_under c.args.rules.now history) c.args.moment)
-    (sym (ap as_kept c.truncate.ensures.items ∙ sym (all_left c.args.rules.now c.args.moment items c.loop-place.count c.loop-place.place past) ∙ c.loop-place.invariant.left))
-    (fits_history-left c.args.rules.now (as_kept c.args.records.items) history c.args.moment fits)
+    let exact = ap as_kept c.truncate.ensures.items ∙ sym (all_left c.args.rules.now c.args.moment items c.loop-place.count c.loop-place.place past) ∙ c.loop-place.invariant.left in
+    record {
+      exact = exact;
+      fits = λ history fits. subst (λ (ks : List Kept). FitsHistory ks (left_under c.args.rules.now history) c.args.moment) (sym exact)
+          (fits_history-left c.args.rules.now (as_kept c.args.records.items) history c.args.moment fits);
+    }
