@@ -1,19 +1,8 @@
 -- A call at one place.
 use Rattle.std.proofs.Common.{◌≡◌, ◌≢◌, inl, inr, ℕ, Some, refl, sym, ap, subst, ◌∙◌, arith, true, false, slice_get, slice_set}
-use Rattle.event_loop.specs.declared.place.Place.{Place}
-use Rattle.event_loop.specs.Places.{IsOccupied, MayRead, MayWrite, read_limit}
-use Rattle.event_loop.specs.Closing.{AreWithin}
-use Rattle.std.proofs.lemmas.Option.{same_Some}
-use Rattle.http_edge.specs.Schedule.{connection_at}
-use Rattle.event_loop.specs.Progress.{Progress, known, led}
-use Rattle.event_loop.specs.LoopStates.{Promises, LoopState, IsAllKept, with_call, with_place}
-use Rattle.event_loop.specs.declared.place.Stage.TheVariants.{Ended, Broken}
-use Rattle.event_loop.specs.Calls.{CallKind, IsDone, Transfer, Reading, Writing}
-use Rattle.event_loop.specs.Served.{Served, goes}
-use Rattle.event_loop.specs.Goes.{Running, Standing, Past, Duty, DoneAfter, ActsAt, IsReadyFor, state_of, to_read, to_write}
-use Rattle.event_loop.specs.Reading.{ReadsPlace}
-use Rattle.event_loop.specs.Writing.{WritesPlace, offered}
-use Rattle.event_loop.specs.declared.fault.ConnectionFault.TheVariants.{Read, Write, Refused}
+use Rattle.event_loop.proofs.Names.{Place, IsOccupied, MayRead, MayWrite, read_limit, AreWithin, same_Some, connection_at, Progress, known, led, Promises, LoopState, IsAllKept, with_call, with_place}
+use Rattle.event_loop.proofs.Names.{Ended, Broken, CallKind, IsDone, Transfer, Reading, Writing, Served, goes, Running, Standing, Past, Duty, DoneAfter, ActsAt, IsReadyFor, state_of, to_read}
+use Rattle.event_loop.proofs.Names.{to_write, ReadsPlace, WritesPlace, offered, Read, Write, Refused}
 use Rattle.event_loop.specs.Calls as call
 use Rattle.event_loop.specs.Reading as reading
 use Rattle.event_loop.specs.Writing as writing

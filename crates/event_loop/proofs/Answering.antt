@@ -1,23 +1,9 @@
 -- Whatever steps lead to, what was written answers what was read.
 use Rattle.std.proofs.Common.{◌≡◌, ◌≢◌, inl, inr, ℕ, List, [], ◌∷◌, ◌++◌, false, Some, length, append_assoc, refl, sym, ap, subst, ◌∙◌, slice_get, slice_set}
-use Rattle.event_loop.specs.declared.place.Place.{Place}
-use Rattle.event_loop.specs.Places.{IsOccupied, IsInService, IsFreeAt, MayRead, read_limit}
-use Rattle.event_loop.specs.Closing.{Closes, leaves}
-use Rattle.std.proofs.lemmas.Bool.Decides.{eqb_tells}
-use Rattle.http_edge.specs.Schedule.{connection_at, piece_of, untaken}
-use Rattle.http_edge.specs.Reached.{is_closing}
-use Rattle.event_loop.specs.Progress.{Progress, known, IsReached}
-use Rattle.event_loop.specs.Giving.{GivesPieces}
-use Rattle.std.proofs.lemmas.Bool.{false≢true}
-use Rattle.http_edge.proofs.Connections.{no_other}
-use Rattle.event_loop.specs.LoopStates.{Promises, LoopState, with_call, with_place}
-use Rattle.event_loop.specs.declared.place.Stage.TheVariants.{Free, Open, Ended, Broken}
-use Rattle.event_loop.specs.Calls.{Call}
-use Rattle.event_loop.specs.Coming.{opens, denies, finds_nobody, asks, fresh_place, fails}
-use Rattle.event_loop.specs.Served.{LoopStep, Served, hears_of_listener, hears_of, hears_of_none, comes, tries_again, reads, writes, closes, reports, keeps, puts_image, no_image, begins, goes, waits}
-use Rattle.event_loop.specs.Reading.{ReadsPlace}
-use Rattle.event_loop.specs.Writing.{WritesPlace}
-use Rattle.event_loop.specs.declared.fault.ConnectionFault.TheVariants.{Read, Write, Refused}
+use Rattle.event_loop.proofs.Names.{Place, IsOccupied, IsInService, IsFreeAt, MayRead, read_limit, Closes, leaves, eqb_tells, connection_at, piece_of, untaken, is_closing, Progress, known, IsReached}
+use Rattle.event_loop.proofs.Names.{GivesPieces, false≢true, no_other, Promises, LoopState, with_call, with_place, Free, Open, Ended, Broken, Call, opens, denies, fresh_place, LoopStep, Served}
+use Rattle.event_loop.proofs.Names.{hears_of, comes, reads, writes, closes, keeps, begins, goes, ReadsPlace, WritesPlace, Read, Write, Refused}
+use Rattle.event_loop.specs.Coming.{fails}
 use Rattle.event_loop.specs.declared.place.Stage.{Stage}
 use Rattle.event_loop.specs.declared.sockets.Accepted.TheVariants as accepted
 use Rattle.event_loop.specs.Calls as call
@@ -32,9 +18,7 @@ use Rattle.event_loop.proofs.Telling.{Talk, talk_opened, talk_lost, talk_given, 
 -- one that is served is there
 pub served_taken : (stage : Stage) → IsInService stage → IsOccupied stage
 served_taken Free is = absurd is
-served_taken Open is = tt
-served_taken Ended is = tt
-served_taken (Broken fault) is = tt
+served_taken stage is = tt
 
 -- where a place is free, no connection is there
 not_free : (places : List Place) (k : ℕ) (place : Place) → IsFreeAt places k → slice_get places k ≡ Some place → IsOccupied place.stage → ⊥
@@ -185,12 +169,9 @@ module _ {N C J K H : Type 0} where
     }
 
     step_answered : (s' : LoopState N C J K H) → LoopStep p s s' → IsAllAnswered p s'
-    step_answered s' (waits limit room found n times c keeper may done told kept) = idles _ refl refl (λ k. refl) (λ k. refl)
-    step_answered s' (hears_of_listener more is) = idles _ refl refl (λ k. refl) (λ k. refl)
     step_answered s' (hears_of j readable writable hung more place place' is here told) =
         let same : place'.stage ≡ place.stage = ap (λ (q : Place). q.stage) told in
         notes_place _ j place place' here refl refl (λ t. subst IsOccupied same t) (λ e. sym same ∙ e) (λ k. refl) (λ k. refl)
-    step_answered s' (hears_of_none j readable writable hung more is none) = idles _ refl refl (λ k. refl) (λ k. refl)
     step_answered s' (comes s'' told (opens j n e on within free done)) = record {
       reached = on.reached;
       exchanges =
@@ -205,21 +186,15 @@ module _ {N C J K H : Type 0} where
         | inr is ↦ stays_same s _ k place place (before.exchanges k place here taken) refl (came_other j k s.calls is.1).0 (came_other j k s.calls is.1).1 (λ e. e)
       ];
     }
-    step_answered s' (comes s'' told (finds_nobody j n done)) = idles _ refl refl (λ k. refl) (λ k. refl)
-    step_answered s' (comes s'' told (fails j n noted done noting)) = idles _ refl refl (λ k. refl) (λ k. refl)
-    step_answered s' (comes s'' told (asks n taken done)) = idles _ refl refl (λ k. refl) (λ k. refl)
-    step_answered s' (tries_again since barred later) = idles _ refl refl (λ k. refl) (λ k. refl)
     step_answered s' (reads j place s'' here readable unread may reading) = reads_answered j place s'' here may reading
     step_answered s' (writes j place s'' here writable unwritten kept may writing) = writes_answered j place s'' here (served_taken place.stage may.served) writing
     step_answered s' (closes j place s'' here taken cause closing) = closes_answered j place s'' closing
-    step_answered s' (reports notice told journal due done) = idles _ refl refl (λ k. refl) (λ k. refl)
-    step_answered s' (puts_image keeper all kept basis short) = idles _ refl refl (λ k. refl) (λ k. refl)
-    step_answered s' (no_image journal all long ago told) = idles _ refl refl (λ k. refl) (λ k. refl)
     step_answered s' (keeps keeper e unkept on undone kept basis) = record {
       reached = on.reached;
       exchanges = λ k place here taken.
           stays_same s _ k place place (before.exchanges k place here taken) (ap (λ ks. connection_at ks k) (kept_connections s.progress.journey.world on.world on.happens)) refl refl (λ e. e);
     }
+    step_answered s' step = idles _ refl refl (λ k. refl) (λ k. refl)
 
   -- so it is wherever steps lead to
   pub served_answered : (p : Promises N C J K H) (first s : LoopState N C J K H) → Served p first s → IsAllAnswered p s

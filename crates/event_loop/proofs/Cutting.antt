@@ -1,14 +1,8 @@
 -- Bytes given in cuts.
 use Rattle.std.proofs.Common.{◌≡◌, ◌≤◌, ◌+◌, ◌-◌, ℕ, List, [], ◌∷◌, ◌++◌, false, None, length, take, drop, append_assoc, append-nil, refl, sym, ap, ◌∙◌, inl, arith, take-append-drop, length-take, take-add}
-use Rattle.http_edge.specs.Schedule.{Piece, Came, connection_at}
-use Rattle.http_edge.specs.Edges.{SeenEdge}
-use Rattle.http_edge.specs.Reached.{Journey, Reached, is_closing, led_on}
-use Rattle.http_edge.specs.Pieces.{PieceGiven, RefusesPiece, supplied}
-use Rattle.event_loop.specs.Progress.{Progress}
-use Rattle.event_loop.specs.Giving.{GivesPieces, nothing, gives, cut_limit, AreBytesHeard, IsUnheard}
+use Rattle.event_loop.proofs.Names.{Piece, Came, connection_at, SeenEdge, Journey, Reached, is_closing, led_on, PieceGiven, RefusesPiece, supplied, Progress, GivesPieces, nothing, gives, cut_limit}
+use Rattle.event_loop.proofs.Names.{AreBytesHeard, IsUnheard, GivesOn, Hosting}
 use Rattle.rand_chacha.specs.ChaCha.{ChaCha}
-use Rattle.event_loop.specs.GivingParts.{GivesOn}
-use Rattle.hook_host.specs.declared.host.HookHost.{Ghosts as Hosting}
 use Rattle.http_edge.specs.declared.fault.EdgeFault.{EdgeFault}
 use Rattle.http_edge.specs.declared.fault.EdgeFault.TheVariants.{TooManyRequests}
 use Rattle.http_edge.specs.Sources.{draws_for}

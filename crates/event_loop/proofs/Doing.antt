@@ -1,12 +1,8 @@
 -- Calls that were done after others.
 use Rattle.std.proofs.Common.{suc, ◌≡◌, ◌≢◌, ◌⊎◌, inl, inr, ◌<◌, ℕ, List, Some, refl, sym, ◌∙◌, arith, [], ◌∷◌}
-use Rattle.event_loop.specs.declared.place.Place.{Place}
-use Rattle.event_loop.specs.Closing.{Closes, leaves}
-use Rattle.std.proofs.lemmas.Option.{same_Some}
-use Rattle.event_loop.specs.LoopStates.{Promises, LoopState}
-use Rattle.event_loop.specs.Calls.{Call, CallKind, Keeping, IsDone, done_since, waits}
-use Rattle.event_loop.specs.Served.{Served}
-use Rattle.event_loop.specs.Goes.{DoneAfter, LeadsOn, Running, Standing, standing, state_of}
+use Rattle.event_loop.proofs.Names.{Place, Closes, leaves, same_Some, Promises, LoopState, Call, CallKind, Keeping, IsDone, done_since, Served, DoneAfter, LeadsOn, Running, Standing, standing}
+use Rattle.event_loop.proofs.Names.{state_of}
+use Rattle.event_loop.specs.Calls.{waits}
 use Rattle.event_loop.specs.Calls as call
 
 -- nothing
@@ -29,14 +25,9 @@ not_another kind other calls differs not (inr is) = not is
 pub done_some : (kind : CallKind) (calls : List Call) → Keeping ≢ kind → IsDone kind calls → 0 < done_since calls
 done_some kind [] differs t = absurd t
 done_some kind (call.Waited limit room found ∷ earlier) differs t = absurd t
-done_some kind (call.Asked ∷ earlier) differs t = omega arith
-done_some kind (call.WaitFailed limit room ∷ earlier) differs t = omega arith
-done_some kind (call.Tried j came ∷ earlier) differs t = omega arith
-done_some kind (call.Read j room came ∷ earlier) differs t = omega arith
-done_some kind (call.Wrote j room took ∷ earlier) differs t = omega arith
-done_some kind (call.Closed j ∷ earlier) differs t = omega arith
 done_some kind (call.Kept ∷ earlier) differs (inl is) = absurd (differs (same_Some Keeping kind is))
 done_some kind (call.Kept ∷ earlier) differs (inr t) = done_some kind earlier differs t
+done_some kind calls differs t = omega arith
 
 module _ {N C J K H : Type 0} (p : Promises N C J K H) where
   -- a close is one more

@@ -1,31 +1,12 @@
 -- Each crash leaves what stands for what was kept at some state.
 use Rattle.std.proofs.Common.{◌≡◌, ◌≢◌, ◌⊎◌, inl, inr, ℕ, suc, List, [], ◌∷◌, Option, Some, length, refl, sym, ap, subst, ◌∙◌, arith}
-use Rattle.consent.specs.History.{Event}
-use Rattle.change_codec.specs.Keeping.{IsFrontOf, Holds, Keeps, KeepsBasis, Leaves, TellsBasis}
-use Rattle.event_loop.specs.declared.place.Place.{Place}
-use Rattle.event_loop.specs.Closing.{Closes, leaves}
-use Rattle.std.proofs.lemmas.Option.{same_Some}
-use Rattle.std.proofs.lemmas.Bool.Decides.{leb_tells}
-use Rattle.http_edge.specs.Schedule.{World, IsServerStill, moment_after, PieceComes, PiecePasses, TakesOutput, TakesNothing, AnsweredPiece, Piece, piece_of}
-use Rattle.http_edge.specs.Reached.{Journey}
-use Rattle.event_loop.specs.Progress.{Progress, IsReached, led}
-use Rattle.event_loop.specs.Giving.{GivesPieces, nothing, gives}
-use Rattle.heads.specs.Message.{Message}
-use Rattle.endpoints.specs.Server.{Outset}
-use Rattle.event_loop.specs.LoopStates.{Promises, LoopState, IsAllKept, IsUnkept, with_call}
-use Rattle.event_loop.specs.declared.sockets.Ready.{Ready}
-use Rattle.event_loop.specs.Calls.{Call, Transfer, Wrote, waits as waits_done}
-use Rattle.event_loop.specs.Coming.{opens, denies, finds_nobody, asks, fails}
-use Rattle.event_loop.specs.Served.{LoopStep, Served, Shuts, TellsLast, tells_nothing, hears_of_listener, hears_of, hears_of_none, comes, tries_again, reads, writes, closes, reports, keeps, puts_image, no_image, begins, goes, stops, shuts, reports_last, waits}
-use Rattle.event_loop.specs.declared.fault.LoopFault.{LoopFault}
-use Rattle.event_loop.specs.Durable.{Carries, Onward, stays, onward, KeeperHolds, StandsBetween, IsWriteKept, MomentIsHeld}
-use Rattle.event_loop.specs.Ends.{CannotGoOn, no_wait, no_time, no_moment, not_kept, not_imaged, no_more}
-use Rattle.event_loop.specs.declared.queue.Queue.{Queue}
-use Rattle.event_loop.specs.declared.report.LastTold.{LastTold}
-use Rattle.event_loop.specs.Noting.{Noted}
-use Rattle.event_loop.specs.Reading.{ReadsPlace}
-use Rattle.event_loop.specs.Writing.{WritesPlace}
-use Rattle.hook_host.specs.declared.host.HookHost.{Ghosts as Hosting}
+use Rattle.event_loop.proofs.Names.{Event, IsFrontOf, Holds, Keeps, KeepsBasis, Leaves, TellsBasis, Place, Closes, leaves, same_Some, World, IsServerStill, moment_after, PieceComes, PiecePasses}
+use Rattle.event_loop.proofs.Names.{TakesOutput, TakesNothing, AnsweredPiece, Piece, piece_of, Journey, Progress, IsReached, led, GivesPieces, nothing, gives, Message, Outset, Promises, LoopState}
+use Rattle.event_loop.proofs.Names.{IsAllKept, IsUnkept, with_call, Ready, Call, Transfer, Wrote, waits_done, opens, denies, finds_nobody, asks, LoopStep, Served, Shuts, TellsLast, tells_nothing}
+use Rattle.event_loop.proofs.Names.{comes, reads, writes, closes, keeps, puts_image, begins, goes, stops, shuts, reports_last, LoopFault, Carries, Onward, stays, onward, KeeperHolds, StandsBetween}
+use Rattle.event_loop.proofs.Names.{IsWriteKept, MomentIsHeld, CannotGoOn, no_wait, no_time, no_moment, not_kept, not_imaged, no_more, Queue, LastTold, Noted, ReadsPlace, WritesPlace, Hosting}
+use Rattle.event_loop.specs.Coming.{fails}
+use Rattle.event_loop.specs.Served.{waits}
 use Rattle.event_loop.specs.Done as deed
 use Rattle.event_loop.specs.Done.{HaveDone}
 use Rattle.event_loop.specs.Reading as reading
@@ -56,32 +37,20 @@ grows_then : (m : ℕ) (a b c : World) → Grows m a b → Grows m b c → Grows
 grows_then m a b c one two = record {
   kept = two.kept ∙ one.kept;
   front = front_then a.history b.history c.history one.front two.front;
-  greatest = elim two.greatest [
-    | inr now ↦ inr now
-    | inl same ↦ elim one.greatest [
-      | inl before ↦ inl (same ∙ before)
-      | inr now ↦ inr (same ∙ now)
-    ]
-  ];
+  greatest = grind (arith, one.greatest, two.greatest);
 }
 
 -- only requests move the greatest moment
 moved_to : (greatest m : ℕ) (messages : List Message) → (moment_after greatest m messages ≡ greatest) ⊎ (moment_after greatest m messages ≡ m)
 moved_to greatest m [] = inl refl
-moved_to greatest m (message ∷ messages) = elim (leb_tells greatest m) [
-  | inl le ↦ (let within = le.1 in inr (omega (arith, within)))
-  | inr gt ↦ (let over = gt.1 in inl (omega (arith, over)))
-]
+moved_to greatest m (message ∷ messages) = grind arith
 
 came_grows : {H : Type 0} (hosting : Hosting H) (outset : Outset H) (old new : World) (came : AnsweredPiece) →
     PieceComes hosting outset old came new ⊎ PiecePasses old came new → Grows came.piece.moment old new
 came_grows hosting outset old new came (inl answers) = record {
   kept = answers.kept;
   front = (_, answers.history);
-  greatest = elim (moved_to old.greatest came.piece.moment answers.messages) [
-    | inl same ↦ inl (answers.greatest ∙ same)
-    | inr now ↦ inr (answers.greatest ∙ now)
-  ];
+  greatest = (let moved = moved_to old.greatest came.piece.moment answers.messages in grind (arith, moved, answers.greatest));
 }
 came_grows hosting outset old new came (inr passes) = grows_not came.piece.moment old new passes.same
 
@@ -185,9 +154,6 @@ module _ {N C J K H : Type 0} (p : Promises N C J K H) where
     did = λ first before. deed.did _ n before done;
     kept = λ k r took is. absurd (cc);
   }
-  step_does s s' (hears_of_listener more is) = quiet s
-  step_does s s' (hears_of j readable writable hung more place place' is here told) = quiet s
-  step_does s s' (hears_of_none j readable writable hung more is none) = quiet s
   step_does s s' (comes s'' told (opens j n e on within free done)) = calls_on s _ n (led s.progress on) done refl (λ k room took is. absurd (cc)) refl (grows_still s.times.moment s.progress.journey.world on.world on.happens.still)
   step_does s s' (comes s'' told (denies j n n' fault noted within free done refused closed noting)) = record {
     moves = goes_on (refl, (refl, refl), refl) (grows_not s.times.moment _ _ refl);
@@ -197,22 +163,20 @@ module _ {N C J K H : Type 0} (p : Promises N C J K H) where
   step_does s s' (comes s'' told (finds_nobody j n done)) = calls_on s _ n s.progress done refl (λ k room took is. absurd (cc)) refl (grows_not s.times.moment _ _ refl)
   step_does s s' (comes s'' told (fails j n noted done noting)) = calls_on s _ n s.progress done refl (λ k room took is. absurd (cc)) refl (grows_not s.times.moment _ _ refl)
   step_does s s' (comes s'' told (asks n taken done)) = calls_on s _ n s.progress done refl (λ k room took is. absurd (cc)) refl (grows_not s.times.moment _ _ refl)
-  step_does s s' (tries_again since barred later) = quiet s
   step_does s s' (reads j place s'' here readable unread may reading) = reads_does j place s s'' reading
   step_does s s' (writes j place s'' here writable unwritten all may writing) = writes_does j place s s'' all writing
   step_does s s' (closes j place s'' here taken cause closing) = closes_does j place s s'' closing
-  step_does s s' (reports notice told journal due done) = quiet s
   step_does s s' (puts_image keeper all kept basis short) = record {
     moves = keeps_still (λ last is. subst (λ (h : List Event). Keeps p.keeping.crashes h h s.keeper keeper) (sym (all last is)) kept) refl basis (inl (refl, refl));
     did = λ first before. before;
     kept = λ k room took is. absurd (not_longer s.calls _ is);
   }
-  step_does s s' (no_image journal all long ago told) = quiet s
   step_does s s' (keeps keeper e unkept on undone kept basis) = record {
     moves = keeps_all unkept kept (kept_last s.progress.journey.world on.world on.happens) (kept_history s.progress.journey.world on.world on.happens) basis ((refl, refl), ap (λ (w : World). w.greatest) on.happens.kept, refl);
     did = λ first before. deed.kept before;
     kept = λ k room took is. absurd (cc);
   }
+  step_does s s' step = quiet s
 
   pub step_moves : (s s' : LoopState N C J K H) → LoopStep p s s' → Moves p s s'
   step_moves s s' step = (step_does s s' step).moves
@@ -352,9 +316,6 @@ module _ {N C J K H : Type 0} (p : Promises N C J K H) where
     -- where something failed then, it may also leave all that had happened
     fails_leave : (last failed : LoopState N C J K H) (fault : LoopFault) → Onward p s last → CannotGoOn p last fault failed →
         Leaves p.keeping.crashes s.keeper failed.keeper (λ c. StandsBetween p s before last c ⊎ p.keeping.crashes.stands_for c last.progress.journey.world.history)
-    fails_leave last failed fault on (no_wait limit room n may done) = leaves_same p.keeping.crashes s.keeper last.keeper last.keeper _ _ (leaves_between last on) refl (λ c. inl)
-    fails_leave last failed fault on (no_time limit room found n c may done told) = leaves_same p.keeping.crashes s.keeper last.keeper last.keeper _ _ (leaves_between last on) refl (λ c. inl)
-    fails_leave last failed fault on (no_more many) = leaves_same p.keeping.crashes s.keeper last.keeper last.keeper _ _ (leaves_between last on) refl (λ c. inl)
     fails_leave last failed fault on (no_moment limit room found n times c keeper may done told lost basis) =
         let now = (onward_carries first s last served on).kept before is in
         leaves_either p.keeping.crashes s.keeper last.keeper keeper now.0 now.0 _ _ (leaves_between last on) ((lost now.0).meanwhile (held_at last on now.0 now.1))
@@ -366,6 +327,7 @@ module _ {N C J K H : Type 0} (p : Promises N C J K H) where
         let now = (onward_carries first s last served on).kept before is in
         let held : Holds p.keeping.crashes last.keeper last.progress.journey.world.history = subst (λ (h : List Event). Holds p.keeping.crashes last.keeper h) (all now.0 now.1) (held_at last on now.0 now.1) in
         leaves_either p.keeping.crashes s.keeper last.keeper keeper last.progress.journey.world.history last.progress.journey.world.history _ _ (leaves_between last on) (lost.meanwhile held) (λ c. inr) (λ c. inr) (λ c. inl)
+    fails_leave last failed fault on failing = leaves_same p.keeping.crashes s.keeper last.keeper last.keeper _ _ (leaves_between last on) refl (λ c. inl)
 
     -- and so it does up to the end
     pub leaves_to_end : (last failed emptied end : LoopState N C J K H) (fault : LoopFault) → Onward p s last → CannotGoOn p last fault failed → Shuts p failed emptied → TellsLast p emptied end →

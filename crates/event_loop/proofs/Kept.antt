@@ -1,12 +1,6 @@
 -- What is kept of what happens.
 use Rattle.std.proofs.Common.{◌≡◌, ◌≢◌, ◌⊎◌, inl, inr, ◌+◌, ℕ, List, [], ◌∷◌, Some, None, Option, length, refl, sym, ap, subst, ◌∙◌, arith, ◌↔◌, Bool, false, IsTrue, length-append}
-use Rattle.consent.specs.History.{Event, event_at, with_change}
-use Rattle.change_codec.specs.Keeping.{IsFrontOf}
-use Rattle.std.proofs.lemmas.Option.{same_Some}
-use Rattle.http_edge.specs.Schedule.{World, KeepsHistory, TakesOutput, TakesNothing}
-use Rattle.std.proofs.lemmas.Bool.{false≢true}
-use Rattle.endpoints.specs.Server.{AreUnkept}
-use Rattle.event_loop.specs.LoopStates.{IsAllKept, IsUnkept}
+use Rattle.event_loop.proofs.Names.{Event, event_at, with_change, IsFrontOf, same_Some, World, KeepsHistory, TakesOutput, TakesNothing, false≢true, AreUnkept, IsAllKept, IsUnkept}
 use Rattle.change_codec.specs.Spelling.{DatedFact}
 use Rattle.change_codec.specs.Happened.{Happened}
 use Rattle.change_codec.specs.HappenedLaws.{Happened-front}
@@ -15,11 +9,9 @@ use Rattle.change_codec.specs.HappenedLaws.{Happened-front}
 
 -- what was kept is a front of what happened
 pub front_noted : (unkept : Option (List DatedFact)) (o : Option (List Event)) (history : List Event) → AreUnkept unkept o history → (kept : List Event) → o ≡ Some kept → IsFrontOf kept history
-front_noted None None history noted kept is = absurd (cc)
-front_noted None (Some before) history noted kept is = absurd noted
-front_noted (Some facts) None history noted kept is = absurd noted
 front_noted (Some facts) (Some before) history noted kept is =
     subst (λ front. IsFrontOf front history) (same_Some before kept is) (Happened-front before history facts noted)
+front_noted unkept o history noted kept is = absurd (grind (arith, noted, is))
 
 -- where something happened, the history is longer
 happened_more : (before after : List Event) (facts : List DatedFact) → facts ≢ [] → Happened before facts after → before ≢ after
@@ -33,14 +25,10 @@ happened_more before after (d ∷ ds) some happened same =
 
 -- nothing is noted at all, or nothing more
 pub none_unkept : (o : Option (List Event)) (history : List Event) → AreUnkept None o history → (kept : List Event) → o ≡ Some kept → kept ≡ history
-none_unkept None history noted kept is = absurd (cc)
-none_unkept (Some before) history noted kept is = absurd noted
+none_unkept o history noted kept is = grind (arith, noted, is)
 
 pub nothing_unkept : (facts : List DatedFact) (o : Option (List Event)) (history : List Event) → facts ≡ [] → AreUnkept (Some facts) o history → (kept : List Event) → o ≡ Some kept → kept ≡ history
-nothing_unkept facts None history none noted kept is = absurd noted
-nothing_unkept facts (Some before) history none noted kept is =
-    let all : history ≡ before = subst (λ ds. Happened before ds history) none noted in
-    sym (same_Some before kept is) ∙ sym all
+nothing_unkept facts o history none noted kept is = grind (arith, none, noted, is)
 
 -- or something is, which leads on from what was kept last
 noted_from : (facts : List DatedFact) (o : Option (List Event)) (history : List Event) → AreUnkept (Some facts) o history → (kept : List Event) × (o ≡ Some kept) × Happened kept facts history

@@ -1,7 +1,6 @@
 -- What crashes leave, one keeper after another.
 use Rattle.std.proofs.Common.{◌≡◌, ◌⊎◌, inl, inr, ◌≤◌, ℕ, List, sym, subst, arith}
-use Rattle.consent.specs.History.{Event}
-use Rattle.change_codec.specs.Keeping.{Crashes, Basis, HoldsBasis, KeepsBasis, Leaves, LeavesEither, TellsBasis}
+use Rattle.event_loop.proofs.Names.{Event, Crashes, Basis, HoldsBasis, KeepsBasis, Leaves, LeavesEither, TellsBasis}
 
 module _ {K : Type 0} (crashes : Crashes K) where
   -- what one at some moment from the one keeper's on leaves: what one before the other's left, or what is so

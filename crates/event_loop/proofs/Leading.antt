@@ -1,18 +1,8 @@
 -- Parts of the loop, one after another.
 use Rattle.std.proofs.Common.{◌≡◌, ◌≢◌, inl, inr, ◌<◌, ◌≤◌, ◌+◌, ℕ, suc, List, true, false, Some, sym, subst, arith, ◌⊎◌, ◌∙◌, slice_get}
-use Rattle.event_loop.specs.declared.place.Place.{Place}
-use Rattle.event_loop.specs.Places.{NeedsNoRead, NeedsNoWrite}
-use Rattle.event_loop.specs.Closing.{Closes, leaves}
-use Rattle.std.proofs.lemmas.Bool.Decides.{eqb_tells}
-use Rattle.http_edge.specs.Schedule.{World}
-use Rattle.event_loop.specs.Progress.{known, IsReached}
-use Rattle.event_loop.specs.LoopStates.{Promises, LoopState, IsAllKept}
-use Rattle.event_loop.specs.declared.service.Service.{Service}
-use Rattle.event_loop.specs.declared.sockets.Ready.{Ready}
-use Rattle.event_loop.specs.declared.tools.Tools.{Tools}
-use Rattle.event_loop.specs.Calls.{Reading, Writing, IsDone, done_since}
-use Rattle.event_loop.specs.Served.{Served}
-use Rattle.event_loop.specs.Goes.{Past, LeavesOthers, HoldsAt, LeadsToActs, LeadsToTidy, LeadsToSettled, LeadsToAccepts, GoesReading, GoesKept, GoesWriting, LeadsToKept, LeadsWriting, StaysIdle, ActsAt, SettlesAt, TidiesAt, IsHeardAt, IsRestedAt, IsRested, IsSettledAt, running, standing, state_of, to_write}
+use Rattle.event_loop.proofs.Names.{Place, NeedsNoRead, NeedsNoWrite, Closes, leaves, eqb_tells, World, known, IsReached, Promises, LoopState, IsAllKept, Service, Ready, Tools, Reading, Writing}
+use Rattle.event_loop.proofs.Names.{IsDone, done_since, Served, Past, LeavesOthers, HoldsAt, LeadsToActs, LeadsToTidy, LeadsToSettled, LeadsToAccepts, GoesReading, GoesKept, GoesWriting, LeadsToKept}
+use Rattle.event_loop.proofs.Names.{LeadsWriting, StaysIdle, ActsAt, SettlesAt, TidiesAt, IsHeardAt, IsRestedAt, IsRested, IsSettledAt, running, standing, state_of, to_write}
 use Rattle.std.specs.Prelude.{⊤}
 use Rattle.event_loop.proofs.Others.{forgets_other}
 use Rattle.event_loop.proofs.Doing.{none_more, done_then, done_some, on_then}

@@ -1,19 +1,8 @@
 -- A connection is closed in the progress of the loop.
 use Rattle.std.proofs.Common.{◌≡◌, ◌≢◌, ◌⊎◌, inl, inr, ◌<◌, ◌≤◌, ℕ, List, Option, Some, [], length, refl, sym, ap, subst, ◌∙◌, arith, slice_get, slice_set}
-use Rattle.event_loop.specs.declared.place.Place.{Place}
-use Rattle.event_loop.specs.Places.{IsOccupied}
-use Rattle.event_loop.specs.Closing.{AreWithin, Cause}
-use Rattle.std.proofs.lemmas.Option.{slice_get_within}
-use Rattle.event_loop.specs.LoopStates.{Promises, LoopState}
-use Rattle.event_loop.specs.declared.place.Stage.TheVariants.{Free}
-use Rattle.event_loop.specs.declared.service.Service.{Service}
-use Rattle.event_loop.specs.declared.sockets.Ready.{Ready}
-use Rattle.event_loop.specs.declared.tools.Tools.{Tools}
-use Rattle.event_loop.specs.Calls.{Accepting}
-use Rattle.event_loop.specs.Served.{IsIdle, IsPatient, MayWait, Served, goes, closes}
-use Rattle.event_loop.specs.Goes.{Past, IsQuick, IsReported, IsTried, NobodyIsSilent, OnlyTells, IsLimit, IsReadyToWait, LeadsAway, LeadsToShort, SettlesAll, AreAllSettled, MayRest, running, state_of}
-use Rattle.event_loop.specs.declared.queue.Queue.TheVariants.{Told, Empty, Barred, Asked, Waits}
-use Rattle.event_loop.specs.declared.queue.Queue.{Queue}
+use Rattle.event_loop.proofs.Names.{Place, IsOccupied, AreWithin, Cause, slice_get_within, Promises, LoopState, Free, Service, Ready, Tools, Accepting, IsIdle, IsPatient, MayWait, Served, goes}
+use Rattle.event_loop.proofs.Names.{closes, Past, IsQuick, IsReported, IsTried, NobodyIsSilent, OnlyTells, IsLimit, IsReadyToWait, LeadsAway, LeadsToShort, SettlesAll, AreAllSettled, MayRest}
+use Rattle.event_loop.proofs.Names.{running, state_of, Told, Waits, Queue}
 use Rattle.event_loop.specs.Served as served
 use Rattle.event_loop.specs.Goes as limited
 use Rattle.event_loop.proofs.Doing.{closes_done, closes_some, done_some, none_more}
@@ -98,7 +87,4 @@ quick_told service service' same idle crowded tried reported = record {
 -- nobody is to be accepted, or it was tried
 pub told_or_not : {P : Type 0} (queue : Queue) → (queue ≡ Told → P) → (queue ≢ Told) ⊎ P
 told_or_not Told tried = inr (tried refl)
-told_or_not Empty tried = inl (λ is. absurd (cc))
-told_or_not (Barred since) tried = inl (λ is. absurd (cc))
-told_or_not Asked tried = inl (λ is. absurd (cc))
-told_or_not Waits tried = inl (λ is. absurd (cc))
+told_or_not queue tried = inl (λ is. absurd (cc))

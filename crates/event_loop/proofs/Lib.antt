@@ -12,3 +12,4 @@ pub mod Lasting
 pub mod Fronts
 pub mod Leaving
 pub mod Moments
+pub mod Names

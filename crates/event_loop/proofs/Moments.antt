@@ -1,17 +1,7 @@
 -- The keeper tells the moment that the clocks told last, and each crash the moments by which requests were answered.
 use Rattle.std.proofs.Common.{◌≡◌, ◌≢◌, ◌⊎◌, inl, inr, ◌<◌, ◌≤◌, ℕ, List, [], refl, sym, ap, subst, ◌∙◌, arith}
-use Rattle.change_codec.specs.Keeping.{Until, HoldsBasis, KeepsBasis, TellsBasis}
-use Rattle.event_loop.specs.declared.clocks.Times.{Times}
-use Rattle.event_loop.specs.Places.{AllFree, IsInService, IsOccupied}
-use Rattle.std.proofs.lemmas.Bool.Decides.{eqb_tells}
-use Rattle.http_edge.specs.Schedule.{World}
-use Rattle.http_edge.specs.Reached.{Journey}
-use Rattle.event_loop.specs.LoopStates.{Promises, LoopState}
-use Rattle.event_loop.specs.Served.{LoopStep, Served, Shuts, TellsLast, begins, goes}
-use Rattle.event_loop.specs.declared.fault.LoopFault.{LoopFault}
-use Rattle.event_loop.specs.declared.queue.Queue.TheVariants.{Empty}
-use Rattle.event_loop.specs.Durable.{Onward, stays, onward, MomentIsHeld, MomentStays}
-use Rattle.event_loop.specs.Ends.{CannotGoOn}
+use Rattle.event_loop.proofs.Names.{Until, HoldsBasis, KeepsBasis, TellsBasis, Times, AllFree, IsInService, IsOccupied, eqb_tells, World, Journey, Promises, LoopState, LoopStep, Served, Shuts}
+use Rattle.event_loop.proofs.Names.{TellsLast, begins, goes, LoopFault, Empty, Onward, stays, onward, MomentIsHeld, MomentStays, CannotGoOn}
 use Rattle.event_loop.specs.Calls.{waits}
 use Rattle.event_loop.specs.Served as step
 use Rattle.event_loop.proofs.Lasting.{keeps_same, keeps_then, leaves_told, tells_then}
@@ -69,11 +59,9 @@ module _ {N C J K H : Type 0} (p : Promises N C J K H) where
   untouched_on s s' u (step.reads j place s'' here readable unread may reading) = absurd (let not = sym (u.free j place here) ∙ may.is_open in cc)
   untouched_on s s' u (step.writes j place s'' here writable unwritten kept may writing) = absurd (subst IsInService (u.free j place here) may.served)
   untouched_on s s' u (step.closes j place s'' here taken cause closing) = absurd (subst IsOccupied (u.free j place here) taken)
-  untouched_on s s' u (step.reports notice told journal due done) = (refl, λ none. record { free = u.free; found = u.found; queue = u.queue })
-  untouched_on s s' u (step.puts_image keeper all kept moments short) = (refl, λ none. record { free = u.free; found = u.found; queue = u.queue })
-  untouched_on s s' u (step.no_image journal all long ago told) = (refl, λ none. record { free = u.free; found = u.found; queue = u.queue })
   untouched_on s s' u (step.keeps keeper e unkept on undone kept moments) =
       (ap (λ (w : World). w.greatest) on.happens.kept, λ none. record { free = u.free; found = u.found; queue = u.queue })
+  untouched_on s s' u next = (refl, λ none. record { free = u.free; found = u.found; queue = u.queue })
 
   untouched : (first s : LoopState N C J K H) → Served p first s → waits s.calls ≡ 0 → IsUntouched s
   untouched first s (begins is) none = record { free = is.free; found = is.found; queue = is.queue }
@@ -92,10 +80,7 @@ module _ {N C J K H : Type 0} (p : Promises N C J K H) where
       (s'.progress.journey.world.greatest ≡ s.progress.journey.world.greatest) ⊎ ((s'.progress.journey.world.greatest ≡ s.times.moment) × (0 < waits s.calls))
   step_greatest first s s' served next = elim (eqb_tells (waits s.calls) 0) [
     | inl none ↦ inl (untouched_on s s' (untouched first s served none.1) next).0
-    | inr some ↦ elim (moves_greatest s s' (step_moves p s s' next)) [
-      | inl same ↦ inl same
-      | inr now ↦ (let there = some.1 in inr (now, omega (arith, there)))
-    ]
+    | inr some ↦ (let moves = moves_greatest s s' (step_moves p s s' next) in grind (arith, moves, some.1))
   ]
 
   -- the greatest moment is told, where it was moved on

@@ -1,9 +1,7 @@
 -- Other connections.
 use Rattle.std.proofs.Common.{◌≡◌, ◌≢◌, ◌⊎◌, inl, inr, ℕ, true, refl, ap, ◌==◌, eq-eqb}
-use Rattle.http_edge.specs.Schedule.{World, PieceComes, PiecePasses, Opens, StreamEnds, TakesOutput, TakesNothing, ForgetsConnection, connection_at, AnsweredPiece}
-use Rattle.http_edge.proofs.Connections.{added_other, found_number, put_other, without_other}
-use Rattle.endpoints.specs.Server.{Outset}
-use Rattle.hook_host.specs.declared.host.HookHost.{Ghosts as Hosting}
+use Rattle.event_loop.proofs.Names.{World, PieceComes, PiecePasses, Opens, StreamEnds, TakesOutput, TakesNothing, ForgetsConnection, connection_at, AnsweredPiece, added_other, found_number}
+use Rattle.event_loop.proofs.Names.{put_other, without_other, Outset, Hosting}
 
 pub is_itself : (c : ℕ) → (c == c) ≡ true
 is_itself c = eq-eqb c c refl

@@ -1,32 +1,18 @@
 -- Where nothing is to be done.
-use Rattle.std.proofs.Common.{◌≡◌, ◌≢◌, inl, inr, ◌<◌, ℕ, suc, List, [], ◌∷◌, Bool, true, false, Option, Some, length, refl, sym, ap, subst, ◌∙◌, arith, ◌-◌, ◌==◌, slice_get, slice_set}
-use Rattle.event_loop.specs.declared.clocks.Times.{Times}
-use Rattle.event_loop.specs.declared.place.Place.{Place}
-use Rattle.event_loop.specs.Places.{IsOccupied, IsInService, MayRead, MayWrite, NeedsNoRead, IsOver, IsPlaceAtRest, broken, dismissed, ended}
-use Rattle.std.proofs.lemmas.Option.{same_Some}
-use Rattle.std.proofs.lemmas.Bool.Decides.{eqb_tells}
-use Rattle.http_edge.specs.Schedule.{World, Connection, connection_at, untaken}
-use Rattle.http_edge.specs.Reached.{is_closing}
-use Rattle.std.proofs.lemmas.Bool.{false≢true, eqb-true}
-use Rattle.event_loop.specs.LoopStates.{Promises, LoopState}
-use Rattle.event_loop.specs.declared.place.Stage.TheVariants.{Free}
-use Rattle.event_loop.specs.declared.service.Service.{Service}
-use Rattle.event_loop.specs.declared.sockets.Ready.{Ready}
-use Rattle.event_loop.specs.declared.tools.Tools.{Tools}
-use Rattle.event_loop.specs.Calls.{Call, Reading, Writing, done_since}
-use Rattle.event_loop.specs.Coming.{fresh_place}
-use Rattle.event_loop.specs.Served.{HadTurn, Served}
-use Rattle.event_loop.specs.Goes.{Past, Duty, IsToldAs, DoneAfter, HoldsAt, IsHeardAt, IsSettledAt, AreAllSettled, StaysIdle, IsWorkLeft, a_read, a_write, IsLeftAt, LeavesOthers, IsRestedAt, IsRested, TidiesAt, running, standing, state_of, to_write}
+use Rattle.std.proofs.Common.{◌≡◌, ◌≢◌, inl, inr, ◌<◌, ℕ, suc, List, [], Bool, true, false, Option, Some, length, refl, sym, ap, subst, ◌∙◌, arith, ◌-◌, ◌==◌, slice_get, slice_set}
+use Rattle.event_loop.proofs.Names.{Times, Place, IsOccupied, IsInService, MayRead, MayWrite, NeedsNoRead, IsOver, IsPlaceAtRest, same_Some, eqb_tells, nat_tests, World, Connection, connection_at}
+use Rattle.event_loop.proofs.Names.{untaken, is_closing, false≢true, Promises, LoopState, Free, Service, Ready, Tools, Call, Reading, Writing, done_since, fresh_place, HadTurn, Served, Past, Duty}
+use Rattle.event_loop.proofs.Names.{IsToldAs, DoneAfter, HoldsAt, IsHeardAt, IsSettledAt, AreAllSettled, StaysIdle, IsWorkLeft, a_read, a_write, IsLeftAt, LeavesOthers, IsRestedAt, IsRested}
+use Rattle.event_loop.proofs.Names.{TidiesAt, running, standing, state_of, to_write}
 use Rattle.event_loop.proofs.Putting.{set_other, set_same}
 use Rattle.event_loop.proofs.Doing.{none_more}
 
 -- what is not empty has some
 pub some_there : (empty : Bool) (bytes : List ℕ) → empty ≡ (length bytes == 0) → empty ≡ false → 0 < length bytes
-some_there empty [] is not = absurd (false≢true (sym not ∙ is))
-some_there empty (b ∷ bytes) is not = omega arith
+some_there empty bytes is not = grind (arith, nat_tests, is, not)
 
 pub none_there : (empty : Bool) (bytes : List ℕ) → empty ≡ (length bytes == 0) → empty ≡ true → ¬ (0 < length bytes)
-none_there empty bytes is has_none some = (let none = eqb-true (length bytes) 0 (sym is ∙ has_none) in absurd (omega (arith, none, some)))
+none_there empty bytes is has_none some = grind (arith, nat_tests, is, has_none, some)
 
 -- what the edge tells of a connection
 pub told_as : (output : ℕ) (closing : Bool) (bytes : List ℕ) (connection : Option Connection) → output ≡ length bytes → bytes ≡ untaken connection → closing ≡ is_closing connection → IsToldAs output closing connection
@@ -37,26 +23,16 @@ pub free_rests : (p : Place) (o : Option Connection) → p.stage ≡ Free → Is
 free_rests p o free = record {
   unread = λ r (may : MayRead p o). let open_is = may.is_open in absurd (cc);
   unwritten = λ w (may : MayWrite p o). absurd (subst IsInService free may.served);
-  goes_on = λ over. not_over over;
+  goes_on = λ over. grind (arith, free, over);
 }
-  where
-    not_over : IsOver p o → ⊥
-    not_over (broken fault is) = absurd (cc)
-    not_over (ended is none) = absurd (cc)
-    not_over (dismissed is closing none) = absurd (cc)
 
 -- nor for a connection that just came
 pub fresh_rests : (now : ℕ) (k : Connection) → untaken (Some k) ≡ [] → is_closing (Some k) ≡ false → IsPlaceAtRest (fresh_place now) (Some k)
 fresh_rests now k none stays = record {
   unread = λ r may. absurd (false≢true r);
   unwritten = λ w (may : MayWrite (fresh_place now) (Some k)). (let some = may.some_left in let size = ap length none in absurd (omega (arith, some, size)));
-  goes_on = λ over. not_over over;
+  goes_on = λ over. grind (arith, stays, over);
 }
-  where
-    not_over : IsOver (fresh_place now) (Some k) → ⊥
-    not_over (broken fault is) = absurd (cc)
-    not_over (ended is empty) = absurd (cc)
-    not_over (dismissed is closing empty) = false≢true (sym stays ∙ closing)
 
 -- where nothing changed, it holds still
 pub still_holds : (duty : Duty) (k : ℕ) (b c : Service) (v u : World) (P : Place → Option Connection → Type 0) → StaysIdle duty b v c u → HoldsAt k b v P → HoldsAt k c u P

@@ -1,9 +1,7 @@
--- The draws of one request more.
-use Rattle.std.proofs.Common.{◌≡◌, suc, List, [], ◌∷◌, ◌++◌, refl, ap}
-use Rattle.messages.specs.declared.request.Draws.{Draws}
-use Rattle.heads.specs.Message.{Message, asked_of_message}
-use Rattle.http_edge.specs.Sources.{demand_of, draws_for, draws_behind}
-use Rattle.http_edge.specs.declared.source.DrawSource.{Ghosts as Sources}
+-- The draws of requests, one after another.
+use Rattle.std.proofs.Common.{◌≡◌, ℕ, ◌+◌, ◌-◌, ◌≤◌, List, [], ◌∷◌, ◌++◌, Some, None, refl, ap, arith}
+use Rattle.http_edge.proofs.Names.{Draws, Message, asked_of_message, Suffices, one_fewer, demand_of, draws_for, draws_behind, Sources}
+use Rattle.std.specs.Prelude.{Option}
 
 module _ {S : Type 0} (sources : Sources S) where
   pub draws_push : (source : S) (messages : List Message) (message : Message) →
@@ -16,3 +14,17 @@ module _ {S : Type 0} (sources : Sources S) where
       draws_behind sources source (messages ++ message ∷ []) ≡ sources.behind (draws_behind sources source messages) (demand_of (asked_of_message message))
   behind_push source [] message = refl
   behind_push source (x ∷ messages) message = behind_push (sources.behind source (demand_of (asked_of_message x))) messages message
+
+-- what suffices for some suffices for fewer
+pub fewer_suffice : (supply : Option ℕ) (count n : ℕ) → n ≤ count → Suffices supply count → Suffices supply n
+fewer_suffice None count n few enough = tt
+fewer_suffice (Some most) count n few enough = omega (arith, few, enough)
+
+pub suffices_none : (supply : Option ℕ) → Suffices supply 0
+suffices_none None = tt
+suffices_none (Some most) = omega arith
+
+-- behind one more request
+pub suffices_behind : (supply left : Option ℕ) (count i : ℕ) → left ≡ one_fewer supply → Suffices supply (count - i) → Suffices left (count - (i + 1))
+suffices_behind None left count i same enough = rw same tt
+suffices_behind (Some most) left count i same enough = rw same (omega (arith, enough))

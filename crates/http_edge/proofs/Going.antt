@@ -1,30 +1,19 @@
 -- An edge goes on by one event.
-use Rattle.std.proofs.Common.{◌≡◌, ◌≤◌, ◌<◌, ◌+◌, inl, inr, ℕ, List, [], ◌∷◌, ◌++◌, Bool, true, false, cond, Some, None, length, length-append, append_assoc, append-nil, drop, refl, ap, ◌∙◌, sym, subst, arith}
-use Rattle.std.proofs.lemmas.List.{length-drop, drop-drop, drop-append-le}
-use Rattle.std.specs.Prelude.{Option, IsSome, option_map}
-use Rattle.hook_host.specs.declared.host.HookHost.{Ghosts as Hosting}
-use Rattle.consent.specs.History.{Event, with_changes}
+use Rattle.std.proofs.Common.{◌≡◌, ◌≤◌, ◌<◌, ◌+◌, inl, inr, ℕ, List, [], ◌∷◌, ◌++◌, Bool, false, cond, Some, None, length, length-append, append_assoc, append-nil, drop, refl, ap, ◌∙◌, sym, subst, arith}
+use Rattle.http_edge.proofs.Names.{length-drop, drop-drop, drop-append-le, IsSome, option_map, Hosting, Event, with_changes, SeenServer, Outset, FitsServer, AreUnkept, Notes, NowNotes, Draws}
+use Rattle.http_edge.proofs.Names.{Message, messages_cut, nothing_has_none, AnsweredRequest, changes_made, mishaps_in, replies_of, World, Connection, Piece, AnsweredPiece, Happening, Opened, Came}
+use Rattle.http_edge.proofs.Names.{HasEnded, Taken, Forgotten, Kept, Happens, Run, ended, has_stream_ended, is_closing_phase, first_world, resumed, fresh, heard, with_connection, without_connection}
+use Rattle.http_edge.proofs.Names.{moment_after, faulty_if, SeenLane, lane_at, ShowsConnection, ShowsConnections, with_lane, without_lane, fresh_lane, AreMessagesRead, IsHeard, timed_bytes, hearing}
+use Rattle.http_edge.proofs.Names.{SeenEdge, Journey, Reached, BeginsOver, ResumesOver, GoesOn, HappeningLeads, PieceGoesOn, PieceLeads, GivenWithMore, IsBrought, WhereReached, supplied, draws_for}
+use Rattle.http_edge.proofs.Names.{draws_behind, Suffices, Sources, Open, Closing}
+use Rattle.std.specs.Prelude.{Option}
 use Rattle.change_codec.specs.Spelling.{DatedFact}
 use Rattle.endpoints.specs.Bounded.{IsBounded}
 use Rattle.endpoints.specs.BoundedLaws.{tokens_keep_their_bounds}
-use Rattle.endpoints.specs.Server.{SeenServer, Outset, FitsServer, AreUnkept, NowNotes}
-use Rattle.heads.specs.Message.{Message}
-use Rattle.heads.specs.ReadingLaws.{messages_cut, nothing_has_none}
-use Rattle.http_edge.specs.Answers.{AnsweredRequest, changes_made, draws_in, mishaps_in, replies_of}
-use Rattle.http_edge.specs.Schedule.{World, Connection, Piece, AnsweredPiece, Happening, Opened, Came, HasEnded, Taken, Forgotten, Kept, Happens, Run, ended, has_stream_ended, is_closing_phase, first_world, resumed, fresh, heard, with_connection, without_connection, moment_after, faulty_if}
-use Rattle.http_edge.specs.Lanes.{SeenLane, lane_at, ShowsConnection, ShowsConnections}
-use Rattle.http_edge.specs.LanesParts.{with_lane, without_lane, fresh_lane}
-use Rattle.http_edge.specs.Heard.{AreMessagesRead, IsHeard, timed_bytes, hearing}
-use Rattle.http_edge.specs.Edges.{SeenEdge}
-use Rattle.http_edge.specs.Reached.{Journey, Reached, BeginsOver, ResumesOver, GoesOn, HappeningLeads, PieceLeads}
-use Rattle.http_edge.specs.Pieces.{PieceGiven, supplied}
-use Rattle.http_edge.specs.Sources.{draws_for}
-use Rattle.http_edge.specs.declared.source.DrawSource.{Ghosts as Sources}
 use Rattle.http_edge.specs.declared.lane.Phase.{Phase}
-use Rattle.http_edge.specs.declared.lane.Phase.TheVariants.{Open, Closing}
-use Rattle.http_edge.proofs.Phases.{ended_not_open}
+use Rattle.http_edge.specs.contracts.draw_list.DrawListDrawSource.TheImpl as list
 use Rattle.http_edge.proofs.Showing.{shows_here, shows_none, shows_put, shows_without, shows_added, shows_length}
-use Rattle.http_edge.proofs.Supplying.{suffices_none}
+use Rattle.http_edge.proofs.Drawing.{suffices_none}
 
 -- what a server fits is bounded
 pub fits_bounded : {H : Type 0} (hosting : Hosting H) (server : SeenServer H) (outset : Outset H) (history : List Event) (m : ℕ) → FitsServer hosting server outset history m →
@@ -40,25 +29,28 @@ run_push hosting outset old middle new (x ∷ es) e run happens = (run.0, run.1,
 abbrev pub changed : World → List Connection → World
 changed world connections = record world { connections = connections }
 
+-- an event leads on to an edge that shows the new world
+lead_on : {H : Type 0} (hosting : Hosting H) (edge edge' : SeenEdge H) (journey : Journey H) (new : World) (e : Happening) → Reached hosting edge journey →
+    Happens hosting journey.outset journey.world e new → FitsServer hosting edge'.server journey.outset new.history new.greatest →
+    Notes edge'.server new.kept new.history → ShowsConnections edge'.lanes new.connections → GoesOn hosting edge' journey e
+lead_on hosting edge edge' journey new e reached happens fits notes shows = record {
+  world = new;
+  happens = happens;
+  reached = record {
+    run = run_push hosting journey.outset first_world journey.world new journey.schedule e reached.run happens;
+    server = fits;
+    notes = notes;
+    shows = shows;
+    bounded = fits_bounded hosting edge'.server journey.outset new.history new.greatest fits;
+  };
+}
+
 -- an event after which the same server has other lanes
 goes_on : {H : Type 0} (hosting : Hosting H) (edge edge' : SeenEdge H) (journey : Journey H) (connections : List Connection) (e : Happening) →
     Reached hosting edge journey → edge'.server ≡ edge.server → ShowsConnections edge'.lanes connections → Happens hosting journey.outset journey.world e (changed journey.world connections) →
     GoesOn hosting edge' journey e
-goes_on hosting edge edge' journey connections e reached same shows happens = record {
-  world = changed journey.world connections;
-  happens = happens;
-  reached = record {
-    run = run_push hosting journey.outset first_world journey.world (changed journey.world connections) journey.schedule e reached.run happens;
-    server = rw same reached.server;
-    notes = rw same reached.notes;
-    shows = shows;
-    bounded = reached.bounded;
-  };
-}
-
--- lanes that show are those with these equals
-shows_as : (lanes lanes' : List SeenLane) (ks : List Connection) → lanes' ≡ lanes → ShowsConnections lanes ks → ShowsConnections lanes' ks
-shows_as lanes lanes' ks e s = subst (λ l. ShowsConnections l ks) (sym e) s
+goes_on hosting edge edge' journey connections e reached same shows happens =
+    lead_on hosting edge edge' journey (changed journey.world connections) e reached happens (rw same reached.server) (rw same reached.notes) shows
 
 shows_fresh : (c : ℕ) → ShowsConnection (fresh_lane c) (fresh c)
 shows_fresh c = record { number = refl; phase = refl; within = omega arith; output = refl; rest = λ e. record { reads = refl; none = nothing_has_none }; nothing_held = λ e. refl }
@@ -68,7 +60,7 @@ pub on_opened : {H : Type 0} (hosting : Hosting H) (edge edge' : SeenEdge H) (c 
 on_opened hosting edge edge' c same none few lanes journey reached =
     let size = shows_length edge.lanes journey.world.connections reached.shows in
     goes_on hosting edge edge' journey (journey.world.connections ++ fresh c ∷ []) _ reached same
-    (shows_as _ _ _ lanes (shows_added edge.lanes journey.world.connections (fresh_lane c) (fresh c) reached.shows (shows_fresh c)))
+    (rw lanes (shows_added edge.lanes journey.world.connections (fresh_lane c) (fresh c) reached.shows (shows_fresh c)))
     (record { absent = shows_none edge.lanes journey.world.connections c reached.shows none; few = omega (arith, size, few); still = record { greatest = refl; history = refl; kept = refl }; connections = refl })
 
 pub on_ended : {H : Type 0} (hosting : Hosting H) (edge edge' : SeenEdge H) (c : ℕ) (lane : SeenLane) → edge'.server ≡ edge.server → lane_at edge.lanes c ≡ Some lane → has_stream_ended lane.phase ≡ false →
@@ -78,13 +70,13 @@ on_ended hosting edge edge' c lane same here not_ended lanes journey reached =
     let shows = at.2 in
     let k : Connection = record at.0 { phase = ended at.0.phase } in
     goes_on hosting edge edge' journey (with_connection c k journey.world.connections) _ reached same
-    (shows_as _ _ _ lanes (shows_put edge.lanes journey.world.connections c _ k reached.shows
+    (rw lanes (shows_put edge.lanes journey.world.connections c _ k reached.shows
     (record {
       number = shows.number;
       phase = ap ended shows.phase;
       within = shows.within;
       output = shows.output;
-      rest = λ e. absurd (ended_not_open at.0.phase e);
+      rest = λ e. absurd (grind (arith, e));
       nothing_held = λ e. refl;
     })))
     (record { before = at.0; here = at.1; not_ended = sym (ap has_stream_ended shows.phase) ∙ not_ended; still = record { greatest = refl; history = refl; kept = refl }; connections = refl })
@@ -101,61 +93,37 @@ on_taken hosting edge edge' c n lane same here fits lanes journey reached =
     let left = length-drop x.taken x.output in
     let enough : x.taken + n ≤ length x.output = omega (arith, size, within, left, fits) in
     goes_on hosting edge edge' journey (with_connection c k journey.world.connections) _ reached same
-    (shows_as _ _ _ lanes (shows_put edge.lanes journey.world.connections c _ k reached.shows
+    (rw lanes (shows_put edge.lanes journey.world.connections c _ k reached.shows
     (record { number = shows.number; phase = shows.phase; within = enough; output = ap (drop n) shows.output ∙ drop-drop n x.taken x.output; rest = shows.rest; nothing_held = shows.nothing_held })))
     (inl (record { before = x; here = at.1; fits = enough; still = record { greatest = refl; history = refl; kept = refl }; connections = refl }))
 
 pub on_taken_nothing : {H : Type 0} (hosting : Hosting H) (edge edge' : SeenEdge H) (c n : ℕ) → edge'.server ≡ edge.server → lane_at edge.lanes c ≡ None → n ≡ 0 → edge'.lanes ≡ edge.lanes →
     HappeningLeads hosting edge edge' (Taken c n)
 on_taken_nothing hosting edge edge' c n same none zero lanes journey reached =
-    goes_on hosting edge edge' journey journey.world.connections _ reached same (shows_as _ _ _ lanes reached.shows)
+    goes_on hosting edge edge' journey journey.world.connections _ reached same (rw lanes reached.shows)
     (inr (record { absent = shows_none edge.lanes journey.world.connections c reached.shows none; nothing = zero; same = refl }))
 
--- a server that notes does so from a history that was kept
-kept_before : (unkept : Option (List DatedFact)) (kept : Option (List Event)) (history : List Event) → IsSome unkept → AreUnkept unkept kept history →
-    (before : List Event) × (kept ≡ Some before)
-kept_before None kept history noting noted = absurd (cc)
-kept_before (Some facts) None history noting noted = absurd noted
-kept_before (Some facts) (Some before) history noting noted = (before, refl)
-
--- it then notes from this one on
+-- a server that notes does so from this history on, once it was kept
 notes_anew : (unkept : Option (List DatedFact)) (history : List Event) → IsSome unkept → AreUnkept (option_map (λ facts. []) unkept) (Some history) history
 notes_anew None history noting = absurd (cc)
 notes_anew (Some facts) history noting = refl
 
--- what is noted changes no answer
-fits_noting : {H : Type 0} (hosting : Hosting H) (old new : SeenServer H) (unkept : Option (List DatedFact)) (outset : Outset H) (history : List Event) (m : ℕ) → NowNotes old new unkept →
-    FitsServer hosting old outset history m → FitsServer hosting new outset history m
-fits_noting {H = H} hosting old new unkept outset history m same fits =
-    let P : SeenServer H → Type 0 = λ server. FitsServer hosting server outset history m in
-    subst P (sym same)
-    (record { rules_are = fits.rules_are; greatest_is = fits.greatest_is; store = fits.store; consents = fits.consents; hosts = fits.hosts; right = fits.right })
-
--- what has happened was kept
+-- what has happened was kept, and what is noted changes no answer
 pub on_kept : {H : Type 0} (hosting : Hosting H) (edge edge' : SeenEdge H) → NowNotes edge.server edge'.server (option_map (λ facts. []) edge.server.unkept) → edge'.lanes ≡ edge.lanes →
     IsSome edge.server.unkept → HappeningLeads hosting edge edge' Kept
 on_kept hosting edge edge' same lanes noting journey reached =
-    let before = kept_before edge.server.unkept journey.world.kept journey.world.history noting reached.notes in
-    let world' : World = record journey.world { kept = Some journey.world.history } in
-    let happens : Happens hosting journey.outset journey.world Kept world' = record { before = before.0; kept_before = before.1; kept = refl } in
-    record {
-      world = world';
-      happens = happens;
-      reached = record {
-        run = run_push hosting journey.outset first_world journey.world world' journey.schedule _ reached.run happens;
-        server = fits_noting hosting edge.server edge'.server _ journey.outset journey.world.history journey.world.greatest same reached.server;
-        notes =
-            (let P : Option (List DatedFact) → Type 0 = λ unkept. AreUnkept unkept (Some journey.world.history) journey.world.history in
-            subst P (sym (ap (λ server. server.unkept) same)) (notes_anew edge.server.unkept journey.world.history noting));
-        shows = shows_as _ _ _ lanes reached.shows;
-        bounded = reached.bounded;
-      };
-    }
+    let world = journey.world in
+    let fits = reached.server in
+    let notes = reached.notes in
+    let before : (before : List Event) × (world.kept ≡ Some before) = grind (arith, noting, notes) in
+    lead_on hosting edge edge' journey (record world { kept = Some world.history }) Kept reached (record { before = before.0; kept_before = before.1; kept = refl })
+    (rw same (record { rules_are = fits.rules_are; greatest_is = fits.greatest_is; store = fits.store; consents = fits.consents; hosts = fits.hosts; right = fits.right }))
+    (rw same (notes_anew edge.server.unkept world.history noting)) (rw lanes reached.shows)
 
 -- an edge without connections over a server
 pub begun : {H : Type 0} (hosting : Hosting H) (edge : SeenEdge H) → edge.lanes ≡ [] → BeginsOver hosting edge.server edge
 begun hosting edge none outset fits notes =
-    record { run = refl; server = fits; notes = notes; shows = shows_as _ _ [] none tt; bounded = fits_bounded hosting edge.server outset [] 0 fits }
+    record { run = refl; server = fits; notes = notes; shows = rw none tt; bounded = fits_bounded hosting edge.server outset [] 0 fits }
 
 -- that goes on from a history
 pub goes_on_from : {H : Type 0} (hosting : Hosting H) (edge : SeenEdge H) → edge.lanes ≡ [] → ResumesOver hosting edge.server edge
@@ -163,44 +131,45 @@ goes_on_from hosting edge none outset history m fits notes = record {
   run = (resumed history m, record { first = refl; is_history = fits.store.fits.is_history; right = fits.right; resumed = refl }, refl);
   server = fits;
   notes = notes;
-  shows = shows_as _ _ [] none tt;
+  shows = rw none tt;
   bounded = fits_bounded hosting edge.server outset history m fits;
 }
 
 pub on_forgotten : {H : Type 0} (hosting : Hosting H) (edge edge' : SeenEdge H) (c : ℕ) → edge'.server ≡ edge.server → edge'.lanes ≡ without_lane c edge.lanes → HappeningLeads hosting edge edge' (Forgotten c)
 on_forgotten hosting edge edge' c same lanes journey reached =
     goes_on hosting edge edge' journey (without_connection c journey.world.connections) _ reached same
-    (shows_as _ _ _ lanes (shows_without edge.lanes journey.world.connections c reached.shows))
+    (rw lanes (shows_without edge.lanes journey.world.connections c reached.shows))
     (record { still = record { greatest = refl; history = refl; kept = refl }; connections = refl })
+
+-- where it leads on whatever draws are left, it does so with none
+gives : {H S : Type 0} (hosting : Hosting H) (sources : Sources S) (edge edge' : SeenEdge H) (piece : Piece) (source source' : S) (messages : List Message) →
+    WhereReached hosting edge (λ connections. IsBrought connections piece messages) → Suffices (sources.supply source) (length messages) →
+    ((left : List Draws) → PieceLeads hosting edge edge' piece (draws_for sources source messages ++ left)) → source' ≡ draws_behind sources source messages →
+    GivenWithMore hosting sources (supplied edge source) piece (supplied edge' source')
+gives hosting sources edge edge' piece source source' messages brought enough leads behind = record {
+  given = record { messages = messages; brought = brought; enough = enough; leads = rw append-nil at (leads []); source_is = behind };
+  leads = leads;
+}
 
 -- bytes after the 400 of a faulty head
 pub on_passed : {H S : Type 0} (hosting : Hosting H) (sources : Sources S) (edge edge' : SeenEdge H) (piece : Piece) (lane : SeenLane) (source source' : S) → edge'.server ≡ edge.server → edge'.lanes ≡ edge.lanes →
     lane_at edge.lanes piece.connection ≡ Some lane → lane.phase ≡ Closing → length piece.bytes ≤ 65536 → source' ≡ source →
-    PieceGiven hosting sources (supplied edge source) piece (supplied edge' source')
-on_passed hosting sources edge edge' piece lane source source' same lanes here closing short undrawn = record {
-  messages = [];
-  brought = λ journey reached.
-      let at = shows_here edge.lanes journey.world.connections piece.connection lane reached.shows here in
-      inr (rw at.1 (ap is_closing_phase (sym at.2.phase ∙ closing)), refl);
-  enough = suffices_none (sources.supply source);
-  leads = λ journey reached.
-      let at = shows_here edge.lanes journey.world.connections piece.connection lane reached.shows here in
-      record {
-        mishaps = [];
-        closes = false;
-        on = goes_on hosting edge edge' journey journey.world.connections _ reached same (shows_as _ _ _ lanes reached.shows)
-            (short, inr (record { before = at.0; here = at.1; is_closing = sym at.2.phase ∙ closing; no_mishaps = refl; no_more = refl; same = refl }));
-      };
-  source_is = undrawn;
-}
-
-rest_kept : (closes : Bool) (kept rest : List ℕ) → kept ≡ cond closes [] rest → ◌≡◌ {A = Phase} (cond closes Closing Open) Open → kept ≡ rest
-rest_kept true kept rest e p = absurd (cc)
-rest_kept false kept rest e p = e
-
-nothing_kept : (closes : Bool) (kept rest : List ℕ) → kept ≡ cond closes [] rest → (◌≡◌ {A = Phase} (cond closes Closing Open) Open → ⊥) → kept ≡ []
-nothing_kept true kept rest e p = e
-nothing_kept false kept rest e p = absurd (p refl)
+    GivenWithMore hosting sources (supplied edge source) piece (supplied edge' source')
+on_passed hosting sources edge edge' piece lane source source' same lanes here closing short undrawn =
+    gives hosting sources edge edge' piece source source' []
+    (λ journey reached.
+    let at = shows_here edge.lanes journey.world.connections piece.connection lane reached.shows here in
+    inr (rw at.1 (ap is_closing_phase (sym at.2.phase ∙ closing)), refl))
+    (suffices_none (sources.supply source))
+    (λ left journey reached.
+    let at = shows_here edge.lanes journey.world.connections piece.connection lane reached.shows here in
+    record {
+      mishaps = [];
+      closes = false;
+      on = goes_on hosting edge edge' journey journey.world.connections _ reached same (rw lanes reached.shows)
+          (short, inr (record { before = at.0; here = at.1; is_closing = sym at.2.phase ∙ closing; no_mishaps = refl; no_more = refl; same = refl }));
+    })
+    undrawn
 
 -- the lane after a piece shows the connection after it
 shows_heard : (lane lane' : SeenLane) (k : Connection) (piece : List ℕ) (messages : List Message) (requests : List AnsweredRequest) (middle : List ℕ) (closes : Bool) → k.phase ≡ Open →
@@ -217,16 +186,16 @@ shows_heard lane lane' k piece messages requests middle closes is_open shows num
       output =
           output ∙ ap (λ o. o ++ faulty_if closes) (said ∙ ap (λ o. o ++ replies_of requests) shows.output)
           ∙ append_assoc (drop k.taken k.output) (replies_of requests) (faulty_if closes) ∙ sym (drop-append-le k.taken k.output new le);
-      rest = λ now. rw (rest_kept closes lane'.rest read.rest read.kept_is now) (messages_cut k.stream piece k.messages messages lane.rest read.rest (shows.rest is_open) read.reads);
-      nothing_held = nothing_kept closes lane'.rest read.rest read.kept_is;
+      rest = λ now. let kept : lane'.rest ≡ read.rest = grind (arith, read.kept_is, now) in rw kept (messages_cut k.stream piece k.messages messages lane.rest read.rest (shows.rest is_open) read.reads);
+      nothing_held = λ other. grind (arith, read.kept_is, other);
     }
 
 -- a piece that was heard leads on
 leads_heard : {H S : Type 0} (hosting : Hosting H) (sources : Sources S) (edge edge' : SeenEdge H) (piece : Piece) (lane lane' : SeenLane) (source source' : S) →
     lane_at edge.lanes piece.connection ≡ Some lane → lane.phase ≡ Open → length piece.bytes ≤ 65536 →
     (hears : IsHeard hosting sources (hearing edge.server lane source) (timed_bytes (lane.rest ++ piece.bytes) piece.moment) (hearing edge'.server lane' source')) → edge'.lanes ≡ with_lane piece.connection lane' edge.lanes →
-    PieceLeads hosting edge edge' piece (draws_for sources source hears.messages)
-leads_heard hosting sources edge edge' piece lane lane' source source' here is_open short hears lanes journey reached =
+    (left : List Draws) → PieceLeads hosting edge edge' piece (draws_for sources source hears.messages ++ left)
+leads_heard hosting sources edge edge' piece lane lane' source source' here is_open short hears lanes left journey reached =
     let world = journey.world in
     let c = piece.connection in
     let at = shows_here edge.lanes world.connections c lane reached.shows here in
@@ -239,7 +208,7 @@ leads_heard hosting sources edge edge' piece lane lane' source source' here is_o
     let m = moment_after world.greatest piece.moment messages in
     let k' = heard k piece.bytes messages served.requests closes in
     let world' : World = record { connections = with_connection c k' world.connections; greatest = m; history = with_changes world.history m (changes_made served.requests); kept = world.kept } in
-    let came : AnsweredPiece = record { piece = piece; draws = draws_for sources source messages; mishaps = mishaps_in served.requests; closes = closes } in
+    let came : AnsweredPiece = record { piece = piece; draws = draws_for sources source messages ++ left; mishaps = mishaps_in served.requests; closes = closes } in
     let happens : Happens hosting journey.outset world (Came came) world' = (
       short,
       inl (record {
@@ -252,8 +221,8 @@ leads_heard hosting sources edge edge' piece lane lane' source source' here is_o
         few = hears.read.few;
         requests = served.requests;
         asked = served.asked;
-        left = [];
-        draws = served.draws ∙ sym (append-nil (draws_in served.requests));
+        left = left;
+        draws = ap (λ draws. draws ++ left) served.draws;
         mishaps = refl;
         answered = served.answered;
         may_tell = hears.read.may_tell;
@@ -269,38 +238,42 @@ leads_heard hosting sources edge edge' piece lane lane' source source' here is_o
     record {
       mishaps = mishaps_in served.requests;
       closes = closes;
-      on = record {
-        world = world';
-        happens = happens;
-        reached = record {
-          run = run_push hosting journey.outset first_world world world' journey.schedule _ reached.run happens;
-          server = served.fits;
-          notes = served.noted world.kept reached.notes;
-          shows = shows_as _ _ _ lanes (shows_put edge.lanes world.connections c lane' k' reached.shows shown);
-          bounded = fits_bounded hosting edge'.server journey.outset world'.history m served.fits;
-        };
-      };
+      on = lead_on hosting edge edge' journey world' (Came came) reached happens served.fits (served.noted world.kept reached.notes)
+          (rw lanes (shows_put edge.lanes world.connections c lane' k' reached.shows shown));
     }
 
 -- a piece was heard
 pub on_heard : {H S : Type 0} (hosting : Hosting H) (sources : Sources S) (edge edge' : SeenEdge H) (piece : Piece) (lane lane' : SeenLane) (source source' : S) →
     lane_at edge.lanes piece.connection ≡ Some lane → lane.phase ≡ Open → length piece.bytes ≤ 65536 →
     IsHeard hosting sources (hearing edge.server lane source) (timed_bytes (lane.rest ++ piece.bytes) piece.moment) (hearing edge'.server lane' source') → edge'.lanes ≡ with_lane piece.connection lane' edge.lanes →
-    PieceGiven hosting sources (supplied edge source) piece (supplied edge' source')
-on_heard hosting sources edge edge' piece lane lane' source source' here is_open short hears lanes = record {
-  messages = hears.messages;
-  brought = λ journey reached.
-      let at = shows_here edge.lanes journey.world.connections piece.connection lane reached.shows here in
-      let opened : at.0.phase ≡ Open = sym at.2.phase ∙ is_open in
-      inl (record {
-        connection = at.0;
-        here = at.1;
-        is_open = opened;
-        short = short;
-        rest = hears.read.rest;
-        reads = messages_cut at.0.stream piece.bytes at.0.messages hears.messages lane.rest hears.read.rest (at.2.rest opened) hears.read.reads;
-      });
-  enough = hears.enough;
-  leads = leads_heard hosting sources edge edge' piece lane lane' source source' here is_open short hears lanes;
-  source_is = hears.source_is;
-}
+    GivenWithMore hosting sources (supplied edge source) piece (supplied edge' source')
+on_heard hosting sources edge edge' piece lane lane' source source' here is_open short hears lanes =
+    gives hosting sources edge edge' piece source source' hears.messages
+    (λ journey reached.
+    let at = shows_here edge.lanes journey.world.connections piece.connection lane reached.shows here in
+    let opened : at.0.phase ≡ Open = sym at.2.phase ∙ is_open in
+    inl (record {
+      connection = at.0;
+      here = at.1;
+      is_open = opened;
+      short = short;
+      rest = hears.read.rest;
+      reads = messages_cut at.0.stream piece.bytes at.0.messages hears.messages lane.rest hears.read.rest (at.2.rest opened) hears.read.reads;
+    }))
+    hears.enough (leads_heard hosting sources edge edge' piece lane lane' source source' here is_open short hears lanes) hears.source_is
+
+-- DRAWS THAT ARE HANDED IN
+
+-- each request has its own, and the others are left
+list_draws : (draws : List Draws) (messages : List Message) → length messages ≤ length draws → draws_for list.ghosts draws messages ++ drop (length messages) draws ≡ draws
+list_draws draws [] enough = refl
+list_draws [] (x ∷ messages) enough = absurd (omega (arith, enough))
+list_draws (d ∷ draws) (x ∷ messages) enough = ap (λ (ds : List Draws). d ∷ ds) (list_draws draws messages (omega (arith, enough)))
+
+-- what is given with a list of draws leads on with these
+pub list_leads : {H : Type 0} (hosting : Hosting H) (edge edge' : SeenEdge H) (piece : Piece) (draws left : List Draws) →
+    GivenWithMore hosting list.ghosts (supplied edge draws) piece (supplied edge' left) → PieceLeads hosting edge edge' piece draws
+list_leads hosting edge edge' piece draws left more journey reached =
+    let given = more.given in
+    subst (λ (ds : List Draws). PieceGoesOn hosting edge' journey piece ds) (list_draws draws given.messages given.enough)
+    (more.leads (drop (length given.messages) draws) journey reached)

@@ -1,14 +1,10 @@
 pub mod Serving
-pub mod Fronts
 pub mod Placing
 pub mod Showing
-pub mod Phases
-pub mod Refusing
 pub mod Going
 pub mod RefusingWorlds
 pub mod Connections
 pub mod Words
-pub mod Supplying
 pub mod Drawing
-pub mod Handing
 pub mod Unread
+pub mod Names

@@ -1,25 +1,13 @@
 -- One more request is answered.
-use Rattle.std.proofs.Common.{◌≡◌, ℕ, List, [], ◌∷◌, ◌++◌, false, map, append_assoc, append-nil, refl, ap, ◌∙◌, sym, subst, arith}
-use Rattle.std.proofs.lemmas.List.{map-append}
+use Rattle.std.proofs.Common.{◌≡◌, ℕ, List, [], ◌∷◌, ◌++◌, false, map, append_assoc, append-nil, refl, ap, ◌∙◌, sym, arith}
+use Rattle.http_edge.proofs.Names.{map-append, max, Hosting, Event, Change, event_at, with_changes, Draws, Asked, Written, in_writing, reply_bytes, says_with, request_outcome, SeenServer, Outset}
+use Rattle.http_edge.proofs.Names.{Before, FitsServer, AreNoted, IsStep, Message, Messages, asked_of_message, AnsweredRequest, IsOutcomeOfRequest, AreAnswered, AreAskedBy, changes_made, draws_in}
+use Rattle.http_edge.proofs.Names.{replies_of, AreMessagesServed, IsStillNone, IsHeard, IsHearingRefusal, timed_bytes, hearing, before_messages, replying, SeenLane, Sources, Memory}
 use Rattle.std.proofs.lemmas.List.Concat.{flat_map-append}
-use Rattle.std.specs.Prelude.{max, Option}
-use Rattle.hook_host.specs.declared.host.HookHost.{Ghosts as Hosting}
-use Rattle.consent.specs.History.{Event, Change, event_at, with_changes}
-use Rattle.messages.specs.declared.request.Draws.{Draws}
-use Rattle.messages.specs.Asked.{Asked}
-use Rattle.messages.specs.Written.{Written, in_writing, reply_bytes}
+use Rattle.std.specs.Prelude.{Option}
 use Rattle.answers.specs.Outcomes.{Outcome}
-use Rattle.endpoints.specs.Hosts.{says_with}
-use Rattle.endpoints.specs.Replies.{request_outcome}
-use Rattle.endpoints.specs.Server.{SeenServer, Outset, Before, FitsServer, AreNoted, IsStep}
 use Rattle.endpoints.specs.Steps.{Steps}
-use Rattle.heads.specs.Message.{Message, Messages, asked_of_message}
-use Rattle.http_edge.specs.Answers.{AnsweredRequest, IsOutcomeOfRequest, AreAnswered, AreAskedBy, changes_made, draws_in, replies_of}
-use Rattle.http_edge.specs.Heard.{AreMessagesServed, IsStillNone, IsHeard, IsHearingRefusal, timed_bytes, hearing, before_messages, replying}
-use Rattle.http_edge.specs.Lanes.{SeenLane}
-use Rattle.http_edge.specs.declared.source.DrawSource.{Ghosts as Sources}
-use Rattle.http_edge.specs.declared.fault.EdgeFault.TheVariants.{Memory}
-use Rattle.http_edge.proofs.Supplying.{suffices_none}
+use Rattle.http_edge.proofs.Drawing.{suffices_none}
 
 -- changes after changes
 pub changes_join : (history : List Event) (m : ℕ) (a b : List Change) → with_changes (with_changes history m a) m b ≡ with_changes history m (a ++ b)
@@ -39,9 +27,6 @@ answered_push hosting outset m history [] r all is = (rw append-nil at is, tt)
 answered_push hosting outset m history (x ∷ rs) r all is =
     (all.0, answered_push hosting outset m (with_changes history m x.outcome.changes) rs r all.1 (rw (← changes_join history m x.outcome.changes (changes_made rs)) at is))
 
-max_more : (m moment : ℕ) → max (max m moment) moment ≡ max m moment
-max_more m moment = omega arith
-
 -- one more request asks what one more message asks
 asked_push : (messages : List Message) (message : Message) (rs : List AnsweredRequest) (r : AnsweredRequest) → r.asked ≡ asked_of_message message → AreAskedBy messages rs →
     AreAskedBy (messages ++ message ∷ []) (rs ++ r ∷ [])
@@ -53,14 +38,14 @@ draws_push : (draws : List Draws) (rs : List AnsweredRequest) (r : AnsweredReque
 draws_push draws rs r are = ap (λ (l : List Draws). l ++ r.draws ∷ []) are ∙ sym (map-append (λ (x : AnsweredRequest). x.draws) rs (r ∷ []))
 
 -- it answers it after the others
-served_more : {H : Type 0} (hosting : Hosting H) (before : Before H) (server server' : SeenServer H) (output out : List ℕ) (g moment : ℕ) (messages : List Message) (draws : List Draws) (rs : List AnsweredRequest) (message : Message) (d : Draws) (reply : Written) →
-    max g moment ≡ before.moment → AreAskedBy messages rs → draws ≡ draws_in rs →
+served_more : {H : Type 0} (hosting : Hosting H) (before : Before H) (server server' : SeenServer H) (output out : List ℕ) (g moment : ℕ) (messages : List Message) (draws : List Draws) (rs : List AnsweredRequest) (message : Message) (d : Draws) (reply : Written) (asked : Asked) →
+    asked ≡ asked_of_message message → max g moment ≡ before.moment → AreAskedBy messages rs → draws ≡ draws_in rs →
     AreAnswered hosting before.outset before.moment before.history rs → out ≡ output ++ replies_of rs →
     FitsServer hosting server before.outset (with_changes before.history before.moment (changes_made rs)) g →
     AreNoted before.server server before.history (with_changes before.history before.moment (changes_made rs)) →
-    Steps hosting server (record { asked = asked_of_message message; moment = moment; draws = d }) reply server' →
+    Steps hosting server (record { asked = asked; moment = moment; draws = d }) reply server' →
     AreMessagesServed hosting before output (record { messages = messages ++ message ∷ []; moment = moment; draws = draws ++ d ∷ [] }) (replying server' (out ++ reply_bytes reply))
-served_more hosting before server server' output out g moment messages draws rs message d reply later asked are answered written_is fits noted steps =
+served_more hosting before server server' output out g moment messages draws rs message d reply asked asks later all are answered written_is fits noted steps =
     let m = before.moment in
     let h = with_changes before.history m (changes_made rs) in
     let step = steps before.outset h g fits in
@@ -70,23 +55,21 @@ served_more hosting before server server' output out g moment messages draws rs 
       host = says_with hosting server.host step.1;
       moment = m;
       draws = d;
-    }) (asked_of_message message) in
-    let r : AnsweredRequest = record { asked = asked_of_message message; draws = d; mishap = record { refused = step.0; fault = step.1 }; outcome = o } in
+    }) asked in
+    let r : AnsweredRequest = record { asked = asked; draws = d; mishap = record { refused = step.0; fault = step.1 }; outcome = o } in
     let done : IsStep hosting (record { server = server; outset = before.outset; history = h; moment = m }) o reply server' = rw later at step.3 in
     let is : IsOutcomeOfRequest hosting before.outset m h r = record { host = server.host; comes = fits.hosts; fault = step.2; outcome_is = refl; after = server'.host; changes = done.hosts } in
     let joined = changes_join before.history m (changes_made rs) o.changes ∙ ap (with_changes before.history m) (sym (changes_push rs r)) in
     record {
       requests = rs ++ r ∷ [];
-      asked = asked_push messages message rs r refl asked;
+      asked = asked_push messages message rs r asks all;
       draws = draws_push draws rs r are;
       answered = answered_push hosting before.outset m before.history rs r answered is;
       output_is =
           ap (λ x. x ++ reply_bytes reply) written_is ∙ append_assoc output (replies_of rs) (reply_bytes reply)
           ∙ ap (λ x. output ++ (replies_of rs ++ reply_bytes x)) done.reply_is ∙ ap (λ x. output ++ x) (sym (replies_push rs r));
-      fits = (let P : List Event → Type 0 = λ x. FitsServer hosting server' before.outset x m in subst P joined done.fits);
-      noted =
-          (let P : List Event → Type 0 = λ x. AreNoted before.server server' before.history x in
-          subst P joined (λ kept notes. done.noted kept (noted kept notes)));
+      fits = rw joined at done.fits;
+      noted = λ kept notes. rw joined at (done.noted kept (noted kept notes));
     }
 
 -- no request is answered yet
@@ -107,24 +90,6 @@ none_asked : (rs : List AnsweredRequest) → AreAskedBy [] rs → rs ≡ []
 none_asked [] asked = refl
 none_asked (r ∷ rs) asked = absurd (cc)
 
--- one more message is answered
-served_next : {H : Type 0} (hosting : Hosting H) (first server server' : SeenServer H) (output out : List ℕ) (outset : Outset H) (history : List Event) (m moment : ℕ) (messages : List Message) (draws : List Draws) (message : Message) (d : Draws) (reply : Written) →
-    AreMessagesServed hosting (before_messages first outset history m (record { messages = messages; moment = moment; draws = draws })) output (record { messages = messages; moment = moment; draws = draws }) (replying server out) →
-    Steps hosting server (record { asked = asked_of_message message; moment = moment; draws = d }) reply server' →
-    AreMessagesServed hosting (before_messages first outset history m (record { messages = messages ++ message ∷ []; moment = moment; draws = draws ++ d ∷ [] })) output
-    (record { messages = messages ++ message ∷ []; moment = moment; draws = draws ++ d ∷ [] }) (replying server' (out ++ reply_bytes reply))
-served_next hosting first server server' output out outset history m moment [] draws message d reply served steps =
-    let none = none_asked served.requests served.asked in
-    let said : out ≡ output ++ [] = served.output_is ∙ ap (λ rs. output ++ replies_of rs) none in
-    let fits : FitsServer hosting server outset (history ++ []) m =
-    (let P : List AnsweredRequest → Type 0 = λ rs. FitsServer hosting server outset (with_changes history m (changes_made rs)) m in subst P none served.fits) in
-    let noted : AreNoted first server history (history ++ []) =
-    (let P : List AnsweredRequest → Type 0 = λ rs. AreNoted first server history (with_changes history m (changes_made rs)) in subst P none served.noted) in
-    served_more hosting (record { server = first; outset = outset; history = history; moment = max m moment }) server server' output out m moment [] draws [] message d reply refl refl (served.draws ∙ ap draws_in none) tt said fits noted steps
-served_next hosting first server server' output out outset history m moment (x ∷ messages) draws message d reply served steps =
-    served_more hosting (record { server = first; outset = outset; history = history; moment = max m moment }) server server' output out (max m moment) moment (x ∷ messages) draws served.requests message d reply (max_more m moment)
-    served.asked served.draws served.answered served.output_is served.fits served.noted steps
-
 -- one more message, which asks this, is answered
 pub served_push : {H : Type 0} (hosting : Hosting H) (first server server' : SeenServer H) (output out : List ℕ) (outset : Outset H) (history : List Event) (m moment : ℕ) (messages : List Message) (draws : List Draws) (message : Message) (d : Draws) (reply : Written) (asked : Asked) →
     asked ≡ asked_of_message message →
@@ -132,9 +97,14 @@ pub served_push : {H : Type 0} (hosting : Hosting H) (first server server' : See
     Steps hosting server (record { asked = asked; moment = moment; draws = d }) reply server' →
     AreMessagesServed hosting (before_messages first outset history m (record { messages = messages ++ message ∷ []; moment = moment; draws = draws ++ d ∷ [] })) output
     (record { messages = messages ++ message ∷ []; moment = moment; draws = draws ++ d ∷ [] }) (replying server' (out ++ reply_bytes reply))
-served_push hosting first server server' output out outset history m moment messages draws message d reply asked asks served steps =
-    let P : Asked → Type 0 = λ q. Steps hosting server (record { asked = q; moment = moment; draws = d }) reply server' in
-    served_next hosting first server server' output out outset history m moment messages draws message d reply served (subst P asks steps)
+served_push hosting first server server' output out outset history m moment [] draws message d reply asked asks served steps =
+    let none = none_asked served.requests served.asked in
+    let said : out ≡ output ++ [] = served.output_is ∙ ap (λ rs. output ++ replies_of rs) none in
+    served_more hosting (record { server = first; outset = outset; history = history; moment = max m moment }) server server' output out m moment [] draws [] message d reply asked asks refl refl
+    (served.draws ∙ ap draws_in none) tt said (rw none at served.fits) (rw none at served.noted) steps
+served_push hosting first server server' output out outset history m moment (x ∷ messages) draws message d reply asked asks served steps =
+    served_more hosting (record { server = first; outset = outset; history = history; moment = max m moment }) server server' output out (max m moment) moment (x ∷ messages) draws served.requests message d reply asked asks (omega arith)
+    served.asked served.draws served.answered served.output_is served.fits served.noted steps
 
 -- bytes in which there is no message are heard
 pub heard_none : {H S : Type 0} (hosting : Hosting H) (sources : Sources S) (server : SeenServer H) (source : S) (lane lane' : SeenLane) (bytes : List ℕ) (moment : ℕ) → IsStillNone bytes →

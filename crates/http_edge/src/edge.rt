@@ -10,7 +10,7 @@ ghost use Rattle.http_edge.specs.LanesParts.{fresh_lane, without_lane, is_closin
 ghost use Rattle.http_edge.specs.Places.{AreApart};
 ghost use Rattle.http_edge.specs.PlacesParts.{IsPosition};
 ghost use Rattle.http_edge.specs.Edges.{output_of, unkept_of};
-ghost use Rattle.http_edge.specs.EdgesParts.{IsOpenRefusal, IsEndRefusal, IsBytesRefusal};
+ghost use Rattle.http_edge.specs.EdgesParts.{GivenWithMore, IsOpenRefusal, IsEndRefusal, IsBytesRefusal};
 ghost use Rattle.http_edge.specs.Reached.{BeginsOver, ResumesOver, InEach, HappeningLeads, is_closing, IsHeld};
 ghost use Rattle.http_edge.specs.Pieces.{PieceGiven, RefusesPiece, supplied};
 ghost use Rattle.http_edge.specs.Events.{EventLeads};
@@ -271,7 +271,7 @@ impl<H: HookHost> Edge<H> {
         moment: Moment,
         source: &mut S,
     ) -> Result<(), EdgeFault>
-        ensures given { OnOk result (PieceGiven H.HookHost S.DrawSource (supplied self.old source.old)
+        ensures given { OnOk result (GivenWithMore H.HookHost S.DrawSource (supplied self.old source.old)
             (piece_of c piece.now moment) (supplied self.new source.new)) }
         ensures refused { IfErr result (λ fault. IsBytesRefusal fault self.old.lanes c piece.now (S.supply source.old)) }
         ensures err { OnErr result (self.new ≡ self.old) }
@@ -352,7 +352,7 @@ impl<H: HookHost> Edge<H> {
                 piece,
                 moment,
                 draws,
-            } => self.hear(connection, piece, moment, &mut DrawList::new(draws)),
+            } => self.hear_piece(connection, piece, moment, &mut DrawList::new(draws)),
             Event::End(c) => self.end(c),
         }
     }

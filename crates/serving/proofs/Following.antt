@@ -1,20 +1,14 @@
 -- What is done for a connection is a schedule's.
-use Rattle.std.proofs.Common.{ℕ, List, [], ◌∷◌, ◌++◌, Option, append_assoc, append-nil, sym, subst}
+use Rattle.std.proofs.Common.{ℕ, List, [], ◌∷◌, ◌++◌, Option, append_assoc, append-nil}
 use Rattle.hook_host.specs.declared.host.HookHost.{Ghosts as Hosting}
 use Rattle.http_edge.specs.Schedule.{World, Happening}
 use Rattle.http_edge.specs.Edges.{SeenEdge}
 use Rattle.http_edge.specs.Reached.{Journey, Reached, GoesOn, HappeningLeads, led_on}
-use Rattle.serving.specs.Served.{EdgeStream, ServingScene, ServingStep, StreamService, Runs, WritesFronts, LeadsOn, none, more, begins, goes, opens, denies, hears, refuses, loses_time, breaks, finishes, stops, closes, ends, ends_nothing, is_over, writes, fails_to_write, forgets}
+use Rattle.serving.specs.Served.{EdgeStream, ServingScene, ServingStep, StreamService, Runs, WritesFronts, LeadsOn, none, more, begins, goes, opens, hears, ends, writes, fails_to_write, forgets}
 
 module _ {H : Type 0} (hosting : Hosting H) (journey : Journey H) where
   happened : (events : List Happening) (edge : SeenEdge H) (old : World) (x : Happening) → GoesOn hosting edge (led_on journey events old) x → LeadsOn hosting edge journey
-  happened events edge old x on = record {
-    events = events ++ x ∷ [];
-    world = on.world;
-    reached =
-        (let P : List Happening → Type 0 = λ es. Reached hosting edge (record { outset = journey.outset; schedule = es; world = on.world }) in
-        subst P (append_assoc journey.schedule events (x ∷ [])) on.reached);
-  }
+  happened events edge old x on = record { events = events ++ x ∷ []; world = on.world; reached = rw append_assoc at on.reached }
 
   one_more : (e e' : SeenEdge H) (x : Happening) → HappeningLeads hosting e e' x → LeadsOn hosting e journey → LeadsOn hosting e' journey
   one_more e e' x leads l = happened l.events e' l.world x (leads (led_on journey l.events l.world) l.reached)
@@ -27,22 +21,14 @@ module _ {H S : Type 0} (t : StreamService H S) (journey : Journey H) where
 module _ {H S C : Type 0} (t : StreamService H S) (tells : C → Option ℕ → C → Type 0) (journey : Journey H) where
   step_leads : (old new : ServingScene H S C) → ServingStep t tells old new → LeadsOn t.hosting old.edge journey → LeadsOn t.hosting new.edge journey
   step_leads old new (opens leads) l = one_more t.hosting journey _ _ _ leads l
-  step_leads old new (denies fault refused) l = l
   step_leads old new (hears n piece moment few attentive some short done told given) l =
       let on = given.leads (led_on journey l.events l.world) l.reached in
       happened t.hosting journey l.events _ l.world _ on.on
-  step_leads old new (refuses n piece moment fault few attentive some short done told refused) l = l
-  step_leads old new (loses_time n piece few attentive some short done told) l = l
-  step_leads old new (breaks n few attentive done) l = l
-  step_leads old new (finishes n few attentive done) l = l
-  step_leads old new stops l = l
-  step_leads old new (closes n written closing) l = l
   step_leads old new (ends leads) l = one_more t.hosting journey _ _ _ leads l
-  step_leads old new (ends_nothing fault refused) l = l
-  step_leads old new (is_over written) l = l
   step_leads old new (writes stage may w) l = writes_lead t journey _ _ w.writes l
   step_leads old new (fails_to_write stage may w) l = writes_lead t journey _ _ w.writes l
   step_leads old new (forgets fault leads gone) l = one_more t.hosting journey _ _ _ leads l
+  step_leads _ _ _ l = l
 
   runs_lead : (old new : ServingScene H S C) → Runs t tells old new → LeadsOn t.hosting old.edge journey → LeadsOn t.hosting new.edge journey
   runs_lead old new begins l = l
@@ -53,10 +39,4 @@ pub leads_on : {H S C : Type 0} (t : StreamService H S) (tells : C → Option �
     Runs t tells old new → (journey : Journey H) → Reached t.hosting old.edge journey → LeadsOn t.hosting new.edge journey
 leads_on t tells old new run journey reached =
     runs_lead t tells journey old new run
-    (record {
-      events = [];
-      world = journey.world;
-      reached =
-          (let P : List Happening → Type 0 = λ es. Reached t.hosting old.edge (record { outset = journey.outset; schedule = es; world = journey.world }) in
-          subst P (sym (append-nil journey.schedule)) reached);
-    })
+    (record { events = []; world = journey.world; reached = rw append-nil reached })

@@ -1,13 +1,6 @@
 -- Faults behind the first line are a transcript's faults.
 use Rattle.std.proofs.Common.{◌≢◌, ℕ, List, Result, Ok, Err, IfErr, inr}
-use Rattle.hook_host.specs.declared.host.HookHost.{Ghosts as Hosting}
-use Rattle.clients.specs.RegistryRecord.{RegistryRecord}
-use Rattle.endpoints.specs.Server.{outset_of}
-use Rattle.http_edge.specs.Edges.{SeenEdge}
-use Rattle.http_edge.specs.Reached.{Reached, new_journey}
-use Rattle.transcript.specs.Replays.{Configures, Stops, IsReplayFault}
-use Rattle.transcript.specs.Running.{LinesFail}
-use Rattle.transcript.specs.declared.fault.ReplayFault.{ReplayFault}
+use Rattle.transcript.proofs.Names.{Hosting, RegistryRecord, outset_of, SeenEdge, Reached, new_journey, Configures, Stops, IsReplayFault, LinesFail, ReplayFault}
 use Rattle.transcript.specs.declared.fault.ReplayFault.TheVariants.{Config, BadLine, Refused, Memory}
 
 later_fault : {H : Type 0} (hosting : Hosting H) (first : H) (text : List ℕ) (rules : RegistryRecord) (later : List (List ℕ)) (fault : ReplayFault) → Configures text rules later

@@ -5,3 +5,4 @@ pub mod Leading
 pub mod Printing
 pub mod Appending
 pub mod Failing
+pub mod Names

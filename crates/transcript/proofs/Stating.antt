@@ -1,12 +1,9 @@
 -- Words of a piece, and what else they could state.
 use Rattle.std.proofs.Common.{◌≡◌, ℕ, List, [], ◌∷◌, codes, Option, Some, None, Result, IfOk, Bor, ◌≤◌, ◌<◌, length, get_or, map, refl, subst, arith}
-use Rattle.std.specs.Option.{option_map}
-use Rattle.messages.specs.declared.request.Draws.{Draws}
+use Rattle.transcript.proofs.Names.{option_map, Draws, SpellsDraws, SpellsPiece, Statement, Opens, Brings, Ends, WordsState}
 use Rattle.transcript.specs.Numbers.{IsConnection, IsMomentWord}
-use Rattle.transcript.specs.Pieces.{SpellsDraws, SpellsPiece}
 use Rattle.transcript.specs.declared.line.Line.{Line}
 use Rattle.transcript.specs.Seen.{stated}
-use Rattle.transcript.specs.Lines.{Statement, Opens, Brings, Ends, WordsState}
 
 abbrev pub piece_words : List ℕ → List ℕ → List ℕ → List ℕ → List ℕ → List (List ℕ)
 piece_words name number seconds drawn hex = name ∷ number ∷ seconds ∷ drawn ∷ hex ∷ []
@@ -88,10 +85,5 @@ same_words r words same e h = subst (λ w. IfOk r (λ o. (other : Statement) →
 -- five words
 pub five_words : (words : List (Bor (List ℕ))) (d : Bor (List ℕ)) → 5 ≤ length words → length words < 6
     → piece_words (get_or words 0 d).now (get_or words 1 d).now (get_or words 2 d).now (get_or words 3 d).now (get_or words 4 d).now ≡ map (λ word. word.now) words
-five_words [] d at_least below = absurd (omega arith)
-five_words (a ∷ []) d at_least below = absurd (omega arith)
-five_words (a ∷ b ∷ []) d at_least below = absurd (omega arith)
-five_words (a ∷ b ∷ c ∷ []) d at_least below = absurd (omega arith)
-five_words (a ∷ b ∷ c ∷ e ∷ []) d at_least below = absurd (omega arith)
 five_words (a ∷ b ∷ c ∷ e ∷ f ∷ []) d at_least below = refl
-five_words (a ∷ b ∷ c ∷ e ∷ f ∷ g ∷ more) d at_least below = absurd (omega arith)
+five_words _ d at_least below = absurd (omega arith)

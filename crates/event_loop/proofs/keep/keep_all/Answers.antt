@@ -1,10 +1,5 @@
 use Rattle.std.proofs.Common.{arith, inr, ◌∷◌, [], refl}
-use Rattle.http_edge.specs.Schedule.{Kept}
-use Rattle.http_edge.specs.Reached.{led_on}
-use Rattle.event_loop.specs.LoopStates.{promises}
-use Rattle.event_loop.specs.Served.{goes, keeps}
-use Rattle.event_loop.specs.Ends.{not_kept}
-use Rattle.endpoints.specs.Keeping.{keeping}
+use Rattle.event_loop.proofs.Names.{Kept, led_on, promises, goes, keeps, not_kept, keeping}
 use Rattle.event_loop.specs.Calls as call
 use Rattle.event_loop.proofs.Answering.{served_answered}
 use Rattle.event_loop.proofs.Doing.{none_more, not_another}

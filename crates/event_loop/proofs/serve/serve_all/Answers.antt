@@ -1,15 +1,6 @@
 use Rattle.std.proofs.Common.{[], None, Some, ap, inl, inr, refl, sym, subst, ◌∙◌, ℕ, ◌≡◌}
-use Rattle.change_codec.specs.Keeping.{TellsBasis}
-use Rattle.event_loop.specs.declared.clocks.Times.{Times}
-use Rattle.event_loop.specs.Places.{IsOccupied}
-use Rattle.event_loop.specs.Closing.{AreWithin}
-use Rattle.event_loop.specs.LoopStates.{LoopState, promises}
-use Rattle.event_loop.specs.Served.{IsFirst, begins, stops}
-use Rattle.event_loop.specs.Goes.{Past, IsReadyToWait, running, state_of}
-use Rattle.event_loop.specs.declared.queue.Queue.TheVariants.{Told, Empty, Barred}
-use Rattle.event_loop.specs.Durable.{Onward}
-use Rattle.event_loop.specs.declared.report.LastTold.{LastTold}
-use Rattle.endpoints.specs.Keeping.{keeping}
+use Rattle.event_loop.proofs.Names.{TellsBasis, Times, IsOccupied, AreWithin, LoopState, promises, IsFirst, begins, stops, Past, IsReadyToWait, running, state_of, Told, Empty, Barred, Onward}
+use Rattle.event_loop.proofs.Names.{LastTold, keeping}
 use Rattle.event_loop.proofs.Answering.{served_answered}
 use Rattle.event_loop.proofs.Resting.{free_rests}
 use Rattle.event_loop.proofs.Leading.{rested_settled}

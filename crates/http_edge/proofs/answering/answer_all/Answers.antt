@@ -1,21 +1,16 @@
 use Rattle.std.proofs.Common.{◌≡◌, ◌≤◌, ◌+◌, ◌-◌, ℕ, List, ◌++◌, [], ◌∷◌, length, take, drop, refl, ap, ◌∙◌, sym, arith, length-append}
-use Rattle.std.proofs.lemmas.List.{length-drop, drop-drop}
-use Rattle.messages.specs.declared.request.Draws.{Draws}
-use Rattle.messages.specs.Asked.{Asked, asked_of}
-use Rattle.messages.specs.Written.{reply_bytes}
-use Rattle.heads.specs.Message.{Message, BeginsWithMessage, HasNone, asked_of_message}
+use Rattle.http_edge.proofs.Names.{take_all, length-drop, drop-drop, Draws, Asked, asked_of, reply_bytes, Message, BeginsWithMessage, HasNone, asked_of_message, reads_push, reads_next, reads_same}
+use Rattle.http_edge.proofs.Names.{front_whole, AreFirst, first_requests, demand_of, draws_for, draws_behind}
 use Rattle.heads.specs.Front.{IsFront, IsFoundWithin, IsWholeAt}
 use Rattle.heads.specs.declared.front.Found.{Found}
-use Rattle.heads.specs.ReadingLaws.{reads_push, reads_next, reads_same}
-use Rattle.heads.specs.WaitingLaws.{front_whole}
-use Rattle.http_edge.proofs.Fronts.{tail_is, target_fits}
+use Rattle.httparse.specs.Grammar.{RequestHead, print_request}
 use Rattle.http_edge.specs.declared.source.Demand.{Demand}
-use Rattle.http_edge.specs.Heard.{AreFirst, first_requests}
-use Rattle.http_edge.specs.Sources.{demand_of, draws_for, draws_behind}
 use Rattle.http_edge.proofs.Serving.{served_none, served_push}
-use Rattle.http_edge.proofs.Drawing.{draws_push, behind_push}
-use Rattle.http_edge.proofs.Supplying.{suffices_one, suffices_behind, suffices_for}
+use Rattle.http_edge.proofs.Drawing.{draws_push, behind_push, fewer_suffice, suffices_behind}
 use Rattle.http_edge.proofs.answering.answer_all.Goals as goal
+
+tail_is : (n : ℕ) (bytes : List ℕ) → take (length bytes - n) (drop n bytes) ≡ drop n bytes
+tail_is n bytes = take_all _ _ (let l = length-drop n bytes in omega (arith, l))
 
 pub front_of-requires : goal.front_of-requires
 front_of-requires g c = λ none. rw (tail_is c.loop-i.start c.args.bytes.now, c.loop-i.invariant.front none) c.requires.first
@@ -42,10 +37,15 @@ loop-i-init g c = record {
   front = λ e. refl;
   served = λ outset history m fits. served_none g.H.HookHost c.args.server.now c.args.output.now.items c.args.moment outset history m fits;
   drawn = refl;
-  left = suffices_for _ c.args.count (c.args.count - 0) (omega arith) c.requires.draws;
+  left = fewer_suffice _ c.args.count (c.args.count - 0) (omega arith) c.requires.draws;
   len = omega arith;
   room = omega arith;
 }
+
+-- a target is no longer than its head
+target_fits : (head : RequestHead) → length head.target ≤ length (print_request head)
+unfolding print_request
+target_fits head = simp length-append (omega arith)
 
 -- a message's target is small
 target_small : (f : Found) (bytes : List ℕ) (m : Message) {q : Asked} → q ≡ asked_of_message m → IsWholeAt bytes f m → length q.target ≤ 8192
@@ -68,7 +68,7 @@ push-requires g c =
     omega (arith, short, len, room, test, enough)
 
 pub draw-draws-requires : goal.draw-draws-requires
-draw-draws-requires g c = suffices_one _ c.args.count c.loop-i.i (omega (arith, c.loop-i-test.true)) c.loop-i.invariant.left
+draw-draws-requires g c = fewer_suffice _ (c.args.count - c.loop-i.i) 1 (omega (arith, c.loop-i-test.true)) c.loop-i.invariant.left
 
 pub loop-i-preserved : goal.loop-i-preserved
 loop-i-preserved g c =

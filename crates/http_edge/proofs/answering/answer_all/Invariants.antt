@@ -1,8 +1,5 @@
 use Rattle.std.proofs.Common.{◌≡◌, ◌≤◌, ◌+◌, ◌*◌, ◌-◌, List, drop, length, vec_len, vec_capacity}
-use Rattle.heads.specs.Message.{Message, ReadsMessages}
-use Rattle.http_edge.specs.Heard.{ServesMessages, drawn_for, replying}
-use Rattle.http_edge.specs.Sources.{draws_behind}
-use Rattle.http_edge.specs.Supply.{Suffices}
+use Rattle.http_edge.proofs.Names.{Message, ReadsMessages, ServesMessages, drawn_for, replying, draws_behind, Suffices}
 use Rattle.http_edge.proofs.answering.answer_all.Given as goal
 
 abbrev pub invariant-loop-i : goal.invariant-loop-i

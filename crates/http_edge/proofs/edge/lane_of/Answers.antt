@@ -1,6 +1,5 @@
 use Rattle.std.proofs.Common.{◌∙◌, sym, ap}
-use Rattle.std.specs.Option.{option_copied}
-use Rattle.http_edge.specs.PlacesParts.{IsPlace}
+use Rattle.http_edge.proofs.Names.{option_copied, IsPlace}
 use Rattle.http_edge.proofs.Placing.{got_lane}
 use Rattle.http_edge.proofs.edge.lane_of.Goals as goal
 

@@ -1,6 +1,5 @@
 use Rattle.std.proofs.Common.{◌∙◌, sym, ap}
-use Rattle.std.proofs.lemmas.Bool.{eqb-true}
-use Rattle.http_edge.specs.Lanes.{SeenLane}
+use Rattle.http_edge.proofs.Names.{eqb-true, SeenLane}
 use Rattle.http_edge.proofs.Placing.{place_is, place_there}
 use Rattle.http_edge.proofs.edge.place_of.Goals as goal
 

@@ -1,8 +1,7 @@
 use Rattle.std.proofs.Common.{rules, ◌≡◌, ℕ, List, drop, ap, ◌∙◌, arith}
+use Rattle.http_edge.proofs.Names.{SeenRest, AreFirst, ServesMessages, drawn_for, first_requests, replying}
 use Rattle.heads.specs.Scan.{IsScan}
-use Rattle.http_edge.specs.Rests.{SeenRest}
-use Rattle.http_edge.specs.Heard.{AreFirst, ServesMessages, drawn_for, first_requests, replying}
-use Rattle.http_edge.proofs.Supplying.{suffices_for}
+use Rattle.http_edge.proofs.Drawing.{fewer_suffice}
 use Rattle.http_edge.proofs.hearing.answer_bytes.Goals as goal
 
 pub returns-clause-heard : goal.returns-clause-heard
@@ -27,7 +26,7 @@ returns-clause-heard g c =
         may_tell = λ e. (all.hopeless e, all.may e);
         must_tell = all.must;
       };
-      enough = suffices_for _ _ _ count c.in_default.ensures.enough;
+      enough = fewer_suffice _ scan.count _ (omega (arith, count)) c.in_default.ensures.enough;
       middle = c.answer_all.new.output.items;
       serves = rw output at serves;
       output_is = c.give_back.ensures ∙ c.tell.ensures;

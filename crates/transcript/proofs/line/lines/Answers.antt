@@ -1,8 +1,6 @@
 use Rattle.std.proofs.Common.{◌≡◌, lit<, ◌∙◌, ap, ℕ, List, Bor}
-use Rattle.std.proofs.lemmas.Iterator.Consumers.{map_from_collect}
-use Rattle.std.proofs.lemmas.Iterator.Splits.{YieldsList-from_str_split}
+use Rattle.transcript.proofs.Names.{map_from_collect, YieldsList-from_str_split, strip_last}
 use Rattle.std.proofs.lemmas.Str.Pattern.{strip_suffix_char}
-use Rattle.std.specs.Io.BufRead.{strip_last}
 use Rattle.transcript.proofs.Feeds.{without_feed}
 use Rattle.transcript.proofs.line.lines.Goals as goal
 

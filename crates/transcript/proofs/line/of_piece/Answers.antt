@@ -1,6 +1,5 @@
 use Rattle.std.proofs.Common.{◌≡◌, ℕ, List, None, Some}
-use Rattle.messages.specs.declared.request.Draws.{Draws}
-use Rattle.transcript.specs.Pieces.{SpellsDraws, SpellsPiece}
+use Rattle.transcript.proofs.Names.{Draws, SpellsDraws, SpellsPiece}
 use Rattle.transcript.proofs.Stating.{no_draws, same_piece}
 use Rattle.transcript.proofs.line.of_piece.Goals as goal
 

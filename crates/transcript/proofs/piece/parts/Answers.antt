@@ -1,6 +1,5 @@
 use Rattle.std.proofs.Common.{lit<}
-use Rattle.std.proofs.lemmas.Iterator.Consumers.{map_from_collect}
-use Rattle.std.proofs.lemmas.Iterator.Splits.{YieldsList-from_str_split}
+use Rattle.transcript.proofs.Names.{map_from_collect, YieldsList-from_str_split}
 use Rattle.transcript.proofs.piece.parts.Goals as goal
 
 pub returns : goal.returns

@@ -1,12 +1,5 @@
 use Rattle.std.proofs.Common.{ℕ, List, Result, Ok, Err, IfOk, rules}
-use Rattle.hook_host.specs.declared.host.HookHost.{Ghosts as Hosting}
-use Rattle.clients.specs.RegistryRecord.{RegistryRecord}
-use Rattle.endpoints.specs.Server.{outset_of}
-use Rattle.http_edge.specs.Edges.{SeenEdge}
-use Rattle.http_edge.specs.Reached.{Reached, new_journey}
-use Rattle.transcript.specs.Replays.{Configures, IsReplay}
-use Rattle.transcript.specs.Running.{AnswersLines}
-use Rattle.transcript.specs.declared.fault.ReplayFault.{ReplayFault}
+use Rattle.transcript.proofs.Names.{Hosting, RegistryRecord, outset_of, SeenEdge, Reached, new_journey, Configures, IsReplay, AnswersLines, ReplayFault}
 use Rattle.transcript.proofs.Leading.{texts}
 use Rattle.transcript.proofs.Failing.{fails_later}
 use Rattle.transcript.proofs.running.replay_on.Goals as goal

@@ -1,6 +1,5 @@
 use Rattle.std.proofs.Common.{◌≡◌, ◌<◌, ◌-◌, arith, false, inl, inr, length, refl, rules, subst, sym, Some, ap, ◌∙◌, slice_get}
-use Rattle.std.proofs.lemmas.Option.{slice_get-get_or}
-use Rattle.std.proofs.lemmas.Bool.Decides.{eqb_tells}
+use Rattle.event_loop.proofs.Names.{slice_get-get_or, eqb_tells}
 use Rattle.event_loop.proofs.Putting.{put_more}
 use Rattle.event_loop.proofs.due.DuePlaces.remove.Goals as goal
 

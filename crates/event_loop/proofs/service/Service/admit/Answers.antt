@@ -1,14 +1,7 @@
 use Rattle.std.proofs.Common.{inl, arith, ◌≡◌, ◌∷◌, [], Some, refl, sym, subst, inr, ◌∙◌, slice_set}
-use Rattle.event_loop.specs.Places.{IsPlaceAtRest}
-use Rattle.http_edge.specs.Schedule.{Opened, connection_at, fresh}
-use Rattle.http_edge.specs.Reached.{led_on}
-use Rattle.event_loop.specs.LoopStates.{promises}
-use Rattle.event_loop.specs.declared.service.Service.{Service}
-use Rattle.event_loop.specs.Coming.{opens, denies, finds_nobody, fresh_place, fails}
-use Rattle.event_loop.specs.Served.{goes, comes}
-use Rattle.event_loop.specs.Goes.{Past, noted_in}
-use Rattle.event_loop.specs.declared.queue.Queue.TheVariants.{Told, Barred, Waits}
-use Rattle.endpoints.specs.Keeping.{keeping}
+use Rattle.event_loop.proofs.Names.{IsPlaceAtRest, Opened, connection_at, fresh, led_on, promises, Service, opens, denies, finds_nobody, fresh_place, goes, comes, Past, noted_in, Told, Barred, Waits}
+use Rattle.event_loop.proofs.Names.{keeping}
+use Rattle.event_loop.specs.Coming.{fails}
 use Rattle.event_loop.specs.declared.sockets.Accepted.TheVariants as accepted
 use Rattle.event_loop.specs.Calls as call
 use Rattle.event_loop.proofs.Doing.{one_more, done_then}

@@ -1,8 +1,5 @@
 use Rattle.std.proofs.Common.{◌∙◌, ◌∷◌, inl, inr, refl, arith}
-use Rattle.event_loop.specs.LoopStates.{promises}
-use Rattle.event_loop.specs.Coming.{asks}
-use Rattle.event_loop.specs.Served.{goes, comes}
-use Rattle.endpoints.specs.Keeping.{keeping}
+use Rattle.event_loop.proofs.Names.{promises, asks, goes, comes, keeping}
 use Rattle.event_loop.specs.Calls as call
 use Rattle.event_loop.proofs.Doing.{done_then, one_more}
 use Rattle.event_loop.proofs.Leading.{nowhere, accepts_then}

@@ -1,9 +1,5 @@
 use Rattle.std.proofs.Common.{ℕ, ◌<◌, ◌≡◌}
-use Rattle.event_loop.specs.Closing.{AreWithin}
-use Rattle.event_loop.specs.LoopStates.{promises}
-use Rattle.event_loop.specs.Goes.{IsTried, LeadsToAccepts, running}
-use Rattle.event_loop.specs.declared.queue.Queue.TheVariants.{Waits}
-use Rattle.endpoints.specs.Keeping.{keeping}
+use Rattle.event_loop.proofs.Names.{AreWithin, promises, IsTried, LeadsToAccepts, running, Waits, keeping}
 use Rattle.event_loop.proofs.service.Service.admit_all.Given as goal
 
 abbrev pub invariant-loop-nth : goal.invariant-loop-nth

@@ -1,6 +1,5 @@
 use Rattle.std.proofs.Common.{rules, ap, ◌∷◌, arith, ◌≤◌, length, refl, true, slice_set}
-use Rattle.std.proofs.lemmas.Option.{slice_get_past}
-use Rattle.event_loop.specs.Served.{told_place, goes, hears_of_listener, hears_of, hears_of_none}
+use Rattle.event_loop.proofs.Names.{slice_get_past, told_place, goes, hears_of_listener, hears_of, hears_of_none}
 use Rattle.event_loop.proofs.Putting.{put_still}
 use Rattle.event_loop.proofs.Resting.{told_rested}
 use Rattle.event_loop.proofs.service.Service.hear.Goals as goal

@@ -1,9 +1,5 @@
 use Rattle.std.proofs.Common.{◌+◌, arith, subst, drop, add-one, drop-cons, ◌∷◌, ◌≡◌, List}
-use Rattle.std.proofs.lemmas.List.{drop_all}
-use Rattle.event_loop.specs.LoopStates.{promises}
-use Rattle.event_loop.specs.declared.sockets.Ready.{Ready}
-use Rattle.event_loop.specs.Goes.{LeadsToHearing, running}
-use Rattle.endpoints.specs.Keeping.{keeping}
+use Rattle.event_loop.proofs.Names.{drop_all, promises, Ready, LeadsToHearing, running, keeping}
 use Rattle.event_loop.proofs.service.Service.hear_all.Goals as goal
 
 pub loop-index-init : goal.loop-index-init

@@ -1,7 +1,5 @@
 use Rattle.std.proofs.Common.{drop}
-use Rattle.event_loop.specs.LoopStates.{promises}
-use Rattle.event_loop.specs.Goes.{NobodyIsSilent, LeadsToHearing, running}
-use Rattle.endpoints.specs.Keeping.{keeping}
+use Rattle.event_loop.proofs.Names.{promises, NobodyIsSilent, LeadsToHearing, running, keeping}
 use Rattle.event_loop.proofs.service.Service.hear_all.Given as goal
 
 abbrev pub invariant-loop-index : goal.invariant-loop-index

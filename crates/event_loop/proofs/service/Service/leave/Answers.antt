@@ -1,8 +1,5 @@
 use Rattle.std.proofs.Common.{◌∷◌, []}
-use Rattle.event_loop.specs.Closing.{leaves}
-use Rattle.http_edge.specs.Schedule.{Forgotten}
-use Rattle.http_edge.specs.Reached.{led_on}
-use Rattle.event_loop.specs.Goes.{noted_in}
+use Rattle.event_loop.proofs.Names.{leaves, Forgotten, led_on, noted_in}
 use Rattle.event_loop.specs.Calls as call
 use Rattle.event_loop.proofs.service.Service.leave.Goals as goal
 

@@ -1,8 +1,5 @@
 use Rattle.std.proofs.Common.{ℕ, ◌<◌, ◌≡◌, length}
-use Rattle.event_loop.specs.Places.{IsFreeAt}
-use Rattle.event_loop.specs.LoopStates.{promises}
-use Rattle.event_loop.specs.Goes.{LeadsShut, running}
-use Rattle.endpoints.specs.Keeping.{keeping}
+use Rattle.event_loop.proofs.Names.{IsFreeAt, promises, LeadsShut, running, keeping}
 use Rattle.event_loop.proofs.service.Service.leave_all.Given as goal
 
 abbrev pub invariant-loop-k : goal.invariant-loop-k

@@ -1,13 +1,5 @@
 use Rattle.std.proofs.Common.{◌≡◌, ◌-◌, ap, sym, subst, ◌∙◌, arith, ◌<◌}
-use Rattle.event_loop.specs.declared.place.Place.{Place}
-use Rattle.event_loop.specs.Places.{IsOccupied}
-use Rattle.event_loop.specs.Closing.{AreWithin, IsSilentLongest, gives_way, freed_queue}
-use Rattle.std.proofs.lemmas.Option.{same_Some}
-use Rattle.event_loop.specs.LoopStates.{promises}
-use Rattle.event_loop.specs.declared.place.Stage.TheVariants.{Free}
-use Rattle.event_loop.specs.declared.service.Service.{Service}
-use Rattle.event_loop.specs.declared.queue.Queue.TheVariants.{Told, Waits}
-use Rattle.endpoints.specs.Keeping.{keeping}
+use Rattle.event_loop.proofs.Names.{Place, IsOccupied, AreWithin, IsSilentLongest, gives_way, freed_queue, same_Some, promises, Free, Service, Told, Waits, keeping}
 use Rattle.event_loop.proofs.Leaving.{leaves_to}
 use Rattle.event_loop.proofs.Putting.{put_within}
 use Rattle.event_loop.proofs.service.Service.make_room.Goals as goal

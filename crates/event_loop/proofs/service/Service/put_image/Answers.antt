@@ -1,11 +1,5 @@
 use Rattle.std.proofs.Common.{rules, arith, ◌≡◌, ◌-◌, ◌∙◌, ℕ, true, false, Err, Some, sym, ap, subst, nat_le}
-use Rattle.event_loop.specs.LoopStates.{promises}
-use Rattle.event_loop.specs.declared.service.Service.{Service}
-use Rattle.event_loop.specs.Served.{Served, goes, no_image, puts_image}
-use Rattle.event_loop.specs.Goes.{running, state_of}
-use Rattle.event_loop.specs.Ends.{not_imaged}
-use Rattle.endpoints.specs.Keeping.{keeping}
-use Rattle.event_loop.specs.Reporting.{is_long_ago}
+use Rattle.event_loop.proofs.Names.{promises, Service, Served, goes, no_image, puts_image, running, state_of, not_imaged, keeping, is_long_ago}
 use Rattle.endpoints.specs.declared.image_keeper.ImageFault.{ImageFault}
 use Rattle.event_loop.proofs.Answering.{served_answered}
 use Rattle.event_loop.proofs.service.Service.put_image.Goals as goal

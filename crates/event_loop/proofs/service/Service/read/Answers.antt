@@ -1,11 +1,6 @@
 use Rattle.std.proofs.Common.{rules, ◌≡◌, ◌∷◌, [], ℕ, List, length, take, ap, refl, subst, sym, ◌∙◌, arith}
-use Rattle.event_loop.specs.Places.{read_limit}
-use Rattle.http_edge.specs.Schedule.{HasEnded}
-use Rattle.http_edge.specs.Reached.{led_on}
-use Rattle.event_loop.specs.LoopStates.{promises}
-use Rattle.event_loop.specs.Goes.{to_read}
-use Rattle.event_loop.specs.Reading.{hears, refuses, ends, ends_nothing, finds_nothing, read_place, fails}
-use Rattle.endpoints.specs.Keeping.{keeping}
+use Rattle.event_loop.proofs.Names.{read_limit, HasEnded, led_on, promises, to_read, hears, refuses, ends, ends_nothing, finds_nothing, read_place, keeping}
+use Rattle.event_loop.specs.Reading.{fails}
 use Rattle.event_loop.specs.Calls as call
 use Rattle.event_loop.proofs.Acting.{idle_acts, read_acts}
 use Rattle.event_loop.proofs.Answering.{served_answered}

@@ -1,10 +1,5 @@
 use Rattle.std.proofs.Common.{arith, ◌≡◌, inl, inr, refl, Some, ap, subst, ◌∙◌, slice_get}
-use Rattle.event_loop.specs.Places.{NeedsNoRead}
-use Rattle.std.proofs.lemmas.Bool.{cases_lt}
-use Rattle.event_loop.specs.LoopStates.{promises}
-use Rattle.event_loop.specs.Goes.{IsHeardAt, to_read}
-use borrow.Author.Count.{below_more}
-use Rattle.endpoints.specs.Keeping.{keeping}
+use Rattle.event_loop.proofs.Names.{NeedsNoRead, cases_lt, promises, IsHeardAt, to_read, below_more, keeping}
 use Rattle.event_loop.proofs.Doing.{on_still, on_then}
 use Rattle.event_loop.proofs.Leading.{rested_next, rested_heard, reading_other}
 use Rattle.event_loop.proofs.Resting.{heard_other, still_holds}

@@ -1,7 +1,5 @@
 use Rattle.std.proofs.Common.{◌≡◌}
-use Rattle.event_loop.specs.LoopStates.{promises}
-use Rattle.event_loop.specs.Goes.{LeadsReading, running}
-use Rattle.endpoints.specs.Keeping.{keeping}
+use Rattle.event_loop.proofs.Names.{promises, LeadsReading, running, keeping}
 use Rattle.event_loop.proofs.service.Service.read_all.Given as goal
 
 abbrev pub invariant-loop-k : goal.invariant-loop-k

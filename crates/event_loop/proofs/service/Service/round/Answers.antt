@@ -1,12 +1,6 @@
 use Rattle.std.proofs.Common.{rules, add-one, ap, ◌≤◌, ◌-◌, ◌∷◌, take, arith, length, ◌≡◌, subst, sym, ◌∙◌, []}
-use Rattle.event_loop.specs.Closing.{AreWithin}
-use Rattle.event_loop.specs.LoopStates.{promises}
-use Rattle.event_loop.specs.declared.service.Service.{Service}
-use Rattle.event_loop.specs.Calls.{Accepting, IsDone}
-use Rattle.event_loop.specs.Served.{goes, waits}
-use Rattle.event_loop.specs.Goes.{Past, running, state_of}
-use Rattle.event_loop.specs.Ends.{no_wait, no_time, no_moment}
-use Rattle.endpoints.specs.Keeping.{keeping}
+use Rattle.event_loop.proofs.Names.{AreWithin, promises, Service, Accepting, IsDone, goes, Past, running, state_of, no_wait, no_time, no_moment, keeping}
+use Rattle.event_loop.specs.Served.{waits}
 use Rattle.event_loop.specs.declared.limits.Limits.{Limits}
 use Rattle.event_loop.specs.Calls as call
 use Rattle.event_loop.proofs.Leading.{to_then, kept_then}

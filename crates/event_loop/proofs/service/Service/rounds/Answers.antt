@@ -1,6 +1,5 @@
 use Rattle.std.proofs.Common.{[], arith}
-use Rattle.event_loop.specs.Goes.{running, state_of}
-use Rattle.event_loop.specs.Ends.{no_more}
+use Rattle.event_loop.proofs.Names.{running, state_of, no_more}
 use Rattle.event_loop.proofs.service.Service.rounds.Goals as goal
 
 pub loop-nth-init : goal.loop-nth-init

@@ -1,6 +1,4 @@
-use Rattle.event_loop.specs.LoopStates.{promises}
-use Rattle.event_loop.specs.Goes.{LeadsRound, running}
-use Rattle.endpoints.specs.Keeping.{keeping}
+use Rattle.event_loop.proofs.Names.{promises, LeadsRound, running, keeping}
 use Rattle.event_loop.proofs.service.Service.rounds.Given as goal
 
 abbrev pub invariant-loop-nth : goal.invariant-loop-nth

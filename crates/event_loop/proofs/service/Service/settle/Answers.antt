@@ -1,12 +1,5 @@
 use Rattle.std.proofs.Common.{subst, ◌≡◌, true, false, length, refl, ap, sym, ◌∙◌, slice_get, slice_set}
-use Rattle.event_loop.specs.Places.{IsOver}
-use Rattle.http_edge.specs.Schedule.{connection_at}
-use Rattle.event_loop.specs.LoopStates.{promises}
-use Rattle.event_loop.specs.declared.place.Stage.TheVariants.{Free}
-use Rattle.event_loop.specs.declared.service.Service.{Service}
-use Rattle.event_loop.specs.Served.{goes, closes}
-use Rattle.event_loop.specs.Goes.{NobodyIsSilent}
-use Rattle.endpoints.specs.Keeping.{keeping}
+use Rattle.event_loop.proofs.Names.{IsOver, connection_at, promises, Free, Service, goes, closes, NobodyIsSilent, keeping}
 use Rattle.event_loop.specs.Closing as closing
 use Rattle.event_loop.proofs.Answering.{served_answered}
 use Rattle.event_loop.proofs.Doing.{closes_done, closes_some, closes_alone}

@@ -1,14 +1,5 @@
 use Rattle.std.proofs.Common.{rules, ◌≡◌, ◌≤◌, ◌<◌, ◌-◌, ◌+◌, ◌∙◌, ℕ, length, ap, refl, sym, subst, inl, inr, arith, length-set}
-use Rattle.event_loop.specs.declared.place.Place.{Place}
-use Rattle.event_loop.specs.Places.{IsOccupied}
-use Rattle.event_loop.specs.Closing.{is_silent}
-use Rattle.std.proofs.lemmas.Option.{same_Some, slice_get_within}
-use Rattle.event_loop.specs.LoopStates.{promises}
-use Rattle.event_loop.specs.declared.place.Stage.TheVariants.{Free}
-use Rattle.event_loop.specs.declared.service.Service.{Service}
-use Rattle.event_loop.specs.Goes.{IsInTime}
-use borrow.Author.Count.{below_more}
-use Rattle.endpoints.specs.Keeping.{keeping}
+use Rattle.event_loop.proofs.Names.{Place, IsOccupied, is_silent, same_Some, slice_get_within, promises, Free, Service, IsInTime, below_more, keeping}
 use Rattle.event_loop.proofs.Leading.{nowhere, to_then}
 use Rattle.event_loop.proofs.Leaving.{leaves_to}
 use Rattle.event_loop.proofs.Putting.{set_cases}

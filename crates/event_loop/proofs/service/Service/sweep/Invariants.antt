@@ -1,7 +1,5 @@
 use Rattle.std.proofs.Common.{◌≡◌, ◌<◌, ℕ, length}
-use Rattle.event_loop.specs.LoopStates.{promises}
-use Rattle.event_loop.specs.Goes.{IsInTime, SettlesAll, running}
-use Rattle.endpoints.specs.Keeping.{keeping}
+use Rattle.event_loop.proofs.Names.{promises, IsInTime, SettlesAll, running, keeping}
 use Rattle.event_loop.proofs.service.Service.sweep.Given as goal
 
 abbrev pub invariant-loop-k : goal.invariant-loop-k

@@ -1,5 +1,4 @@
-use Rattle.event_loop.specs.LoopStates.{promises}
-use Rattle.endpoints.specs.Keeping.{keeping}
+use Rattle.event_loop.proofs.Names.{promises, keeping}
 use Rattle.event_loop.proofs.Leading.{nowhere, to_then}
 use Rattle.event_loop.proofs.service.Service.tell.Goals as goal
 

@@ -1,8 +1,5 @@
 use Rattle.std.proofs.Common.{refl, sym, ◌∙◌}
-use Rattle.event_loop.specs.LoopStates.{promises}
-use Rattle.event_loop.specs.Served.{goes, reports}
-use Rattle.endpoints.specs.Keeping.{keeping}
-use Rattle.event_loop.specs.Reporting.{full}
+use Rattle.event_loop.proofs.Names.{promises, goes, reports, keeping, full}
 use Rattle.event_loop.proofs.Doing.{none_more}
 use Rattle.event_loop.proofs.Leading.{nowhere}
 use Rattle.event_loop.proofs.Resting.{settled_then}

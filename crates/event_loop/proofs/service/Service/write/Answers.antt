@@ -1,12 +1,6 @@
 use Rattle.std.proofs.Common.{ℕ, ◌<◌, ◌∷◌, [], length, take, ap, refl, sym, subst}
-use Rattle.event_loop.specs.Places.{MayWrite}
-use Rattle.http_edge.specs.Schedule.{World, Taken, connection_at, untaken}
-use Rattle.http_edge.specs.Reached.{led_on}
-use Rattle.event_loop.specs.LoopStates.{promises}
-use Rattle.event_loop.specs.Calls.{Call, Transfer}
-use Rattle.event_loop.specs.Goes.{to_write}
-use Rattle.event_loop.specs.Writing.{sends, finds_no_room, fails}
-use Rattle.endpoints.specs.Keeping.{keeping}
+use Rattle.event_loop.proofs.Names.{MayWrite, World, Taken, connection_at, untaken, led_on, promises, Call, Transfer, to_write, sends, finds_no_room, keeping}
+use Rattle.event_loop.specs.Writing.{fails}
 use Rattle.event_loop.specs.Calls as call
 use Rattle.event_loop.proofs.Acting.{idle_acts, write_acts}
 use Rattle.event_loop.proofs.Answering.{served_answered}

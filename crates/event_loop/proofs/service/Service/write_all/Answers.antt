@@ -1,9 +1,5 @@
 use Rattle.std.proofs.Common.{arith, ◌≡◌, inl, inr, Some, ap, subst, ◌∙◌, slice_get}
-use Rattle.std.proofs.lemmas.Bool.{cases_lt}
-use Rattle.event_loop.specs.LoopStates.{promises}
-use Rattle.event_loop.specs.Goes.{IsSettledAt}
-use borrow.Author.Count.{below_more}
-use Rattle.endpoints.specs.Keeping.{keeping}
+use Rattle.event_loop.proofs.Names.{cases_lt, promises, IsSettledAt, below_more, keeping}
 use Rattle.event_loop.proofs.Doing.{on_still, on_then}
 use Rattle.event_loop.proofs.Leading.{rested_settled, turn_then, writing_other}
 use Rattle.event_loop.proofs.Resting.{heard_other, rested_other, settled_other}

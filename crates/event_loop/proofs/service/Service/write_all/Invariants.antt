@@ -1,7 +1,5 @@
 use Rattle.std.proofs.Common.{◌≡◌, ◌≤◌, ◌<◌, ℕ, Some, false, slice_get}
-use Rattle.event_loop.specs.LoopStates.{promises}
-use Rattle.event_loop.specs.Goes.{LeadsWriting, running}
-use Rattle.endpoints.specs.Keeping.{keeping}
+use Rattle.event_loop.proofs.Names.{promises, LeadsWriting, running, keeping}
 use Rattle.event_loop.proofs.service.Service.write_all.Given as goal
 
 abbrev pub invariant-loop-k : goal.invariant-loop-k

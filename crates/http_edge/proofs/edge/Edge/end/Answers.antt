@@ -1,7 +1,5 @@
 use Rattle.std.proofs.Common.{◌≡◌, ◌∙◌, [], false, sym, ap, refl}
-use Rattle.http_edge.specs.Lanes.{SeenLane}
-use Rattle.http_edge.specs.PlacesParts.{IsPlace}
-use Rattle.http_edge.specs.Schedule.{ended, has_stream_ended}
+use Rattle.http_edge.proofs.Names.{SeenLane, IsPlace, ended, has_stream_ended}
 use Rattle.http_edge.proofs.Placing.{lane_is, put_at, apart_put}
 use Rattle.http_edge.proofs.Going.{on_ended}
 use Rattle.http_edge.proofs.edge.Edge.end.Goals as goal

@@ -1,8 +1,7 @@
 use Rattle.std.proofs.Common.{arith, ◌∙◌, ap, sym, subst, refl}
-use Rattle.http_edge.specs.Lanes.{lane_at}
+use Rattle.http_edge.proofs.Names.{lane_at, AreApart}
 use Rattle.http_edge.proofs.Going.{on_forgotten}
 use Rattle.http_edge.proofs.Placing.{without_is_gone, apart_without}
-use Rattle.http_edge.specs.Places.{AreApart}
 use Rattle.http_edge.proofs.edge.Edge.forget.Goals as goal
 
 pub returns-clause-forgotten : goal.returns-clause-forgotten

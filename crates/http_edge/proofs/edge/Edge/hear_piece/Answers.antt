@@ -1,12 +1,7 @@
 use Rattle.std.proofs.Common.{rules, ◌≡◌, ◌∙◌, Some, refl, sym, ap, arith}
-use Rattle.http_edge.specs.Lanes.{SeenLane}
-use Rattle.http_edge.specs.PlacesParts.{IsPlace}
-use Rattle.http_edge.specs.Schedule.{piece_of}
-use Rattle.http_edge.specs.EdgesParts.{MayHear}
-use Rattle.http_edge.specs.declared.lane.Phase.TheVariants.{Open, Closing}
-use Rattle.http_edge.proofs.Phases.{closing_by, open_by}
+use Rattle.http_edge.proofs.Names.{SeenLane, IsPlace, piece_of, MayHear, Open, Closing}
 use Rattle.http_edge.proofs.Placing.{lane_is, put_at, apart_put}
-use Rattle.http_edge.proofs.Refusing.{refused_is}
+use Rattle.http_edge.proofs.RefusingWorlds.{refused_is}
 use Rattle.http_edge.proofs.Going.{on_passed, on_heard}
 use Rattle.http_edge.proofs.edge.Edge.hear_piece.Goals as goal
 
@@ -16,13 +11,11 @@ returns-then-is_closing-clause-given g c =
     let place : IsPlace lanes c.args.c c.in-Some.i = rw c.deref.ensures.value at c.in-Some.ensures in
     let read = lane_is lanes c.args.c c.in-Some.i c.index.result.now place c.index.ensures in
     let read-2 = lane_is lanes c.args.c c.in-Some.i c.index-2.result.now place c.index-2.ensures in
-    let seen : c.behind-self.inside.phase ≡ place.lane.phase = ap (λ (l : SeenLane). l.phase) c.behind-self.view_is ∙ ap (λ (l : SeenLane). l.phase) (sym read) in
-    let seen-2 : c.behind-self-2.inside.phase ≡ place.lane.phase = ap (λ (l : SeenLane). l.phase) c.behind-self-2.view_is ∙ ap (λ (l : SeenLane). l.phase) (sym read-2) in
-    let not_ended = rw seen at (sym c.has_ended.ensures ∙ c.if-has_ended.false) in
-    let told = rw seen-2 at (sym c.is_closing.ensures ∙ c.if-is_closing.true) in
-    let closing : place.lane.phase ≡ Closing = closing_by place.lane.phase not_ended told in
+    let seen = ap (λ (l : SeenLane). l.phase) (c.behind-self.view_is ∙ sym read) in
+    let seen-2 = ap (λ (l : SeenLane). l.phase) (c.behind-self-2.view_is ∙ sym read-2) in
+    let closing : place.lane.phase ≡ Closing = grind (arith, seen, seen-2, c.has_ended.ensures, c.if-has_ended.false, c.is_closing.ensures, c.if-is_closing.true) in
     rw (← c.self.view_is)
-    (on_passed g.H.HookHost g.S.DrawSource _ _ (piece_of c.args.c c.args.piece.now c.args.moment) place.lane c.args.source.now _ refl refl place.here closing (let test = c.if-piece-gt-PIECE_LIMIT.false in omega (arith, test)) refl)
+    (on_passed g.H.HookHost g.S.DrawSource _ _ (piece_of c.args.c c.args.piece.now c.args.moment) place.lane c.args.source.now _ refl refl place.here closing (omega (arith, c.if-piece-gt-PIECE_LIMIT.false)) refl)
 
 pub returns-clause-given : goal.returns-clause-given
 returns-clause-given g c =
@@ -32,15 +25,12 @@ returns-clause-given g c =
     let same = lane_is lanes c.args.c c.in-Some.i r place c.index_mut.ensures.value in
     let read = lane_is lanes c.args.c c.in-Some.i c.index.result.now place c.index.ensures in
     let read-2 = lane_is lanes c.args.c c.in-Some.i c.index-2.result.now place c.index-2.ensures in
-    let seen : c.behind-self.inside.phase ≡ r.phase = ap (λ (l : SeenLane). l.phase) c.behind-self.view_is ∙ ap (λ (l : SeenLane). l.phase) (sym read ∙ same) in
-    let seen-2 : c.behind-self-2.inside.phase ≡ r.phase = ap (λ (l : SeenLane). l.phase) c.behind-self-2.view_is ∙ ap (λ (l : SeenLane). l.phase) (sym read-2 ∙ same) in
-    let not_ended = rw seen at (sym c.has_ended.ensures ∙ c.if-has_ended.false) in
-    let not_closing = rw seen-2 at (sym c.is_closing.ensures ∙ c.if-is_closing.false) in
-    let opened : r.phase ≡ Open = open_by r.phase not_ended not_closing in
+    let seen = ap (λ (l : SeenLane). l.phase) (c.behind-self.view_is ∙ sym read ∙ same) in
+    let seen-2 = ap (λ (l : SeenLane). l.phase) (c.behind-self-2.view_is ∙ sym read-2 ∙ same) in
+    let opened : r.phase ≡ Open = grind (arith, seen, seen-2, c.has_ended.ensures, c.if-has_ended.false, c.is_closing.ensures, c.if-is_closing.false) in
     rw (← c.self.view_is)
-    (on_heard g.H.HookHost g.S.DrawSource _ _ (piece_of c.args.c c.args.piece.now c.args.moment) r c.hear.new.lane c.args.source.now _ (place.here ∙ ap Some same) opened (let test = c.if-piece-gt-PIECE_LIMIT.false in omega (arith, test))
-    c.in_default-hear.ensures.heard
-    (put_at lanes c.args.c c.in-Some.i place c.hear.new.lane c.hear.new.lane refl))
+    (on_heard g.H.HookHost g.S.DrawSource _ _ (piece_of c.args.c c.args.piece.now c.args.moment) r c.hear.new.lane c.args.source.now _ (place.here ∙ ap Some same) opened (omega (arith, c.if-piece-gt-PIECE_LIMIT.false))
+    c.in_default-hear.ensures.heard (put_at lanes c.args.c c.in-Some.i place c.hear.new.lane c.hear.new.lane refl))
 
 pub returns-in-Err-clause-refused : goal.returns-in-Err-clause-refused
 returns-in-Err-clause-refused g c =
@@ -50,12 +40,10 @@ returns-in-Err-clause-refused g c =
     let same = lane_is lanes c.args.c c.in-Some.i r place c.index_mut.ensures.value in
     let read = lane_is lanes c.args.c c.in-Some.i c.index.result.now place c.index.ensures in
     let read-2 = lane_is lanes c.args.c c.in-Some.i c.index-2.result.now place c.index-2.ensures in
-    let seen : c.behind-self.inside.phase ≡ r.phase = ap (λ (l : SeenLane). l.phase) c.behind-self.view_is ∙ ap (λ (l : SeenLane). l.phase) (sym read ∙ same) in
-    let seen-2 : c.behind-self-2.inside.phase ≡ r.phase = ap (λ (l : SeenLane). l.phase) c.behind-self-2.view_is ∙ ap (λ (l : SeenLane). l.phase) (sym read-2 ∙ same) in
-    let not_ended = rw seen at (sym c.has_ended.ensures ∙ c.if-has_ended.false) in
-    let not_closing = rw seen-2 at (sym c.is_closing.ensures ∙ c.if-is_closing.false) in
-    let opened : r.phase ≡ Open = open_by r.phase not_ended not_closing in
-    let may : MayHear lanes c.args.c c.args.piece.now = record { lane = r; here = place.here ∙ ap Some same; is_open = opened; short = let test = c.if-piece-gt-PIECE_LIMIT.false in omega (arith, test) } in
+    let seen = ap (λ (l : SeenLane). l.phase) (c.behind-self.view_is ∙ sym read ∙ same) in
+    let seen-2 = ap (λ (l : SeenLane). l.phase) (c.behind-self-2.view_is ∙ sym read-2 ∙ same) in
+    let opened : r.phase ≡ Open = grind (arith, seen, seen-2, c.has_ended.ensures, c.if-has_ended.false, c.is_closing.ensures, c.if-is_closing.false) in
+    let may : MayHear lanes c.args.c c.args.piece.now = record { lane = r; here = place.here ∙ ap Some same; is_open = opened; short = omega (arith, c.if-piece-gt-PIECE_LIMIT.false) } in
     rw (← c.self.view_is) (refused_is c.in-Err.fault lanes c.args.c c.args.piece.now (g.S.DrawSource.supply c.args.source.now) may c.in-Err.ensures.refused)
 
 pub invariant_of-self-2 : goal.invariant_of-self-2

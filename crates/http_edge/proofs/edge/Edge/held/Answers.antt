@@ -1,7 +1,5 @@
 use Rattle.std.proofs.Common.{◌≡◌, length, sym, subst}
-use Rattle.http_edge.specs.Schedule.{connection_at}
-use Rattle.http_edge.specs.Lanes.{lane_at, rest_in}
-use Rattle.http_edge.specs.Reached.{IsHeld}
+use Rattle.http_edge.proofs.Names.{connection_at, lane_at, rest_in, IsHeld}
 use Rattle.http_edge.proofs.Showing.{shows_held}
 use Rattle.http_edge.proofs.edge.Edge.held.Goals as goal
 

@@ -1,7 +1,6 @@
 use Rattle.std.proofs.Common.{rules, ◌≡◌, ◌++◌, ◌∙◌, ℕ, List, length, true, sym, ap, subst, arith}
-use Rattle.std.specs.Prelude.{IsTrue}
+use Rattle.http_edge.proofs.Names.{IsTrue, waiting-append}
 use Rattle.heads.specs.Waiting.{still_waits, IsWaiting}
-use Rattle.heads.specs.WaitingLaws.{waiting-append}
 use Rattle.http_edge.proofs.rest.Rest.wait.Goals as goal
 
 pub invariant_of-self-2 : goal.invariant_of-self-2
