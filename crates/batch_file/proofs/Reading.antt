@@ -14,11 +14,8 @@ pub taken : (m n : ℕ) (l : List ℕ) → m ≡ n → take m l ≡ take n l
 taken m n l is = ap (λ (k : ℕ). take k l) is
 
 four : (bytes : List ℕ) → 4 ≤ length bytes → take 4 bytes ≡ get_or bytes 0 0 ∷ get_or bytes 1 0 ∷ get_or bytes 2 0 ∷ get_or bytes 3 0 ∷ []
-four [] long = absurd (omega arith)
-four (a ∷ []) long = absurd (omega arith)
-four (a ∷ b ∷ []) long = absurd (omega arith)
-four (a ∷ b ∷ c ∷ []) long = absurd (omega arith)
 four (a ∷ b ∷ c ∷ d ∷ rest) long = refl
+four _ long = absurd (omega arith)
 
 fits_four : (a b c d : ℕ) → a < 256 → b < 256 → c < 256 → d < 256 → (i : ℕ) → get_or (a ∷ b ∷ c ∷ d ∷ []) i 0 < 256
 fits_four a b c d p q r s zero = p

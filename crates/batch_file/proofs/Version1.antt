@@ -54,11 +54,8 @@ abbrev pub size_behind : List ℕ → ℕ
 size_behind bytes = from_be_bytes w32 (get_or bytes 1 0 ∷ get_or bytes 2 0 ∷ get_or bytes 3 0 ∷ get_or bytes 4 0 ∷ [])
 
 size_is : (latch : ℕ) (bytes : List ℕ) → 4 ≤ length bytes → size_behind (latch ∷ bytes) ≡ size_at bytes
-size_is latch [] long = absurd (omega arith)
-size_is latch (a ∷ []) long = absurd (omega arith)
-size_is latch (a ∷ b ∷ []) long = absurd (omega arith)
-size_is latch (a ∷ b ∷ c ∷ []) long = absurd (omega arith)
 size_is latch (a ∷ b ∷ c ∷ d ∷ rest) long = refl
+size_is latch _ long = absurd (omega arith)
 
 -- no frame at the front
 pub closed_is_none : (bytes : List ℕ) → get_or bytes 0 0 ≢ 1 → recovered_1 bytes ≡ []

@@ -1,12 +1,8 @@
 -- A service that failed, and what is told of it.
 use Rattle.std.proofs.Common.{◌⊎◌, inl, inr, subst}
-use Rattle.command_line.specs.Listening.{EndsService, FailsService, ServiceFiles}
-use Rattle.commands.specs.Outputs.{Output, Prints, output, outputs}
+use Rattle.command_line.proofs.Names.{EndsService, FailsService, ServiceFiles, Output, Prints, output, outputs, Startings, CommandFault, Service}
 use Rattle.commands.specs.Performed.{IsTold, IsUntold, IsUnwritten}
-use Rattle.command_line.specs.Startings.{Startings}
-use Rattle.commands.specs.declared.fault.CommandFault.{CommandFault}
 use Rattle.commands.specs.declared.status.Status.{Status}
-use Rattle.command_line.specs.declared.service.Service.{Service}
 
 -- it failed where so much was told, and its fault is told behind that
 pub fails_told : {W E : Type 0} (starts : Startings) (service : Service) (files : ServiceFiles) (fault : CommandFault) (status : Status) (out : Output W) (err : Output E) (mid : E)

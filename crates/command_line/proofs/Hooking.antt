@@ -1,12 +1,8 @@
 -- Hooks that are installed one after the other.
 use Rattle.std.proofs.Common.{◌≡◌, ◌∙◌, List, [], ◌∷◌, ◌++◌, map, inr, ap, sym, subst, append_assoc}
-use Rattle.std.proofs.lemmas.List.{map-append}
+use Rattle.command_line.proofs.Names.{map-append, HookFact, CommandFault, HookRead, AreFactsOf, hook_fact_of, in_file, IsFactOf, RefusesHooks, TakesHook, TakesHooks}
 use Rattle.hook_chain.specs.Chains.{Named}
-use Rattle.image_codec.specs.Facts.{HookFact}
-use Rattle.commands.specs.declared.fault.CommandFault.{CommandFault}
 use Rattle.command_line.specs.declared.hook_files.HookCode.{HookCode}
-use Rattle.command_line.specs.declared.hook_files.HookRead.{HookRead}
-use Rattle.command_line.specs.Hooks.{AreFactsOf, hook_fact_of, in_file, IsFactOf, RefusesHooks, TakesHook, TakesHooks}
 
 -- what comes of the rest, from the hooks so far, comes of all
 pub record LeadsHooks (all : List HookRead) (chain : List Named) (codes : List HookCode) (rest : List HookRead) : Type 0 where

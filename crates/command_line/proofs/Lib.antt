@@ -4,3 +4,4 @@ mod Naming
 mod Serving
 mod Telling
 mod Upgrading
+pub mod Names

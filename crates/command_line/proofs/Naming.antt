@@ -1,18 +1,12 @@
 -- Words that name no service.
 use Rattle.std.proofs.Common.{◌≡◌, ◌∙◌, ◌==◌, true, false, ℕ, List, [], ◌∷◌, ap, sym, codes, map, get_or, subst}
-use Rattle.command_line.specs.declared.service.ServeWords.{ServeWords}
+use Rattle.command_line.proofs.Names.{ServeWords, Service, Serve, Start, GiveServe, GiveStart, NameService}
 use Rattle.start_words.specs.declared.words.StartWords.{StartWords}
-use Rattle.command_line.specs.declared.service.Service.{Service}
-use Rattle.command_line.specs.declared.service.Service.TheVariants.{Serve, Start}
-use Rattle.command_line.specs.Services.{GiveServe, GiveStart, NameService}
 
 -- the fourth of four items, as it is read
 pub fourth_read : {X Y : Type 0} (f : X → Y) (xs : List X) (d : X) (p q r s : Y) → map f xs ≡ p ∷ q ∷ r ∷ s ∷ [] → d ≡ get_or xs 3 d → f d ≡ s
-fourth_read f [] d p q r s read is_fourth = cc
-fourth_read f (a ∷ []) d p q r s read is_fourth = cc
-fourth_read f (a ∷ b ∷ []) d p q r s read is_fourth = cc
-fourth_read f (a ∷ b ∷ c ∷ []) d p q r s read is_fourth = cc
 fourth_read f (a ∷ b ∷ c ∷ e ∷ xs) d p q r s read is_fourth = cc
+fourth_read f _ d p q r s read is_fourth = cc
 
 -- the two services have two names
 two_names : codes "serve" ≡ codes "start" → ⊥

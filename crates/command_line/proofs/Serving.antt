@@ -1,24 +1,15 @@
 -- How a service fails.
 use Rattle.std.proofs.Common.{◌≡◌, inl, inr, ℕ, List, Option, None, Some, Result, Ok, Err, subst, sym}
+use Rattle.command_line.proofs.Names.{RegistryRecord, IsUntouched, Output, Outputs, HookFact, clock_limit, FailsService, HasAll, HasEnded, ServeEnded, ServiceFiles, handed, registry_bytes}
+use Rattle.command_line.proofs.Names.{address_of, limits_of, EndsAnew, EndsOn, EndsStart, Startings, CommandFault, ServeWords, Service, Serve}
 use Rattle.std.specs.Prelude.{OnOk, IfErr}
-use Rattle.clients.specs.RegistryRecord.{RegistryRecord}
 use Rattle.commands.specs.Config.{HoldsRegistry}
-use Rattle.commands.specs.Outputs.{IsUntouched, Output, Outputs}
 use Rattle.daemon.specs.Listening.{Announces}
 use Rattle.daemon.specs.Starts.{handed_anew, handed_on}
 use Rattle.daemon.specs.declared.fault.ListenFault.{ListenFault}
 use Rattle.daemon.specs.declared.fault.OpeningFault.{OpeningFault}
 use Rattle.event_loop.specs.declared.limits.Limits.{Limits}
-use Rattle.image_codec.specs.Facts.{HookFact}
-use Rattle.start_words.specs.Options.{clock_limit}
 use Rattle.command_line.specs.Faults.{IsOfListening, IsOfOpening}
-use Rattle.command_line.specs.Listening.{FailsService, HasAll, HasEnded, ServeEnded, ServiceFiles, handed, registry_bytes}
-use Rattle.command_line.specs.Services.{address_of, limits_of}
-use Rattle.command_line.specs.Startings.{EndsAnew, EndsOn, EndsStart, Startings}
-use Rattle.commands.specs.declared.fault.CommandFault.{CommandFault}
-use Rattle.command_line.specs.declared.service.ServeWords.{ServeWords}
-use Rattle.command_line.specs.declared.service.Service.{Service}
-use Rattle.command_line.specs.declared.service.Service.TheVariants.{Serve}
 
 -- its server does not listen
 pub not_heard : {W E : Type 0} (starts : Startings) (service : Service) (files : ServiceFiles) (fault : CommandFault) (to : Outputs W E) (registry : RegistryRecord)

@@ -1,9 +1,8 @@
 -- What the fault of a state file is told as.
 use Rattle.std.proofs.Common.{ℕ, List, [], inl, inr}
-use Rattle.clients.specs.RegistryRecord.{RegistryRecord}
+use Rattle.command_line.proofs.Names.{RegistryRecord, CommandFault}
 use Rattle.state_file.specs.declared.fault.StateFault.{StateFault}
 use Rattle.commands.specs.Faults.{IsOfState}
-use Rattle.commands.specs.declared.fault.CommandFault.{CommandFault}
 use Rattle.lifetime.specs.Plans.{RefusesPlan}
 use Rattle.command_line.specs.StateEndings.{RefusesTrial}
 

@@ -1,2 +1,1 @@
-mod Joining
 mod Leading

@@ -1,30 +1,11 @@
 -- Whatever is found after any number of lives comes of what was there at first.
 use Rattle.std.proofs.Common.{◌≡◌, ⊎_elim, inr, ℕ, List, [], ◌∷◌, Bool, true, false, Option, Some, None, refl, sym, ap, subst, ◌∙◌}
-use Rattle.std.specs.Prelude.{Contains, is_some}
-use Rattle.batch_file.specs.Frames.{recovered}
-use Rattle.change_codec.specs.Keeping.{IsFrontOf}
-use Rattle.clients.specs.RegistryRecord.{RegistryRecord}
-use Rattle.consent.specs.History.{Event}
-use Rattle.event_loop.specs.Durable.{Onward}
-use Rattle.event_loop.specs.LoopStates.{LoopState}
-use Rattle.event_loop.specs.Served.{Served, begins}
-use Rattle.event_loop.specs.declared.tools.Tools.{Tools}
-use Rattle.hook_chain.specs.Chains.{Named}
-use Rattle.http_edge.specs.Reached.{Journey}
-use Rattle.image_codec.specs.Facts.{HookFact}
+use Rattle.lifetime.proofs.Names.{Contains, is_some, recovered, IsFrontOf, RegistryRecord, Event, Onward, LoopState, Served, begins, Tools, Named, Journey, HookFact, SeenKeeper, history_under}
+use Rattle.lifetime.proofs.Names.{Narrowed, ComesOf, IsHeir, MayBeFound, at_first, ever, grows, is_it, narrows, once_settled, settled_at, Given, LifePromises, in_loop, HasLived, HasNotLived, IsLife}
+use Rattle.lifetime.proofs.Names.{IsWhole, LosesNothing, is_ahead, is_refused, is_unopened, is_unsettled, IsPlanOf, begun_from, Begun, Settles, Life, Plan, Ending, front_then, same_front}
+use Rattle.lifetime.proofs.Names.{served_onward}
 use Rattle.state_file.specs.Hooks.{hook_named, hooks_set_in, with_hook, with_hooks}
-use Rattle.state_file.specs.Knowing.{SeenKeeper}
-use Rattle.state_narrowing.specs.Narrowing.{history_under}
-use Rattle.state_narrowing.specs.declared.narrowed.Narrowed.{Narrowed}
-use Rattle.lifetime.specs.Found.{ComesOf, IsHeir, MayBeFound, at_first, ever, grows, is_it, narrows, once_settled, settled_at}
-use Rattle.lifetime.specs.Given.{Given, LifePromises, in_loop}
-use Rattle.lifetime.specs.Lives.{HasLived, HasNotLived, IsLife, IsWhole, LosesNothing, has_stopped, is_ahead, is_refused, is_unopened, is_unsettled}
-use Rattle.lifetime.specs.Plans.{IsPlanOf, begun_from}
-use Rattle.lifetime.specs.Starts.{Begun, Settles}
-use Rattle.lifetime.specs.declared.life.Life.{Life}
-use Rattle.lifetime.specs.declared.plan.Plan.{Plan}
-use Rattle.lifetime.specs.declared.serving.Ending.{Ending}
-use Rattle.event_loop.specs.DurableLaws.{front_then, same_front, served_onward}
+use Rattle.lifetime.specs.Lives.{has_stopped}
 use Rattle.lifetime.proofs.Living.{bears_of}
 use Rattle.lifetime.proofs.Losing.{whole_batches}
 
@@ -102,9 +83,6 @@ module _ {D N C J : Type 0} (p : LifePromises D N C J) (only_now : (d : D) (c : 
         (ap (λ (t : Tools N C J (SeenKeeper D) (List Named)). t.keeper) not.served.same) since)
 
     once_heir : (life : Life D N C J) (lived : IsLife p given life) (t : ℕ) (c : List ℕ) → settled_at lived ≡ Some t → p.device.left_since life.device t c → IsHeir registries first c
-    once_heir life (is_refused fault refuses) t c at since = absurd (cc)
-    once_heir life (is_ahead outlook seconds looks far) t c at since = absurd (cc)
-    once_heir life (is_unsettled outlook fault device journal cannot told) t c at since = absurd (cc)
     once_heir life (is_unopened begun settles keeps) t c at since =
         let is : t ≡ p.device.moment begun.keeper.file.device = cc in
         settled_heir begun settles c (subst (λ (m : ℕ). p.device.left_since begun.keeper.file.device m c) is since)
@@ -112,6 +90,7 @@ module _ {D N C J : Type 0} (p : LifePromises D N C J) (only_now : (d : D) (c : 
         let is : t ≡ p.device.moment begun.keeper.file.device = cc in
         let then = subst (λ (m : ℕ). p.device.left_since ending.tools.keeper.file.device m c) is since in
         ⊎_elim (λ lived. lived_heir begun settles ending c lived then) (λ not. not_lived_heir begun settles ending c not then) (lives heir.history heir.lived)
+    once_heir life _ t c at since = absurd (cc)
 
     -- AT ANY MOMENT
 

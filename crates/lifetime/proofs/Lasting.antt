@@ -1,30 +1,10 @@
 -- What a crash leaves of a life whose loop served.
 use Rattle.std.proofs.Common.{◌≡◌, ◌≤◌, ◌⊎◌, ⊎_elim, inl, inr, ℕ, List, [], Option, Some, refl, sym, ap, subst, ◌∙◌, arith}
-use Rattle.batch_file.specs.Frames.{recovered}
-use Rattle.change_codec.specs.Keeping.{HoldsBasis, IsFrontOf, Rules, TellsBasis}
-use Rattle.consent.specs.History.{Event}
-use Rattle.endpoints.specs.Bounded.{AllRight, IsBounded}
-use Rattle.endpoints.specs.Hosts.{HostRun}
-use Rattle.endpoints.specs.Server.{AreUnkept, Outset, outset_of}
-use Rattle.event_loop.specs.Durable.{Carries, KeeperHolds, Onward, StandsBetween}
-use Rattle.event_loop.specs.DurableLaws.{front_then, same_front, served_on, served_onward}
+use Rattle.lifetime.proofs.Names.{recovered, HoldsBasis, IsFrontOf, Rules, TellsBasis, Event, AllRight, IsBounded, HostRun, AreUnkept, Outset, outset_of, Carries, KeeperHolds, Onward, StandsBetween}
+use Rattle.lifetime.proofs.Names.{front_then, same_front, served_on, served_onward, HasServed, LoopState, Served, begins, Tools, Named, SeenEdge, Journey, Reached, SeenKeeper, StandFor, StandsFor}
+use Rattle.lifetime.proofs.Names.{IsPutOn, Tell, TellsRules, rules_of, Given, LifePromises, in_loop, HasLived, IsWhole, Leaves, LeavesKept, LosesNothing, loop_of, Begun, Ending}
 use Rattle.change_codec.specs.Keeping as keeping
-use Rattle.event_loop.specs.Ends.{HasServed}
-use Rattle.event_loop.specs.LoopStates.{LoopState}
-use Rattle.event_loop.specs.Served.{Served, begins}
-use Rattle.event_loop.specs.declared.tools.Tools.{Tools}
-use Rattle.hook_chain.specs.Chains.{Named}
 use Rattle.hook_chain.specs.contracts.chain.ChainHookHost.TheImpl as chain
-use Rattle.http_edge.specs.Edges.{SeenEdge}
-use Rattle.http_edge.specs.Reached.{Journey, Reached}
-use Rattle.state_file.specs.Knowing.{SeenKeeper}
-use Rattle.state_file.specs.Standing.{StandFor, StandsFor}
-use Rattle.state_file.specs.Starting.{IsPutOn}
-use Rattle.state_file.specs.Telling.{Tell, TellsRules, rules_of}
-use Rattle.lifetime.specs.Given.{Given, LifePromises, in_loop}
-use Rattle.lifetime.specs.Lives.{HasLived, IsWhole, Leaves, LeavesKept, LosesNothing, loop_of}
-use Rattle.lifetime.specs.Starts.{Begun}
-use Rattle.lifetime.specs.declared.serving.Ending.{Ending}
 use Rattle.lifetime.proofs.Losing.{Bears, front_noted, leaves_map, leaves_then, more_loses, old_or_loses, whole_by}
 
 module _ {D N C J : Type 0} (p : LifePromises D N C J) (only_now : (d : D) (c : List ℕ) → p.device.left_since d (p.device.moment d) c → p.device.may_leave d c)

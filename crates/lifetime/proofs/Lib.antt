@@ -4,3 +4,4 @@ mod Living
 mod Losing
 mod Planning
 mod Telling
+pub mod Names

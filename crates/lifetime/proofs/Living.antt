@@ -1,29 +1,12 @@
 -- What comes of a start, by what its parts say.
 use Rattle.std.proofs.Common.{◌≡◌, ◌⊎◌, ⊎_elim, inl, inr, ℕ, List, [], None, refl, sym, ap, subst}
+use Rattle.lifetime.proofs.Names.{RegistryRecord, Event, SeenServer, outset_of, ServesNothing, Tools, Named, SeenEdge, Reached, resumed_journey, HookFact, SeenKeeper, WasLived, IsOfDisk, IsOldOr}
+use Rattle.lifetime.proofs.Names.{IsUntouched, StateFault, Given, LifePromises, in_loop, CannotSettle, HasLived, HasNotLived, IsLife, LosesNothing, is_unopened, is_unsettled, loop_of, Begins}
+use Rattle.lifetime.proofs.Names.{IsGoneOn, goes_not, goes_on, opened, opened_none, IsPlanOf, begun_from, Begun, LooksAt, Outlook, Settles, too_far_at, Life, Plan, Ending}
 use Rattle.batch_file.specs.Crashes.{LeavesOnly}
-use Rattle.clients.specs.RegistryRecord.{RegistryRecord}
-use Rattle.consent.specs.History.{Event}
-use Rattle.endpoints.specs.Server.{SeenServer, outset_of}
-use Rattle.event_loop.specs.Ends.{ServesNothing}
-use Rattle.event_loop.specs.declared.tools.Tools.{Tools}
-use Rattle.hook_chain.specs.Chains.{Named}
 use Rattle.hook_chain.specs.contracts.chain.ChainHookHost.TheImpl as chain
-use Rattle.http_edge.specs.Edges.{SeenEdge}
-use Rattle.http_edge.specs.Reached.{Reached, resumed_journey}
-use Rattle.image_codec.specs.Facts.{HookFact}
-use Rattle.state_file.specs.Knowing.{SeenKeeper}
-use Rattle.state_file.specs.Runs.{WasLived}
-use Rattle.state_file.specs.Starting.{IsOfDisk, IsOldOr, IsUntouched}
-use Rattle.state_file.specs.declared.fault.StateFault.{StateFault}
-use Rattle.lifetime.specs.Given.{Given, LifePromises, in_loop}
-use Rattle.lifetime.specs.Lives.{CannotSettle, HasLived, HasNotLived, IsLife, LosesNothing, has_stopped, is_unopened, is_unsettled, loop_of}
-use Rattle.lifetime.specs.LivesParts.{Begins, IsGoneOn, goes_not, goes_on, opened, opened_none}
-use Rattle.lifetime.specs.Plans.{IsPlanOf, begun_from}
+use Rattle.lifetime.specs.Lives.{has_stopped}
 use Rattle.lifetime.specs.Serving.{Serves}
-use Rattle.lifetime.specs.Starts.{Begun, LooksAt, Outlook, Settles, too_far_at}
-use Rattle.lifetime.specs.declared.life.Life.{Life}
-use Rattle.lifetime.specs.declared.plan.Plan.{Plan}
-use Rattle.lifetime.specs.declared.serving.Ending.{Ending}
 use Rattle.lifetime.proofs.Lasting.{has_lived}
 use Rattle.lifetime.proofs.Losing.{Bears, old_or_loses}
 

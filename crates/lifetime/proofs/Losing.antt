@@ -1,22 +1,10 @@
 -- What a crash leaves of a life that was begun, and of its loop.
 use Rattle.std.proofs.Common.{◌≡◌, ⊎_elim, inl, inr, ℕ, List, [], ◌∷◌, ◌++◌, Option, None, Some, refl, sym, subst, arith}
-use Rattle.batch_file.specs.Frames.{recovered}
+use Rattle.lifetime.proofs.Names.{recovered, IsFrontOf, RegistryRecord, Event, AllRight, HostRun, AreUnkept, Named, StandFor, StandsFor, IsOldOr, Tell, TellsRules, rules_of, Given, LifePromises}
+use Rattle.lifetime.proofs.Names.{IsWhole, Leaves, LosesNothing, front_then, same_front}
 use Rattle.change_codec.specs.HappenedLaws.{Happened-front}
-use Rattle.change_codec.specs.Keeping.{IsFrontOf}
 use Rattle.change_codec.specs.Spelling.{DatedFact}
-use Rattle.clients.specs.RegistryRecord.{RegistryRecord}
-use Rattle.consent.specs.History.{Event}
-use Rattle.endpoints.specs.Bounded.{AllRight}
-use Rattle.endpoints.specs.Hosts.{HostRun}
-use Rattle.endpoints.specs.Server.{AreUnkept}
-use Rattle.hook_chain.specs.Chains.{Named}
 use Rattle.hook_chain.specs.contracts.chain.ChainHookHost.TheImpl as chain
-use Rattle.state_file.specs.Standing.{StandFor, StandsFor}
-use Rattle.state_file.specs.Starting.{IsOldOr}
-use Rattle.state_file.specs.Telling.{Tell, TellsRules, rules_of}
-use Rattle.lifetime.specs.Given.{Given, LifePromises}
-use Rattle.lifetime.specs.Lives.{IsWhole, Leaves, LosesNothing}
-use Rattle.event_loop.specs.DurableLaws.{front_then, same_front}
 
 -- FRONTS
 

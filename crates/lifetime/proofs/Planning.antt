@@ -1,21 +1,11 @@
 -- What a start makes of the bytes of a state file, by what the calls say.
 use Rattle.std.proofs.Common.{◌≡◌, ◌≤◌, ◌↔◌, ◌∙◌, inr, ℕ, List, [], Option, None, Some, subst}
-use Rattle.std.specs.Prelude.{IsSome}
-use Rattle.batch_file.specs.Frames.{recovered, torn_of}
-use Rattle.clients.specs.RegistryRecord.{RegistryRecord}
+use Rattle.lifetime.proofs.Names.{IsSome, recovered, torn_of, RegistryRecord, HookFact, StateFault, until_of, WasLived, rules_of, HasLeftOfEach, IsNarrower, Narrowed, IsPlanOf, RefusesPlan}
+use Rattle.lifetime.proofs.Names.{bytes_under, start_of, Plan}
 use Rattle.hook_chain.specs.contracts.chain.ChainHookHost.TheImpl as chain
-use Rattle.image_codec.specs.Facts.{HookFact}
 use Rattle.narrowing.specs.Left.{left_under}
 use Rattle.state_file.specs.Making.{Makes, RefusesMaking}
-use Rattle.state_file.specs.declared.fault.StateFault.{StateFault}
-use Rattle.state_file.specs.Standing.{until_of}
 use Rattle.state_file.specs.RunLaws.{was_run}
-use Rattle.state_file.specs.Runs.{WasLived}
-use Rattle.state_file.specs.Telling.{rules_of}
-use Rattle.state_narrowing.specs.Narrowing.{HasLeftOfEach, IsNarrower}
-use Rattle.state_narrowing.specs.declared.narrowed.Narrowed.{Narrowed}
-use Rattle.lifetime.specs.Plans.{IsPlanOf, RefusesPlan, bytes_under, start_of}
-use Rattle.lifetime.specs.declared.plan.Plan.{Plan}
 
 -- nothing is left out
 abbrev pub unnarrowed : Option Narrowed

@@ -1,30 +1,16 @@
 -- From where the changes of a file lead on.
 use Rattle.std.proofs.Common.{◌≡◌, inl, inr, ℕ, zero, suc, List, [], ◌∷◌, ◌++◌, true, false, Option, Some, None, refl, sym, ap, ◌∙◌, subst}
-use Rattle.std.specs.Prelude.{max}
-use Rattle.batch_file.specs.Frames.{recovered}
-use Rattle.consent.specs.History.{Event}
-use Rattle.change_codec.specs.HappenedLaws.{Happened-front}
-use Rattle.change_codec.specs.Spelling.{DatedFact}
-use Rattle.endpoints.specs.Bounded.{AllRight}
-use Rattle.endpoints.specs.Server.{AreUnkept, Outset}
-use Rattle.hook_host.specs.declared.host.HookHost.{Ghosts as Hosting}
-use Rattle.image_codec.specs.Facts.{HookFact, ImageFact}
-use Rattle.image_codec.specs.Spelling.{ImageFits, image_spelling}
-use Rattle.state_file.specs.Hooks.{hooks_behind, hooks_set_in}
-use Rattle.state_file.specs.Resuming.{AnswersFor, BeginsByBatches, FitsOn, FitsRestored, HaveNoImage, IsMadeOf, IsRight, RedoesBatches, Replays, WasRun}
-use Rattle.state_file.specs.Standing.{AreTold, Begin, BeginWithImage, IsMomentTold, StandFor, StandsFor, first_moment, last_moment, until_of}
-use Rattle.state_file.specs.declared.restored.Restored.{Restored}
+use Rattle.state_file.proofs.Names.{max, recovered, Event, Happened-front, DatedFact, AllRight, AreUnkept, Outset, Hosting, HookFact, ImageFact, ImageFits, image_spelling, hooks_behind, hooks_set_in}
+use Rattle.state_file.proofs.Names.{AnswersFor, BeginsByBatches, FitsOn, FitsRestored, HaveNoImage, IsMadeOf, IsRight, RedoesBatches, Replays, WasRun, AreTold, Begin, BeginWithImage, IsMomentTold}
+use Rattle.state_file.proofs.Names.{StandFor, StandsFor, first_moment, last_moment, until_of, Restored}
 use Rattle.state_file.proofs.Hooked.{hooks_of-happened}
 use Rattle.state_file.proofs.Redone.{right_before}
 
 -- batches that tell changes alone have no image first
 no_image : (batches : List (List ℕ)) (facts : List DatedFact) → AreTold batches facts → HaveNoImage batches
 no_image [] facts told = tt
-no_image ([] ∷ batches) facts told = refl
-no_image ((zero ∷ rules) ∷ batches) facts told = refl
-no_image ((suc zero ∷ fields) ∷ batches) facts told = refl
 no_image ((suc (suc zero) ∷ fields) ∷ batches) facts told = let e = told.2.1 in absurd cc
-no_image ((suc (suc (suc n)) ∷ fields) ∷ batches) facts told = refl
+no_image (_ ∷ batches) facts told = refl
 
 -- an image is one
 has_image : (batches behind : List (List ℕ)) (image : ImageFact) → HaveNoImage batches → batches ≡ image_spelling image ∷ behind → ⊥
@@ -67,55 +53,35 @@ module _ {H : Type 0} (hosting : Hosting H) (outset : Outset H) where
   pub answers_reached : (left : List ℕ) (old new : Restored H) → FitsOn hosting old [] new → AnswersFor hosting left outset old → AnswersFor hosting left outset new
   answers_reached left old new on answers history stands right run = on outset history history (answers history stands right run) refl
 
--- so are the hooks
+-- so are the hooks and the moment
 module _ {H : Type 0} (hosting : Hosting H) (outset : Outset H) where
-  begun_hooks : (batches later : List (List ℕ)) (restored : Restored H) (history : List Event) → (stands : StandFor batches history) →
-      BeginsByBatches hosting outset batches later restored → (stands.later ≡ later) × (restored.hooks ≡ hooks_set_in stands.base)
-  begun_hooks batches later restored history stands begins = by stands.begins
-    where
-      by : Begin batches stands.base stands.later → (stands.later ≡ later) × (restored.hooks ≡ hooks_set_in stands.base)
-      by (inl none) =
-          let told : AreTold batches stands.facts = subst (λ (bs : List (List ℕ)). AreTold bs stands.facts) none.1 stands.told in
-          let anew = begins.anew (no_image batches stands.facts told) in
-          (none.1 ∙ sym anew.0, anew.1.1 ∙ ap hooks_set_in (sym none.0))
-      by (inr of) =
-          let made = begins.of_image of.0 stands.later (of.2.0, of.2.1) in
-          (sym made.0, made.1.0 ∙ of.1.hooks)
-
-  pub hooks_for : (batches later : List (List ℕ)) (begun restored : Restored H) → BeginsByBatches hosting outset batches later begun →
-      RedoesBatches hosting begun later restored → (history : List Event) → StandFor batches history → restored.hooks ≡ hooks_set_in history
-  hooks_for batches later begun restored begins redone history stands =
-      let from = begun_hooks batches later begun history stands begins in
-      let told : AreTold later stands.facts = subst (λ (bs : List (List ℕ)). AreTold bs stands.facts) from.0 stands.told in
-      (redone.1 stands.facts told).0 ∙ ap (λ (hs : List HookFact). hooks_behind hs stands.facts) from.1
-      ∙ sym (hooks_of-happened stands.base history stands.facts stands.happened)
-
-  -- and so is the moment
-  begun_moment : (batches later : List (List ℕ)) (restored : Restored H) (history : List Event) → (stands : StandFor batches history) →
+  begun_from : (batches later : List (List ℕ)) (restored : Restored H) (history : List Event) → (stands : StandFor batches history) →
       BeginsByBatches hosting outset batches later restored → (begins : Begin batches stands.base stands.later) →
-      (stands.later ≡ later) × (restored.moment ≡ first_moment batches stands.base stands.later begins)
-  begun_moment batches later restored history stands begun (inl none) =
+      (stands.later ≡ later) × (restored.hooks ≡ hooks_set_in stands.base) × (restored.moment ≡ first_moment batches stands.base stands.later begins)
+  begun_from batches later restored history stands begun (inl none) =
       let told : AreTold batches stands.facts = subst (λ (bs : List (List ℕ)). AreTold bs stands.facts) none.1 stands.told in
       let anew = begun.anew (no_image batches stands.facts told) in
-      (none.1 ∙ sym anew.0, anew.2)
-  begun_moment batches later restored history stands begun (inr of) =
+      (none.1 ∙ sym anew.0, anew.1.1 ∙ ap hooks_set_in (sym none.0), anew.2)
+  begun_from batches later restored history stands begun (inr of) =
       let made = begun.of_image of.0 stands.later (of.2.0, of.2.1) in
-      (sym made.0, made.1.2)
+      (sym made.0, made.1.0 ∙ of.1.hooks, made.1.2)
 
-  moment_for : (batches later : List (List ℕ)) (begun restored : Restored H) → BeginsByBatches hosting outset batches later begun →
+  pub led_on : (batches later : List (List ℕ)) (begun restored : Restored H) → BeginsByBatches hosting outset batches later begun →
       RedoesBatches hosting begun later restored → (history : List Event) (stands : StandFor batches history) →
-      restored.moment ≡ last_moment (first_moment batches stands.base stands.later stands.begins) stands.facts
-  moment_for batches later begun restored begins redone history stands =
-      let from = begun_moment batches later begun history stands begins stands.begins in
-      let told : AreTold later stands.facts = subst (λ (bs : List (List ℕ)). AreTold bs stands.facts) from.0 stands.told in
-      (redone.1 stands.facts told).3 ∙ ap (λ (m : ℕ). last_moment m stands.facts) from.1
+      (restored.hooks ≡ hooks_set_in history) × (restored.moment ≡ last_moment (first_moment batches stands.base stands.later stands.begins) stands.facts)
+  led_on batches later begun restored begins redone history stands =
+      let from = begun_from batches later begun history stands begins stands.begins in
+      let all = redone.1 stands.facts (subst (λ (bs : List (List ℕ)). AreTold bs stands.facts) from.0 stands.told) in (
+        all.0 ∙ ap (λ (hs : List HookFact). hooks_behind hs stands.facts) from.1 ∙ sym (hooks_of-happened stands.base history stands.facts stands.happened),
+        all.3 ∙ ap (λ (m : ℕ). last_moment m stands.facts) from.2,
+      )
 
   -- once the horizons are reached it is the one that is told
   pub moment_reached : (other batches later : List (List ℕ)) (begun restored : Restored H) (until moment : ℕ) → BeginsByBatches hosting outset batches later begun →
       RedoesBatches hosting begun later restored → until ≡ until_of batches → moment ≡ max restored.moment until → batches ≡ other → IsMomentTold other moment
   moment_reached other batches later begun restored until moment begins redone told reached are =
       subst (λ (bs : List (List ℕ)). IsMomentTold bs moment) are
-      (λ history stands. reached ∙ ap (λ (m : ℕ). max m until) (moment_for batches later begun restored begins redone history stands)
+      (λ history stands. reached ∙ ap (λ (m : ℕ). max m until) (led_on batches later begun restored begins redone history stands).1
       ∙ ap (max (last_moment (first_moment batches stands.base stands.later stands.begins) stands.facts)) told)
 
 -- the first batch is read as the image that it spells

@@ -1,25 +1,16 @@
 -- A server as an image, and a server made of one.
 use Rattle.std.proofs.Common.{◌≡◌, ℕ, List, [], ◌∷◌, ◌++◌, map, refl, sym, ap, ◌∙◌, subst}
-use Rattle.consent.specs.Consents.{FitsConsents, kept_consents}
-use Rattle.consent.specs.History.{Event}
-use Rattle.consent.specs.declared.kept_consent.KeptConsent.{KeptConsent}
-use Rattle.endpoints.specs.Bounded.{AllRight}
+use Rattle.state_file.proofs.Names.{FitsConsents, kept_consents, Event, KeptConsent, AllRight, SeenServer, FitsServer, Outset, outset_of, Hosting, record_fact, HookFact, ImageFact, IsImageFor}
+use Rattle.state_file.proofs.Names.{Installs, IsMadeOf, Restored}
 use Rattle.endpoints.specs.Hosts.{HostRun}
 use Rattle.endpoints.specs.Restoring.{AreOf}
-use Rattle.endpoints.specs.Server.{SeenServer, FitsServer, Outset, outset_of}
 use Rattle.endpoints.specs.Layouts.{layout_of}
-use Rattle.hook_host.specs.declared.host.HookHost.{Ghosts as Hosting}
-use Rattle.consent.specs.RecordFacts.{record_fact}
-use Rattle.image_codec.specs.Facts.{HookFact, ImageFact}
 use Rattle.token_store.specs.Image.{kept_told}
 use Rattle.token_store.specs.ImageLaws.{all_same}
 use Rattle.token_store.specs.Fits.{FitsHistory, FitsStore}
 use Rattle.token_store.specs.Image.{as_kept}
 use Rattle.token_store.specs.Kept.{Kept}
 use Rattle.consent.specs.declared.kept_record.KeptRecord.{KeptRecord}
-use Rattle.state_file.specs.Renewing.{IsImageFor}
-use Rattle.state_file.specs.Resuming.{Installs, IsMadeOf}
-use Rattle.state_file.specs.declared.restored.Restored.{Restored}
 
 module _ {H : Type 0} (hosting : Hosting H) where
   -- one hook more

@@ -1,20 +1,9 @@
 -- What a keeper holds when other batches are put in the place of its file's: also those that have one more.
-use Rattle.std.proofs.Common.{◌≡◌, ◌⊎◌, ◌≤◌, inl, inr, ℕ, List, [], ◌∷◌, ◌++◌, Option, refl, sym, ap, ◌∙◌, subst, arith}
-use Rattle.batch_file.specs.Crashes.{LeavesOnly}
-use Rattle.batch_file.specs.Frames.{recovered, IsOldOrNew, IsOnDisk}
+use Rattle.std.proofs.Common.{◌≡◌, ◌⊎◌, ⊎_elim, ◌≤◌, inl, inr, ℕ, List, [], ◌∷◌, ◌++◌, Option, refl, sym, ap, ◌∙◌, subst, arith}
+use Rattle.state_file.proofs.Names.{LeavesOnly, recovered, IsOldOrNew, IsOnDisk, BatchFile, Device, Event, Basis, Until, Rules, Holds, HoldsBasis, Keeps, KeepsBasis, KeepsNot, LeavesEither}
+use Rattle.state_file.proofs.Names.{StandsForEither, TellsBasis, Happened, RulesFact, DatedFact, HaveSpelling, batch_spelling, LeftTells, SeenKeeper, TellBasis, file_crashes, StandFor, until_of}
+use Rattle.state_file.proofs.Names.{AreTold-changes, StandFor-joined, until_of-more, Tell, last_rules, last_rules-push}
 use Rattle.batch_file.specs.declared.appending.BatchFault.{BatchFault}
-use Rattle.batch_file.specs.declared.appending.BatchFile.{BatchFile}
-use Rattle.batch_file.specs.declared.device.Device.{Ghosts as Device}
-use Rattle.consent.specs.History.{Event}
-use Rattle.change_codec.specs.Keeping.{Basis, Until, Rules, Holds, HoldsBasis, Keeps, KeepsBasis, KeepsNot, LeavesEither, StandsForEither, TellsBasis}
-use Rattle.change_codec.specs.Happened.{Happened}
-use Rattle.change_codec.specs.Rules.{RulesFact}
-use Rattle.change_codec.specs.Spelling.{DatedFact, HaveSpelling, batch_spelling}
-use Rattle.state_file.specs.Knowing.{LeftTells, SeenKeeper, TellBasis, file_crashes}
-use Rattle.state_file.specs.Standing.{StandFor, until_of}
-use Rattle.state_file.specs.StandingLaws.{AreTold-changes, StandFor-joined, until_of-more}
-use Rattle.state_file.specs.Telling.{Tell, last_rules}
-use Rattle.state_file.specs.TellingLaws.{last_rules-push}
 
 -- what the old batches tell, the new ones do
 abbrev pub TellOn : List (List ℕ) → List (List ℕ) → Type 0
@@ -45,17 +34,12 @@ module _ {D : Type 0} (device : Device D) where
   leaves_either old new batches before after leaves then holds = record {
     later = leaves.later;
     each = λ c left. each c (leaves.each c left);
-    earlier = λ t c le left. by t c (leaves.before t c le left);
+    earlier = λ t c le left. ⊎_elim (λ was. inl was) (λ is. inr (each c is)) (leaves.before t c le left);
   }
     where
       each : (c : List ℕ) → IsOldOrNew (recovered (device.seen old.file.device)) batches c → StandsForEither (file_crashes device) before after c
       each c (inl same) = inl (subst (λ (bs : List (List ℕ)). StandFor bs before) (sym same) (holds (device.seen old.file.device) (inr refl)))
       each c (inr now) = inr (subst (λ (bs : List (List ℕ)). StandFor bs after) (sym now) then)
-
-      by : (t : ℕ) (c : List ℕ) → device.left_since old.file.device t c ⊎ IsOldOrNew (recovered (device.seen old.file.device)) batches c →
-          device.left_since old.file.device t c ⊎ StandsForEither (file_crashes device) before after c
-      by t c (inl was) = inl was
-      by t c (inr is) = inr (each c is)
 
   pub keeps_not : (old new : SeenKeeper D) (batches : List (List ℕ)) (before after : List Event) → LeavesOldOr old new batches →
       (StandFor (recovered (device.seen old.file.device)) before → StandFor batches after) → KeepsNot (file_crashes device) before after old new
@@ -81,14 +65,12 @@ module _ {D : Type 0} (device : Device D) where
       TellOn (recovered (device.seen old.file.device)) batches → TellsBasis (file_crashes device) old new
   tells_basis old new batches leaves on = record {
     later = leaves.later;
-    earlier = λ basis t c holds early left. by basis t c (holds (device.seen old.file.device) (inr refl)) (leaves.before t c early left);
+    earlier = λ basis t c holds early left. ⊎_elim (λ was. inl was) (λ is. inr (tells basis c (holds (device.seen old.file.device) (inr refl)) is)) (leaves.before t c early left);
   }
     where
-      by : (basis : Basis) (t : ℕ) (c : List ℕ) → TellBasis (recovered (device.seen old.file.device)) basis →
-          device.left_since old.file.device t c ⊎ IsOldOrNew (recovered (device.seen old.file.device)) batches c → device.left_since old.file.device t c ⊎ LeftTells c basis
-      by basis t c told (inl was) = inl was
-      by basis t c told (inr (inl same)) = inr (subst (λ (bs : List (List ℕ)). TellBasis bs basis) (sym same) told)
-      by basis t c told (inr (inr now)) = inr (subst (λ (bs : List (List ℕ)). TellBasis bs basis) (sym now) (on basis told))
+      tells : (basis : Basis) (c : List ℕ) → TellBasis (recovered (device.seen old.file.device)) basis → IsOldOrNew (recovered (device.seen old.file.device)) batches c → LeftTells c basis
+      tells basis c told (inl same) = subst (λ (bs : List (List ℕ)). TellBasis bs basis) (sym same) told
+      tells basis c told (inr now) = subst (λ (bs : List (List ℕ)). TellBasis bs basis) (sym now) (on basis told)
 
   -- all that a crash may leave tells what the batches tell
   pub holds_basis : (old new : SeenKeeper D) (batches : List (List ℕ)) (basis : Basis) → HasNow old new batches → TellBasis batches basis → HoldsBasis (file_crashes device) new basis

@@ -1,24 +1,13 @@
 -- What is known of a file's batches once there is one more, or once an image stands there.
-use Rattle.std.proofs.Common.{◌≡◌, ◌<◌, ◌≤◌, ◌^◌, inl, inr, ℕ, List, [], ◌∷◌, ◌++◌, length, Bool, true, false, Option, Some, None, refl, sym, ap, ◌∙◌, subst, append-nil, arith}
-use Rattle.std.specs.Prelude.{IfSome, max, ◌==◌, if◌then◌else◌}
+use Rattle.std.proofs.Common.{◌≡◌, ◌<◌, ◌≤◌, ◌^◌, inl, inr, ℕ, List, [], ◌∷◌, ◌++◌, length, true, false, Option, Some, None, refl, sym, ap, ◌∙◌, subst, arith}
+use Rattle.state_file.proofs.Names.{IfSome, Happened, Happened-split, DatedFact, HaveSpelling, batch_spelling, Event, one_image, RulesFact, HookFact, ImageFact, ImageFits, image_spelling}
+use Rattle.state_file.proofs.Names.{rules_spelling, AreBehind, hooks_behind, hooks_set_in, IsKnown, image_size, AreTold, Begin, IsImageOf, StandFor, begins_image, horizon, horizons, until_of}
+use Rattle.state_file.proofs.Names.{AreTold-split, until_of-append, AreToldBehind, Tell, last_rules, last_rules-push, tell_in, tell_one, tells_one, Known}
 use Rattle.change_codec.specs.SpellingLaws.{one_list}
-use Rattle.change_codec.specs.Happened.{Happened}
-use Rattle.change_codec.specs.HappenedLaws.{Happened-split}
-use Rattle.change_codec.specs.Spelling.{DatedFact, HaveSpelling, batch_spelling}
-use Rattle.consent.specs.History.{Event}
-use Rattle.image_codec.specs.SpellingLaws.{one_image}
-use Rattle.change_codec.specs.Rules.{RulesFact}
-use Rattle.image_codec.specs.Facts.{HookFact, ImageFact}
-use Rattle.image_codec.specs.Spelling.{ImageFits, image_spelling, rules_spelling}
-use Rattle.state_file.specs.Hooks.{AreBehind, hooks_behind, hooks_set_in}
-use Rattle.state_file.specs.Knowing.{IsKnown, image_size}
-use Rattle.state_file.specs.Standing.{AreTold, Begin, IsImageOf, StandFor, begins_image, horizon, horizons, until_of}
-use Rattle.state_file.specs.StandingLaws.{AreTold-split, until_of-append}
-use Rattle.state_file.specs.Telling.{IsOfRules, Tell, last_rules}
-use Rattle.state_file.specs.TellingLaws.{last_rules-push, tell_in, tell_one, tells_one}
-use Rattle.state_file.specs.declared.keeper.Known.{Known}
 use Rattle.state_file.proofs.Hooked.{hooks_of-happened}
-use Rattle.state_file.proofs.Lasting.{last_rules-image, horizon_until, until_of-image}
+use Rattle.state_file.proofs.Lasting.{by_horizons, last_rules-image, horizon_until, until_of-image}
+use Rattle.state_file.proofs.Redone.{nothing_told, told_as}
+use Rattle.state_file.proofs.Tells.{tells_behind, until_behind}
 
 -- WHAT STOOD BEFORE A BATCH
 
@@ -74,49 +63,32 @@ told_before : (batches : List (List ℕ)) (bytes : List ℕ) (told : RulesFact) 
     ((others : RulesFact) → Tell batches others → bytes ≡ rules_spelling others) → Tell (batches ++ batch ∷ []) told → bytes ≡ rules_spelling told
 told_before batches bytes told batch same known tell = known told (tell.0, sym same ∙ tell.1, tell.2)
 
-no_more : (facts front back : List DatedFact) → facts ≡ front ++ back → back ≡ [] → facts ≡ front
-no_more facts front back are none = are ∙ ap (λ (ds : List DatedFact). front ++ ds) none ∙ append-nil front
-
 -- A BATCH OF CHANGES
 
-changes_are : (batch : List ℕ) (facts given : List DatedFact) → batch ≡ batch_spelling facts → HaveSpelling facts → AreTold (batch ∷ []) given → given ≡ facts
-changes_are batch facts given is fits told =
-    let of : AreTold (batch_spelling facts ∷ []) given = subst (λ (b : List ℕ). AreTold (b ∷ []) given) is told in
-    no_more given of.0 of.1 of.4 of.3 ∙ one_list of.0 facts of.2.0 fits (sym of.2.1)
-
-hooks_now : (batches : List (List ℕ)) (batch : List ℕ) (facts : List DatedFact) (old new : Option (List HookFact)) → batch ≡ batch_spelling facts → HaveSpelling facts →
-    IfSome new (λ hooks. (set : List HookFact) × (old ≡ Some set) × AreBehind set batch hooks) →
-    IfSome old (λ hooks. (history : List Event) → StandFor batches history → hooks ≡ hooks_set_in history) →
+-- the hooks behind the batch, where those before it were taken out and the batch was read
+hooks_now : (batches : List (List ℕ)) (batch read : List ℕ) (facts : List DatedFact) (taken new : Option (List HookFact)) → batch ≡ batch_spelling facts → read ≡ batch_spelling facts → HaveSpelling facts →
+    IfSome new (λ hooks. (set : List HookFact) × (taken ≡ Some set) × AreBehind set read hooks) →
+    IfSome taken (λ hooks. (history : List Event) → StandFor batches history → hooks ≡ hooks_set_in history) →
     IfSome new (λ hooks. (history : List Event) → StandFor (batches ++ batch ∷ []) history → hooks ≡ hooks_set_in history)
-hooks_now batches batch facts old None is fits behind known = tt
-hooks_now batches batch facts old (Some hooks) is fits behind known = λ history stands. by history (stood_before batches batch history none stands)
-  where
-    none : begins_image batch ≡ false
-    none = ap begins_image is
-
-    were : (history : List Event) → StandFor batches history → behind.0 ≡ hooks_set_in history
-    were = subst (λ (o : Option (List HookFact)). IfSome o (λ hooks. (history : List Event) → StandFor batches history → hooks ≡ hooks_set_in history)) behind.1 known
-
-    by : (history : List Event) → StoodBefore batches batch history → hooks ≡ hooks_set_in history
-    by history stood =
-        let same : stood.facts ≡ facts = changes_are batch facts stood.facts is fits stood.told in
-        let on : hooks_set_in history ≡ hooks_behind (hooks_set_in stood.before) facts =
-        hooks_of-happened stood.before history facts (subst (λ (ds : List DatedFact). Happened stood.before ds history) same stood.happened) in
-        behind.2 facts fits is ∙ ap (λ (hs : List HookFact). hooks_behind hs facts) (were stood.before stood.stands) ∙ sym on
+hooks_now batches batch read facts taken None is spelled fits behind known = tt
+hooks_now batches batch read facts taken (Some hooks) is spelled fits behind known = λ history stands.
+    let stood = stood_before batches batch history (ap begins_image is) stands in
+    let same : stood.facts ≡ facts = told_as batch facts stood.facts is (λ others fit same. one_list others facts fit fits (sym same ∙ is)) stood.told in
+    let on = hooks_of-happened stood.before history facts (subst (λ (ds : List DatedFact). Happened stood.before ds history) same stood.happened) in
+    let were : (history : List Event) → StandFor batches history → behind.0 ≡ hooks_set_in history =
+    subst (λ (o : Option (List HookFact)). IfSome o (λ hooks. (history : List Event) → StandFor batches history → hooks ≡ hooks_set_in history)) behind.1 known in
+    behind.2 facts fits spelled ∙ ap (λ (hs : List HookFact). hooks_behind hs facts) (were stood.before stood.stands) ∙ sym on
 
 -- what is known then, of the rules, the image and the horizons that were known
-pub known_changes : (batches : List (List ℕ)) (batch : List ℕ) (facts : List DatedFact) (old new : Known) → batch ≡ batch_spelling facts → HaveSpelling facts →
-    new.rules ≡ old.rules → new.image ≡ old.image → new.until ≡ old.until → IfSome new.hooks (λ hooks. (set : List HookFact) × (old.hooks ≡ Some set) × AreBehind set batch hooks) →
-    IsKnown batches old → IsKnown (batches ++ batch ∷ []) new
-known_changes batches batch facts old new is fits rules image until behind known = record {
-  rules_are = λ told tell. ap (λ r. r.items) rules ∙ told_before batches old.rules.items told batch (ap (λ (b : List ℕ). last_rules (batches ++ b ∷ [])) is ∙ last_rules-push batches (batch_spelling facts)) known.rules_are tell;
-  hooks_are = hooks_now batches batch facts old.hooks new.hooks is fits behind known.hooks_are;
+pub known_changes : (batches : List (List ℕ)) (batch read : List ℕ) (facts : List DatedFact) (taken : Option (List HookFact)) (old new : Known) → batch ≡ batch_spelling facts → read ≡ batch_spelling facts →
+    HaveSpelling facts → new.rules ≡ old.rules → new.image ≡ old.image → new.until ≡ old.until → taken ≡ old.hooks →
+    IfSome new.hooks (λ hooks. (set : List HookFact) × (taken ≡ Some set) × AreBehind set read hooks) → IsKnown batches old → IsKnown (batches ++ batch ∷ []) new
+known_changes batches batch read facts taken old new is spelled fits rules image until took behind known = record {
+  rules_are = λ told tell. ap (λ r. r.items) rules ∙ told_before batches old.rules.items told batch (rw is (last_rules-push batches (batch_spelling facts))) known.rules_are tell;
+  hooks_are = hooks_now batches batch read facts taken new.hooks is spelled fits behind (rw took known.hooks_are);
   image_is = image ∙ known.image_is ∙ sym (image_size-more batches batch (ap begins_image is));
-  until_is = until ∙ known.until_is ∙ sym (ap (λ (b : List ℕ). until_of (batches ++ b ∷ [])) is ∙ until_of-append batches (batch_spelling facts ∷ []) ∙ max_0 (until_of batches));
+  until_is = until ∙ known.until_is ∙ (let all = until_of-append batches (batch_spelling facts ∷ []) in rw is (omega (arith, all)));
 }
-  where
-    max_0 : (n : ℕ) → max n (max 0 0) ≡ n
-    max_0 n = omega arith
 
 -- BATCHES WITHOUT CHANGES
 
@@ -135,17 +107,13 @@ hooks_stay old new None back known = tt
 hooks_stay old new (Some hooks) back known = λ history stands. known history (back history stands)
 
 horizon_nothing : (until : ℕ) (facts : List DatedFact) → AreTold (horizon until ∷ []) facts → facts ≡ []
-horizon_nothing until facts told = no_more facts told.0 told.1 told.4 told.3 ∙ told.2.1
+horizon_nothing until facts told = nothing_told (horizon until) facts (λ some is. is.1) told
 
 horizons_nothing : (until : ℕ) (facts : List DatedFact) → AreTold (horizons until) facts → facts ≡ []
-horizons_nothing until facts told = by (until == 0) told
-  where
-    by : (b : Bool) → AreTold (if b then [] else horizon until ∷ []) facts → facts ≡ []
-    by true told = told
-    by false told = horizon_nothing until facts told
+horizons_nothing until facts = by_horizons until (λ bs. AreTold bs facts → facts ≡ []) (λ _ told. told) (horizon_nothing until facts)
 
 rules_nothing : (rules : RulesFact) (facts : List DatedFact) → AreTold (rules_spelling rules ∷ []) facts → facts ≡ []
-rules_nothing rules facts told = no_more facts told.0 told.1 told.4 told.3 ∙ told.2
+rules_nothing rules facts told = nothing_told (rules_spelling rules) facts (λ some is. is) told
 
 -- a horizon beyond those before
 pub known_horizon : (batches : List (List ℕ)) (batch : List ℕ) (until : ℕ) (old new : Known) → batch ≡ horizon until → until < 2 ^ 63 → old.until ≤ until →
@@ -155,41 +123,26 @@ known_horizon batches batch until old new is less le rules hooks image now known
   hooks_are = subst (λ (o : Option (List HookFact)). IfSome o (λ set. (history : List Event) → StandFor (batches ++ horizon until ∷ []) history → set ≡ hooks_set_in history)) (sym hooks)
       (hooks_stay batches (batches ++ horizon until ∷ []) old.hooks (λ history stands. stood_same batches (horizon until) history refl (horizon_nothing until) stands) known.hooks_are);
   image_is = image ∙ known.image_is ∙ sym (image_size-more batches (horizon until) refl);
-  until_is = now ∙ sym (horizon_until batches (horizon until) until refl less ∙ greater (until_of batches) (subst (λ (n : ℕ). n ≤ until) known.until_is le));
+  until_is = (let all = horizon_until batches (horizon until) until refl less in let was = known.until_is in omega (arith, now, all, was, le));
 })
-  where
-    greater : (n : ℕ) → n ≤ until → max n until ≡ until
-    greater n le = omega arith
 
 -- rules were told, or they were told before
-pub known_begun : (old new : List (List ℕ)) (known : Known) (now : RulesFact) (told : Bool) → IsOfRules known.rules.items now → Tell new now →
-    (told ≡ true → new ≡ old) → (told ≡ false → new ≡ old ++ known.rules.items ∷ []) →
-    IfSome known.hooks (λ hooks. (history : List Event) → StandFor old history → hooks ≡ hooks_set_in history) →
-    known.image ≡ image_size old → known.until ≡ until_of old → IsKnown new known
-known_begun old new known now told of tells same added set sized until = record {
-  rules_are = λ others told_too. of.1 ∙ ap rules_spelling (tell_one new now others tells told_too);
-  hooks_are = hooks_stay old new known.hooks (back told same added) set;
-  image_is = sized ∙ sizes told same added;
-  until_is = until ∙ untils told same added;
+pub known_begun : (old new : List (List ℕ)) (known : Known) (now : RulesFact) → known.rules.items ≡ rules_spelling now → AreToldBehind old now new →
+    IfSome known.hooks (λ hooks. (history : List Event) → StandFor old history → hooks ≡ hooks_set_in history) → known.image ≡ image_size old → known.until ≡ until_of old → IsKnown new known
+known_begun old new known now spelled behind set sized until = record {
+  rules_are = λ others told. spelled ∙ ap rules_spelling (tell_one new now others (tells_behind old new now behind) told);
+  hooks_are = hooks_stay old new known.hooks (back behind) set;
+  image_is = sized ∙ sizes behind;
+  until_is = until ∙ sym (until_behind old new now behind);
 }
   where
-    back : (t : Bool) → (t ≡ true → new ≡ old) → (t ≡ false → new ≡ old ++ known.rules.items ∷ []) → (history : List Event) → StandFor new history → StandFor old history
-    back true is more history stands = subst (λ (bs : List (List ℕ)). StandFor bs history) (is refl) stands
-    back false is more history stands =
-        stood_same old (rules_spelling now) history refl (rules_nothing now)
-        (subst (λ (bs : List (List ℕ)). StandFor bs history) (more refl ∙ ap (λ (b : List ℕ). old ++ b ∷ []) of.1) stands)
+    back : AreToldBehind old now new → (history : List Event) → StandFor new history → StandFor old history
+    back (inl same) history stands = rw (← same.1) stands
+    back (inr more) history stands = stood_same old (rules_spelling now) history refl (rules_nothing now) (rw (← more.1) stands)
 
-    sizes : (t : Bool) → (t ≡ true → new ≡ old) → (t ≡ false → new ≡ old ++ known.rules.items ∷ []) → image_size old ≡ image_size new
-    sizes true is more = ap image_size (sym (is refl))
-    sizes false is more = sym (ap image_size (more refl) ∙ image_size-more old known.rules.items (ap begins_image of.1))
-
-    zero_more : (n : ℕ) → max n (max 0 0) ≡ n
-    zero_more n = omega arith
-
-    untils : (t : Bool) → (t ≡ true → new ≡ old) → (t ≡ false → new ≡ old ++ known.rules.items ∷ []) → until_of old ≡ until_of new
-    untils true is more = ap until_of (sym (is refl))
-    untils false is more =
-        sym (ap until_of (more refl ∙ ap (λ (b : List ℕ). old ++ b ∷ []) of.1) ∙ until_of-append old (rules_spelling now ∷ []) ∙ zero_more (until_of old))
+    sizes : AreToldBehind old now new → image_size old ≡ image_size new
+    sizes (inl same) = ap image_size (sym same.1)
+    sizes (inr more) = sym (ap image_size more.1 ∙ image_size-more old (rules_spelling now) refl)
 
 -- AN IMAGE
 

@@ -1,16 +1,10 @@
 -- What horizons tell, and a file's batches once one is behind them.
-use Rattle.std.proofs.Common.{◌≡◌, inr, ◌<◌, ◌^◌, ℕ, zero, suc, List, [], ◌∷◌, ◌++◌, Option, None, Some, Bool, true, false, refl, sym, ap, ◌∙◌, subst, arith}
-use Rattle.std.specs.Prelude.{IsSome, max, unwrap_or, nat_lt, length, ◌==◌, ◌&&◌, if◌then◌else◌}
-use Rattle.std.proofs.lemmas.Bool.{eqb-true, lt-ltb, ltb-true}
+use Rattle.std.proofs.Common.{◌≡◌, inr, ◌<◌, ◌^◌, ℕ, zero, suc, List, [], ◌∷◌, ◌++◌, Option, Some, Bool, true, false, refl, sym, ap, ◌∙◌, subst, arith}
+use Rattle.state_file.proofs.Names.{IsSome, max, unwrap_or, ◌==◌, if◌then◌else◌, eqb-true, lt-ltb, nat_tests, Event, ImageFact, ImageFits, image_spelling, AreTold, IsImageOf, StandFor, horizon}
+use Rattle.state_file.proofs.Names.{horizon_in, horizons, until_of, AreTold-horizon, StandFor-beside, StandFor-image, until_of-append, until_of-more, Tell, last_rules, last_rules-push}
+use Rattle.std.specs.Prelude.{length}
 use Rattle.std.proofs.lemmas.Nat.{from_be_bytes-to_be_bytes_8}
 use Rattle.std.specs.Int.{w64, from_be_bytes, to_be_bytes}
-use Rattle.consent.specs.History.{Event}
-use Rattle.image_codec.specs.Facts.{ImageFact}
-use Rattle.image_codec.specs.Spelling.{ImageFits, image_spelling}
-use Rattle.state_file.specs.Standing.{AreTold, IsImageOf, StandFor, horizon, horizon_in, horizons, until_of}
-use Rattle.state_file.specs.StandingLaws.{AreTold-horizon, StandFor-beside, StandFor-image, until_of-append, until_of-more}
-use Rattle.state_file.specs.Telling.{Tell, last_rules}
-use Rattle.state_file.specs.TellingLaws.{last_rules-push}
 use Rattle.state_file.proofs.Kept.{TellOn, tell_on}
 
 by_value : (bytes : List ℕ) (n : ℕ) → (length bytes == 8) ≡ true → from_be_bytes w64 bytes ≡ n → n < 2 ^ 63 → horizon_in (3 ∷ bytes) ≡ Some n
@@ -25,20 +19,11 @@ is_horizon until less = subst (λ (o : Option ℕ). IsSome o) (sym (horizon_in-h
 
 -- every moment of a horizon is so
 in_range : (bytes : List ℕ) → unwrap_or (horizon_in (3 ∷ bytes)) 0 < 2 ^ 63
-in_range bytes = by (length bytes == 8) (nat_lt (from_be_bytes w64 bytes) (2 ^ 63)) refl
-  where
-    by : (long less : Bool) → nat_lt (from_be_bytes w64 bytes) (2 ^ 63) ≡ less → unwrap_or (if (long && less) then Some (from_be_bytes w64 bytes) else None) 0 < 2 ^ 63
-    by true true is = ltb-true (from_be_bytes w64 bytes) (2 ^ 63) is
-    by true false is = omega arith
-    by false less is = omega arith
+in_range bytes = grind (arith, nat_tests)
 
 horizon_in-less : (batch : List ℕ) → unwrap_or (horizon_in batch) 0 < 2 ^ 63
-horizon_in-less [] = omega arith
-horizon_in-less (zero ∷ bytes) = omega arith
-horizon_in-less (suc zero ∷ bytes) = omega arith
-horizon_in-less (suc (suc zero) ∷ bytes) = omega arith
 horizon_in-less (suc (suc (suc zero)) ∷ bytes) = in_range bytes
-horizon_in-less (suc (suc (suc (suc n))) ∷ bytes) = omega arith
+horizon_in-less _ = omega arith
 
 pub until_of-less : (batches : List (List ℕ)) → until_of batches < 2 ^ 63
 until_of-less [] = omega arith
@@ -68,7 +53,7 @@ horizon_tells batches batch until is = tell_on batches (batches ++ batch ∷ [])
 
 -- AN IMAGE, AND THE HORIZON OF A MOMENT
 
-by_horizons : (until : ℕ) (P : List (List ℕ) → Type 0) → (until ≡ 0 → P []) → P (horizon until ∷ []) → P (horizons until)
+pub by_horizons : (until : ℕ) (P : List (List ℕ) → Type 0) → (until ≡ 0 → P []) → P (horizon until ∷ []) → P (horizons until)
 by_horizons until P none one = by (until == 0) refl
   where
     by : (b : Bool) → (until == 0) ≡ b → P (if b then [] else horizon until ∷ [])

@@ -1,24 +1,9 @@
 -- A start, from the file's changes up to the batches of the new file.
 use Rattle.std.proofs.Common.{◌≡◌, ◌≤◌, ◌^◌, ◌∙◌, inl, inr, ℕ, List, [], ◌∷◌, length, Option, None, Some, refl, sym, ap, subst, arith}
-use Rattle.std.specs.Prelude.{max, unwrap_or, option_map}
-use Rattle.batch_file.specs.Frames.{recovered}
-use Rattle.consent.specs.History.{Event}
-use Rattle.change_codec.specs.Happened.{Happened}
-use Rattle.change_codec.specs.Spelling.{DatedFact, batch_spelling}
-use Rattle.endpoints.specs.Server.{SeenServer, FitsServer, Notes, NowNotes, AreUnkept, Outset}
-use Rattle.hook_host.specs.declared.host.HookHost.{Ghosts as Hosting}
-use Rattle.change_codec.specs.Rules.{RulesFact}
-use Rattle.state_file.specs.Hooks.{AreSet, with_hooks}
-use Rattle.state_file.specs.Making.{AreTooLong, MakesFrom, Made, OnBytes, RefusesMaking}
-use Rattle.state_file.specs.MakingParts.{AreAdded, AreToldBehind, IsUnadded, StandInFor}
-use Rattle.state_file.specs.Resuming.{FitsRestored, Sets}
-use Rattle.state_file.specs.Standing.{StandFor, until_of}
-use Rattle.state_file.specs.StandingLaws.{AreTold-changes, StandFor-joined, until_of-append}
-use Rattle.state_file.specs.Telling.{Tell, last_rules}
-use Rattle.state_file.specs.TellingLaws.{last_rules-push}
-use Rattle.state_file.specs.declared.fault.StateFault.{StateFault}
+use Rattle.state_file.proofs.Names.{unwrap_or, option_map, recovered, Event, Happened, DatedFact, batch_spelling, SeenServer, FitsServer, Notes, NowNotes, AreUnkept, Outset, Hosting, RulesFact}
+use Rattle.state_file.proofs.Names.{AreSet, with_hooks, AreTooLong, MakesFrom, Made, OnBytes, RefusesMaking, AreAdded, AreToldBehind, IsUnadded, StandInFor, FitsRestored, Sets, StandFor, until_of}
+use Rattle.state_file.proofs.Names.{AreTold-changes, StandFor-joined, until_of-append, Tell, last_rules, last_rules-push, StateFault, Restored}
 use Rattle.state_file.specs.declared.fault.StateFault.TheVariants as state
-use Rattle.state_file.specs.declared.restored.Restored.{Restored}
 use Rattle.state_file.proofs.Setting.{fits_noting}
 use Rattle.state_file.proofs.Tells.{stand_behind, tells_behind, until_behind}
 
@@ -42,12 +27,9 @@ module _ (facts : List DatedFact) (old new : List (List ℕ)) where
   added_tell rules (inl none) tell = subst (λ (bs : List (List ℕ)). Tell bs rules) (sym none.1) tell
   added_tell rules (inr more) tell = (tell.0, ap last_rules more.1 ∙ last_rules-push old (batch_spelling facts) ∙ tell.1, tell.2)
 
-  max_0 : (n : ℕ) → max n (max 0 0) ≡ n
-  max_0 n = omega arith
-
   pub added_until : AreAdded facts old new → until_of new ≡ until_of old
   added_until (inl none) = ap until_of none.1
-  added_until (inr more) = ap until_of more.1 ∙ until_of-append old (batch_spelling facts ∷ []) ∙ max_0 (until_of old)
+  added_until (inr more) = let all = until_of-append old (batch_spelling facts ∷ []) in rw more.1 (omega (arith, all))
 
 -- nothing is unkept any more, where that is noted
 abbrev no_more : Option (List DatedFact) → Option (List DatedFact)
@@ -63,23 +45,7 @@ pub unadded : {H : Type 0} (hosting : Hosting H) (on : OnBytes H) (facts : List 
     IsUnadded facts fault → RefusesMaking hosting on fault
 unadded hosting on facts state.Memory long is = inl tt
 unadded hosting on facts state.Full long is = inr (inr (refl, long is))
-unadded hosting on facts state.NotState long is = absurd is
-unadded hosting on facts (state.Version version) long is = absurd is
-unadded hosting on facts (state.Damaged number) long is = absurd is
-unadded hosting on facts (state.Unplaced reason) long is = absurd is
-unadded hosting on facts (state.Device reason) long is = absurd is
-unadded hosting on facts state.TooLong long is = absurd is
-unadded hosting on facts state.NoRules long is = absurd is
-unadded hosting on facts (state.Spelling fault) long is = absurd is
-unadded hosting on facts (state.ScopeMoved name) long is = absurd is
-unadded hosting on facts state.OwnerMoved long is = absurd is
-unadded hosting on facts (state.ClientMoved name) long is = absurd is
-unadded hosting on facts (state.ClientNarrowed name) long is = absurd is
-unadded hosting on facts state.LifeNarrowed long is = absurd is
-unadded hosting on facts (state.Follows fault) long is = absurd is
-unadded hosting on facts (state.Image fault) long is = absurd is
-unadded hosting on facts (state.HookDiffers name) long is = absurd is
-unadded hosting on facts (state.Hook name fault) long is = absurd is
+unadded hosting on facts _ long is = absurd is
 
 -- A WHOLE START
 

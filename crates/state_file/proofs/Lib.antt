@@ -13,3 +13,4 @@ pub mod Redone
 pub mod Refused
 pub mod Setting
 pub mod Tells
+pub mod Names

@@ -1,15 +1,8 @@
 -- The clients of a registry, one after the other.
 use Rattle.std.proofs.Common.{◌≡◌, ◌+◌, ◌-◌, ◌++◌, ◌∙◌, ℕ, zero, suc, List, [], ◌∷◌, map, take, Some, refl, sym, ap, subst, arith}
-use Rattle.std.specs.Prelude.{◌==◌, false}
-use Rattle.std.specs.List.{slice_get}
-use Rattle.std.proofs.lemmas.Bool.{ne_eqb}
-use Rattle.std.proofs.lemmas.List.{map_push}
-use Rattle.clients.specs.ClientRecord.{ClientRecord}
+use Rattle.state_file.proofs.Names.{◌==◌, slice_get, ne_eqb, map_push, ClientRecord, ClientFact, client_fact, ClientRules, client_told}
+use Rattle.std.specs.Prelude.{false}
 use Rattle.clients.specs.Clients.{client_at}
-use Rattle.change_codec.specs.Rules.{ClientFact}
-use Rattle.image_codec.specs.Facts.{client_fact}
-use Rattle.image_codec.specs.declared.image.ClientRules.{ClientRules}
-use Rattle.state_file.specs.Telling.{client_told}
 
 taken : (xs : List ClientRecord) (i : ℕ) (x : ClientRecord) → slice_get xs i ≡ Some x → take (suc i) xs ≡ take i xs ++ x ∷ []
 taken [] i x is = absurd cc
@@ -17,13 +10,10 @@ taken (y ∷ xs) zero x is = let same : y ≡ x = cc in ap (λ (z : ClientRecord
 taken (y ∷ xs) (suc i) x is = ap (λ (zs : List ClientRecord). y ∷ zs) (taken xs i x is)
 
 pub client_numbered : (clients : List ClientRecord) (i number : ℕ) (client : ClientRecord) → number ≡ i + 1 → client_at number clients ≡ Some client → slice_get clients i ≡ Some client
-client_numbered clients i number client is at =
-    let next : number ≡ suc i = omega (arith, is) in
-    let there : client_at (suc i) clients ≡ Some client = subst (λ (n : ℕ). client_at n clients ≡ Some client) next at in
-    let some : (suc i == 0) ≡ false = ne_eqb (suc i) 0 (λ none. absurd (omega (arith, none))) in
-    let here : client_at (suc i) clients ≡ slice_get clients (suc i - 1) = rw some refl in
-    let back : suc i - 1 ≡ i = omega arith in
-    subst (λ (n : ℕ). slice_get clients n ≡ Some client) back (sym here ∙ there)
+client_numbered clients i number client is there =
+    let some : (number == 0) ≡ false = ne_eqb number 0 (λ none. absurd (omega (arith, none, is))) in
+    let back : number - 1 ≡ i = omega (arith, is) in
+    rw (← back) (rw some at there)
 
 pub clients_more : (clients : List ClientRecord) (i : ℕ) (client : ClientRecord) (before : List ClientRules) (told : ClientRules) (after : List ClientRules) →
     slice_get clients i ≡ Some client → map client_fact before ≡ map client_told (take i clients) → after ≡ before ++ told ∷ [] → told.name.now ≡ client.id → told.allowed ≡ client.allowed →

@@ -1,25 +1,11 @@
 -- Changes that are made again one after the other.
 use Rattle.std.proofs.Common.{◌≡◌, ℕ, List, [], ◌∷◌, ◌++◌, Some, refl, sym, ap, ◌∙◌, subst}
-use Rattle.std.proofs.lemmas.List.{append-nil}
-use Rattle.std.specs.Prelude.{max}
-use Rattle.clients.specs.RegistryRecord.{RegistryRecord}
-use Rattle.consent.specs.History.{Event, with_change}
+use Rattle.state_file.proofs.Names.{append-nil, max, RegistryRecord, Event, with_change, Hosting, AllRight, FitsServer, fact_of, DatedFact, HaveSpelling, batch_spelling, dated, Happened-split}
+use Rattle.state_file.proofs.Names.{meaning_of-told, AreTold, IsTold, last_moment, AreTold-split, HookFact, hooks_behind, hooks_by, hooks_set_in, FitsRestored, FitsOn, RedoesDated, RedoesBatches}
+use Rattle.state_file.proofs.Names.{StaysUnnoted, Restored}
 use Rattle.consent.specs.declared.change.Change.{Change}
-use Rattle.hook_host.specs.declared.host.HookHost.{Ghosts as Hosting}
-use Rattle.endpoints.specs.Bounded.{AllRight}
-use Rattle.endpoints.specs.Server.{FitsServer}
 use Rattle.endpoints.specs.Redo as again
 use Rattle.endpoints.specs.Steps.{Reaches}
-use Rattle.consent.specs.Facts.{fact_of}
-use Rattle.change_codec.specs.Spelling.{DatedFact, HaveSpelling, batch_spelling}
-use Rattle.change_codec.specs.Happened.{dated}
-use Rattle.change_codec.specs.HappenedLaws.{Happened-split, meaning_of-told}
-use Rattle.state_file.specs.Standing.{AreTold, IsTold, last_moment}
-use Rattle.state_file.specs.StandingLaws.{AreTold-split}
-use Rattle.image_codec.specs.Facts.{HookFact}
-use Rattle.state_file.specs.Hooks.{hooks_behind, hooks_by, hooks_set_in}
-use Rattle.state_file.specs.Resuming.{FitsRestored, FitsOn, RedoesDated, RedoesBatches, StaysUnnoted}
-use Rattle.state_file.specs.declared.restored.Restored.{Restored}
 use Rattle.state_file.proofs.Hooked.{hooks_behind-append, hooks_told, hooks_of-with}
 
 -- what is right is right as far as it went
@@ -30,12 +16,9 @@ right_before rules start (x ∷ before) later all = (all.0, right_before rules (
 -- a batch that spells its dated changes has those and no others
 pub told_as : (batch : List ℕ) (ds facts : List DatedFact) → batch ≡ batch_spelling ds → ((others : List DatedFact) → HaveSpelling others → batch ≡ batch_spelling others → others ≡ ds) →
     AreTold (batch ∷ []) facts → facts ≡ ds
-told_as batch ds facts is one told = by (subst (λ (b : List ℕ). AreTold (b ∷ []) facts) is told)
-  where
-    by : AreTold (batch_spelling ds ∷ []) facts → facts ≡ ds
-    by t =
-        let same : t.0 ≡ ds = one t.0 t.2.0 (is ∙ t.2.1) in
-        t.4 ∙ ap (λ (x : List DatedFact). t.0 ++ x) t.3 ∙ append-nil t.0 ∙ same
+told_as batch ds facts is one told =
+    let t : AreTold (batch_spelling ds ∷ []) facts = subst (λ (b : List ℕ). AreTold (b ∷ []) facts) is told in
+    t.4 ∙ ap (λ (x : List DatedFact). t.0 ++ x) t.3 ∙ append-nil t.0 ∙ one t.0 t.2.0 (is ∙ t.2.1)
 
 -- rules and horizons have none
 pub nothing_told : (batch : List ℕ) (facts : List DatedFact) → ((some : List DatedFact) → IsTold batch some → some ≡ []) → AreTold (batch ∷ []) facts → facts ≡ []

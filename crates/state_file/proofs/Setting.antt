@@ -1,23 +1,10 @@
 -- Hooks that are set, and keeping that they are.
-use Rattle.std.proofs.Common.{◌≡◌, ℕ, List, [], ◌∷◌, ◌++◌, Bool, true, false, Option, None, Some, refl, sym, ap, ◌∙◌, subst}
-use Rattle.std.specs.Prelude.{if◌then◌else◌}
-use Rattle.std.specs.Str.{bytes_eq}
+use Rattle.std.proofs.Common.{◌≡◌, ℕ, List, [], ◌∷◌, ◌++◌, true, Option, None, Some, refl, sym, ap, ◌∙◌, subst, arith}
+use Rattle.state_file.proofs.Names.{bytes_eq, nat_tests, bytes_eq-Decides, Event, with_change, happens, Happened, all_dated, Happened-joined, DatedFact, with_notes, SeenServer, FitsServer, Notes}
+use Rattle.state_file.proofs.Names.{NowNotes, AreUnkept, AreNoted, Outset, Hosting, HookFact, AreSet, hooks_set_in, hook_named, with_hook, with_hooks, FitsRestored, RedoesDated, Sets, Restored}
 use Rattle.std.proofs.lemmas.List.Elements.{All-append, All-cons, All-nil, All-weaker}
-use Rattle.std.proofs.lemmas.Slice.Eq.{bytes_eq-Decides}
-use Rattle.consent.specs.History.{Event, with_change}
-use Rattle.consent.specs.History.{Change as happens}
 use Rattle.consent.specs.declared.change.Changes.{Changes}
-use Rattle.change_codec.specs.Happened.{Happened, all_dated}
-use Rattle.change_codec.specs.HappenedLaws.{Happened-joined}
 use Rattle.consent.specs.Facts.{HookSet}
-use Rattle.change_codec.specs.Spelling.{DatedFact}
-use Rattle.endpoints.specs.Noting.{with_notes}
-use Rattle.endpoints.specs.Server.{SeenServer, FitsServer, Notes, NowNotes, AreUnkept, AreNoted, Outset}
-use Rattle.hook_host.specs.declared.host.HookHost.{Ghosts as Hosting}
-use Rattle.image_codec.specs.Facts.{HookFact}
-use Rattle.state_file.specs.Hooks.{AreSet, hooks_set_in, hook_named, with_hook, with_hooks}
-use Rattle.state_file.specs.Resuming.{FitsRestored, RedoesDated, Sets}
-use Rattle.state_file.specs.declared.restored.Restored.{Restored}
 use Rattle.state_file.proofs.Hooked.{hooks_of-with}
 
 -- LOOKING UP
@@ -25,27 +12,17 @@ use Rattle.state_file.proofs.Hooked.{hooks_of-with}
 same_name : (name : List ℕ) → bytes_eq name name ≡ true
 same_name name = (bytes_eq-Decides name name).1 refl
 
-found_first : (test : Bool) (hook found : HookFact) (rest more : Option HookFact) → (rest ≡ Some found → more ≡ Some found) →
-    (if test then Some hook else rest) ≡ Some found → (if test then Some hook else more) ≡ Some found
-found_first true hook found rest more later is = is
-found_first false hook found rest more later is = later is
-
 -- what has a name keeps it, where another is set behind it
 pub named_stays : (name : List ℕ) (hooks : List HookFact) (hook found : HookFact) → hook_named name hooks ≡ Some found → hook_named name (hooks ++ hook ∷ []) ≡ Some found
 named_stays name [] hook found is = absurd cc
 named_stays name (h ∷ hooks) hook found is =
-    found_first (bytes_eq name h.name) h found (hook_named name hooks) (hook_named name (hooks ++ hook ∷ [])) (named_stays name hooks hook found) is
-
-passed_by : (test : Bool) (hook found : HookFact) (rest more : Option HookFact) → (rest ≡ None → more ≡ Some found) →
-    (if test then Some hook else rest) ≡ None → (if test then Some hook else more) ≡ Some found
-passed_by true hook found rest more later is = absurd cc
-passed_by false hook found rest more later is = later is
+    let later = named_stays name hooks hook found in grind (arith, nat_tests, later)
 
 -- what is set under a new name has it
 pub named_new : (hooks : List HookFact) (hook : HookFact) → hook_named hook.name hooks ≡ None → hook_named hook.name (hooks ++ hook ∷ []) ≡ Some hook
 named_new [] hook is = rw (same_name hook.name) refl
 named_new (h ∷ hooks) hook is =
-    passed_by (bytes_eq hook.name h.name) h hook (hook_named hook.name hooks) (hook_named hook.name (hooks ++ hook ∷ [])) (named_new hooks hook) is
+    let later = named_new hooks hook in grind (arith, nat_tests, later)
 
 -- HISTORIES WITH HOOKS
 
@@ -80,10 +57,9 @@ stays_set moment history hook other is = by (hook_named hook.name (hooks_set_in 
 noted_more : (unkept : Option (List DatedFact)) (kept : Option (List Event)) (before after : List Event) (moment : ℕ) (changes : Changes) →
     AreUnkept unkept kept before → Happened before (all_dated moment changes) after → AreUnkept (with_notes unkept moment changes) kept after
 noted_more None None before after moment changes unkept happened = tt
-noted_more None (Some kept) before after moment changes unkept happened = absurd unkept
-noted_more (Some facts) None before after moment changes unkept happened = absurd unkept
 noted_more (Some facts) (Some kept) before after moment changes unkept happened =
     Happened-joined kept before after facts (all_dated moment changes) unkept happened
+noted_more _ _ before after moment changes unkept happened = absurd unkept
 
 module _ {H : Type 0} (hosting : Hosting H) where
   -- a hook of a new name
@@ -140,17 +116,11 @@ module _ {H : Type 0} (hosting : Hosting H) where
 
 -- LOOKING UP, for what is found
 
-found_has : (test : Bool) (hook found : HookFact) (rest : Option HookFact) (name : List ℕ) → (test ≡ true → name ≡ hook.name) → (rest ≡ Some found → name ≡ found.name) →
-    (if test then Some hook else rest) ≡ Some found → name ≡ found.name
-found_has true hook found rest name here later is =
-    let same : hook ≡ found = cc in here refl ∙ ap (λ (h : HookFact). h.name) same
-found_has false hook found rest name here later is = later is
-
 -- what is found by a name has it
 pub named_has : (name : List ℕ) (hooks : List HookFact) (found : HookFact) → hook_named name hooks ≡ Some found → name ≡ found.name
 named_has name [] found is = absurd cc
 named_has name (h ∷ hooks) found is =
-    found_has (bytes_eq name h.name) h found (hook_named name hooks) name (bytes_eq-Decides name h.name).0 (named_has name hooks found) is
+    let here = (bytes_eq-Decides name h.name).0 in let later = named_has name hooks found in grind (arith, nat_tests, here, later)
 
 -- where it has the version and the code, it is the hook
 pub named_is : (hook : HookFact) (hooks : List HookFact) (found : HookFact) → hook_named hook.name hooks ≡ Some found → found.version ≡ hook.version → found.code ≡ hook.code → found ≡ hook

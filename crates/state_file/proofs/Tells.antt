@@ -1,24 +1,13 @@
 -- A state file in which rules are told.
 use Rattle.std.proofs.Common.{◌≡◌, ◌↔◌, inl, inr, ℕ, zero, suc, List, [], ◌∷◌, ◌++◌, Bool, true, false, Option, None, Some, refl, sym, ap, ◌∙◌, subst, arith}
-use Rattle.std.specs.Prelude.{max}
-use Rattle.std.specs.Option.{option_or}
-use Rattle.consent.specs.History.{Event}
-use Rattle.image_codec.specs.SpellingLaws.{one_rules}
-use Rattle.change_codec.specs.Rules.{RulesFact}
-use Rattle.image_codec.specs.Spelling.{RulesFit, rules_fields, rules_spelling}
-use Rattle.state_file.specs.MakingParts.{AreToldBehind}
-use Rattle.state_file.specs.Standing.{StandFor, until_of}
-use Rattle.state_file.specs.StandingLaws.{AreTold-rules, StandFor-beside, until_of-append}
-use Rattle.state_file.specs.Telling.{IsOfRules, Tell, TellsIn, last_rules, rules_in}
-use Rattle.state_file.specs.TellingLaws.{last_rules-push}
+use Rattle.state_file.proofs.Names.{option_or, Event, one_rules, RulesFact, RulesFit, rules_fields, rules_spelling, AreToldBehind, StandFor, until_of, AreTold-rules, StandFor-beside, until_of-append}
+use Rattle.state_file.proofs.Names.{IsOfRules, Tell, TellsIn, last_rules, rules_in, last_rules-push}
 
 -- what begins neither with a byte 0 nor with a byte 2 tells no rules
 no_rules : (batch : List ℕ) → (rules_in batch ≡ Some batch → ⊥) → rules_in batch ≡ None
-no_rules [] not = refl
 no_rules (zero ∷ fields) not = absurd (not refl)
-no_rules (suc zero ∷ fields) not = refl
 no_rules (suc (suc zero) ∷ fields) not = absurd (not refl)
-no_rules (suc (suc (suc n)) ∷ fields) not = refl
+no_rules _ not = refl
 
 -- the last rules among some batches and one more
 pub told_item : (batches : List (List ℕ)) (batch : List ℕ) → rules_in batch ≡ Some batch → last_rules (batches ++ batch ∷ []) ≡ Some batch
@@ -28,9 +17,6 @@ pub untold_item : (batches : List (List ℕ)) (batch : List ℕ) → (rules_in b
 untold_item batches batch not = last_rules-push batches batch ∙ ap (λ (o : Option (List ℕ)). option_or o (last_rules batches)) (no_rules batch not)
 
 -- RULES BEHIND BATCHES
-
-max_0 : (n : ℕ) → max n (max 0 0) ≡ n
-max_0 n = omega arith
 
 pub told_behind : (told : Bool) (old new : List (List ℕ)) (rules : RulesFact) (bytes : List ℕ) → IsOfRules bytes rules → (told ≡ true → Tell old rules) → (told ≡ true → new ≡ old) →
     (told ≡ false → new ≡ old ++ bytes ∷ []) → AreToldBehind old rules new
@@ -52,7 +38,7 @@ module _ (old new : List (List ℕ)) (rules : RulesFact) where
   -- and tell the same moment
   pub until_behind : AreToldBehind old rules new → until_of new ≡ until_of old
   until_behind (inl same) = ap until_of same.1
-  until_behind (inr more) = ap until_of more.1 ∙ until_of-append old (rules_spelling rules ∷ []) ∙ max_0 (until_of old)
+  until_behind (inr more) = let all = until_of-append old (rules_spelling rules ∷ []) in rw more.1 (omega (arith, all))
 
 -- WHAT A BATCH TELLS
 

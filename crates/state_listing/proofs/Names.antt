@@ -1,7 +1,6 @@
 -- The names of a scope, one after the other.
-use Rattle.std.proofs.Common.{◌≡◌, ◌≢◌, ◌<◌, ◌≤◌, ℕ, ◌+◌, ◌/◌, ◌%◌, List, [], ◌∷◌, ◌++◌, Bor, length, drop, get_or, map, refl, sym, ap, ◌∙◌, append_assoc, add-one, if◌then◌else◌}
-use Rattle.std.proofs.Math.Seq.{drop-cons}
-use Rattle.std.proofs.lemmas.List.{append-nil, drop_all, drop-map}
+use Rattle.std.proofs.Common.{◌≡◌, ◌≢◌, ◌<◌, ◌≤◌, ℕ, ◌+◌, ◌/◌, ◌%◌, List, [], ◌∷◌, ◌++◌, Bor, length, drop, get_or, map, refl, sym, ap, ◌∙◌, append_assoc}
+use Rattle.std.proofs.lemmas.List.{append-nil, drop_all, drop-map, drop_more}
 use Rattle.std.proofs.lemmas.Bool.{eq-eqb, ne_eqb}
 use Rattle.json.specs.Token.{string}
 use Rattle.params.specs.Scope.{names_in_mask}
@@ -10,19 +9,14 @@ use Rattle.params.specs.Scope.{names_in_mask}
 pub names_odd : (done names whole : List (List ℕ)) (i left : ℕ) (name : List ℕ) → drop i names ≡ name ∷ drop (i + 1) names → left % 2 ≡ 1
     → done ++ names_in_mask (drop i names) left ≡ whole → (done ++ name ∷ []) ++ names_in_mask (drop (i + 1) names) (left / 2) ≡ whole
 names_odd done names whole i left name at odd so_far =
-    let here : names_in_mask (drop i names) left ≡ name ∷ names_in_mask (drop (i + 1) names) (left / 2) =
-    ap (λ l. names_in_mask l left) at
-    ∙ ap (λ b. if b then name ∷ names_in_mask (drop (i + 1) names) (left / 2) else names_in_mask (drop (i + 1) names) (left / 2)) (eq-eqb (left % 2) 1 odd) in
-    append_assoc done (name ∷ []) (names_in_mask (drop (i + 1) names) (left / 2)) ∙ ap (λ l. done ++ l) (sym here) ∙ so_far
+    let bit = eq-eqb (left % 2) 1 odd in
+    let step : done ++ name ∷ names_in_mask (drop (i + 1) names) (left / 2) ≡ whole = rw (at, bit) at so_far in
+    rw append_assoc step
 
 -- and where it is not
 pub names_even : (done names whole : List (List ℕ)) (i left : ℕ) (name : List ℕ) → drop i names ≡ name ∷ drop (i + 1) names → left % 2 ≢ 1
     → done ++ names_in_mask (drop i names) left ≡ whole → done ++ names_in_mask (drop (i + 1) names) (left / 2) ≡ whole
-names_even done names whole i left name at even so_far =
-    let here : names_in_mask (drop i names) left ≡ names_in_mask (drop (i + 1) names) (left / 2) =
-    ap (λ l. names_in_mask l left) at
-    ∙ ap (λ b. if b then name ∷ names_in_mask (drop (i + 1) names) (left / 2) else names_in_mask (drop (i + 1) names) (left / 2)) (ne_eqb (left % 2) 1 even) in
-    ap (λ l. done ++ l) (sym here) ∙ so_far
+names_even done names whole i left name at even so_far = let bit = ne_eqb (left % 2) 1 even in rw (at, bit) at so_far
 
 -- past the last one they are all there
 pub names_end : (done names whole : List (List ℕ)) (i left : ℕ) → length names ≤ i → done ++ names_in_mask (drop i names) left ≡ whole → done ≡ whole
@@ -35,8 +29,8 @@ no_text = record { ref_ptr = (0, 0); now = [] }
 pub next_name : (items : List (Bor (List ℕ))) (i : ℕ) → i < length items
     → drop i (map (λ s. s.now) items) ≡ (get_or items i no_text).now ∷ drop (i + 1) (map (λ s. s.now) items)
 next_name items i within =
-    let next : drop i items ≡ get_or items i no_text ∷ drop (i + 1) items = rw (add-one) (drop-cons items i no_text within) in
-    drop-map (λ s. s.now) i items ∙ ap (λ l. map (λ s. s.now) l) next ∙ ap (λ l. (get_or items i no_text).now ∷ l) (sym (drop-map (λ s. s.now) (i + 1) items))
+    drop-map (λ s. s.now) i items ∙ ap (λ l. map (λ s. s.now) l) (drop_more items i no_text within)
+    ∙ ap (λ l. (get_or items i no_text).now ∷ l) (sym (drop-map (λ s. s.now) (i + 1) items))
 
 -- texts as strings of JSON
 pub strings_of : (texts : List (Bor (List ℕ))) → map (λ s. string s.now) texts ≡ map string (map (λ s. s.now) texts)

@@ -1,2 +1,3 @@
 pub mod Less
 pub mod OfLeft
+pub mod Names

@@ -1,46 +1,32 @@
 -- What a file stands for that has an image of what is left.
-use Rattle.std.proofs.Common.{◌≡◌, ◌⊎◌, ◌<◌, ◌^◌, inl, inr, ℕ, ◌-◌, zero, suc, List, [], ◌∷◌, Bool, true, false, cond, None, Some, refl, ap, sym, subst, ◌∙◌}
-use Rattle.std.specs.Prelude.{◌==◌, if◌then◌else◌, is_some, slice_get, map}
-use Rattle.std.specs.Str.{bytes_eq}
-use Rattle.batch_file.specs.Frames.{recovered}
+use Rattle.std.proofs.Common.{◌≡◌, ◌⊎◌, ◌<◌, ◌^◌, inl, inr, ℕ, ◌-◌, zero, suc, List, [], ◌∷◌, Bool, true, false, cond, None, refl, ap, sym, subst, ◌∙◌, arith}
+use Rattle.state_narrowing.proofs.Names.{is_some, slice_get, map, recovered, ClientFact, RulesFact, HookFact, ImageFact, kept_told, FitsHistory, as_kept, KeptRecord, KeepClients, client_names}
+use Rattle.state_narrowing.proofs.Names.{first_moved, of_encoding, IsImageOf, StandFor, StandsFor, horizons, until_of, Tell, TellsRules, client_told, rules_of, StandFor-image_horizon, Tell-image}
+use Rattle.state_narrowing.proofs.Names.{until_of-image, tell_one, StateFault, GoesOn, HasLeftOfEach, IsNarrower, IsUnnarrowed, IsUnreadable, RefusesNarrowing, IsRightImage, SpellLeft}
+use Rattle.std.proofs.lemmas.Bool.Decides.{nat_tests}
 use Rattle.wire.specs.declared.fault.EncodeFault.{EncodeFault}
 use Rattle.wire.specs.declared.fault.EncodeFault.TheVariants as encoding
 use Rattle.clients.specs.ClientRecord.{ClientRecord}
 use Rattle.clients.specs.RegistryRecord.{RegistryRecord}
 use Rattle.consent.specs.Consents.{FitsConsents, kept_consents}
 use Rattle.consent.specs.History.{Event, Change, IsHistory}
-use Rattle.consent.specs.History.Change.{Consented, CodeGiven, Issued, Spent, FamilyEnded, HookSet, HookGone}
+use Rattle.consent.specs.History.Change.{CodeGiven, Issued, FamilyEnded}
 use Rattle.consent.specs.declared.kept_consent.KeptConsent.{KeptConsent}
 use Rattle.endpoints.specs.Bounded.{AllRight}
 use Rattle.hook_host.specs.declared.host.HookHost.{Ghosts as Hosting}
-use Rattle.change_codec.specs.Rules.{ClientFact, RulesFact}
 use Rattle.consent.specs.RecordFacts.{record_fact}
-use Rattle.image_codec.specs.Facts.{HookFact, ImageFact}
-use Rattle.token_store.specs.Image.{kept_told}
 use Rattle.token_store.specs.ImageLaws.{all_same}
 use Rattle.image_codec.specs.Spelling.{image_spelling}
 use Rattle.narrowing.specs.Left.{KeepsClients, ended_count, is_beyond_rules, left_of, left_under, token_under}
 use Rattle.narrowing.specs.LeftLaws.{fits_consents_left, left_events}
 use Rattle.narrowing.specs.RightLaws.{all_right-left, host_run-left}
-use Rattle.token_store.specs.Fits.{FitsHistory}
-use Rattle.token_store.specs.Image.{as_kept}
 use Rattle.token_store.specs.Kept.{Kept}
-use Rattle.consent.specs.declared.kept_record.KeptRecord.{KeptRecord}
 use Rattle.state_account.specs.Accounts.{IsAccountOf, IsImageIn, TellIfAny}
-use Rattle.state_file.specs.Comparing.{KeepClients, client_names, first_moved}
-use Rattle.state_file.specs.FaultTexts.{of_encoding}
 use Rattle.state_file.specs.Hooks.{hooks_after, hooks_with}
 use Rattle.state_file.specs.Resuming.{OfEachHistory}
-use Rattle.state_file.specs.Standing.{IsImageOf, StandFor, StandsFor, horizons, until_of}
 use Rattle.state_file.specs.StandingLaws.{StandsFor-none}
-use Rattle.state_file.specs.Telling.{Tell, TellsRules, client_told, rules_of}
-use Rattle.state_file.proofs.Lasting.{StandFor-image_horizon, Tell-image, until_of-image}
 use Rattle.state_file.specs.ResumingLaws.{right_now}
-use Rattle.state_file.specs.TellingLaws.{tell_one}
 use Rattle.state_account.specs.declared.account.Account.{Account}
-use Rattle.state_file.specs.declared.fault.StateFault.{StateFault}
-use Rattle.state_narrowing.specs.Narrowing.{GoesOn, HasLeftOfEach, IsNarrower, IsUnnarrowed, IsUnreadable, RefusesNarrowing}
-use Rattle.state_narrowing.specs.NarrowingParts.{IsRightImage, SpellLeft}
 use Rattle.state_narrowing.specs.declared.imaging.LeftImage.{LeftImage}
 use Rattle.state_narrowing.specs.declared.narrowed.Narrowed.{Narrowed}
 
@@ -63,11 +49,7 @@ module _ (rules : RegistryRecord) (beyond : ℕ → Bool) where
       elim (beyond f) as (λ b. hooks_with hooks (cond b (FamilyEnded f) (CodeGiven f code digest)) ≡ hooks) [ true ↦ refl | false ↦ refl ]
   hooks_event hooks (Issued f parties token) =
       elim (beyond f) as (λ b. hooks_with hooks (cond b (FamilyEnded f) (Issued f parties (token_under rules parties.client token))) ≡ hooks) [ true ↦ refl | false ↦ refl ]
-  hooks_event hooks (Consented o c mask) = refl
-  hooks_event hooks (Spent digest) = refl
-  hooks_event hooks (FamilyEnded family) = refl
-  hooks_event hooks (HookSet name version code) = refl
-  hooks_event hooks (HookGone name) = refl
+  hooks_event hooks _ = refl
 
   hooks_left : (es : List Event) (hooks : List HookFact) → hooks_after hooks (left_events rules beyond es) ≡ hooks_after hooks es
   hooks_left [] hooks = refl
@@ -83,27 +65,18 @@ some_mapped f (x ∷ xs) (suc i) = some_mapped f xs i
 
 -- a name that stays is there
 there_at : (told now : List (List ℕ)) (i : ℕ) → first_moved told now ≡ None → is_some (slice_get told i) ≡ true → is_some (slice_get now i) ≡ true
-there_at [] now i stays is = absurd (cc)
-there_at (name ∷ names) [] i stays is = absurd (cc)
 there_at (name ∷ names) (other ∷ others) zero stays is = refl
-there_at (name ∷ names) (other ∷ others) (suc i) stays is = there_at names others i (by (bytes_eq name other) stays) is
-  where
-    by : (b : Bool) → cond b (first_moved names others) (Some name) ≡ None → first_moved names others ≡ None
-    by true stays = stays
-    by false stays = absurd (cc)
+there_at (name ∷ names) (other ∷ others) (suc i) stays is = let rest : first_moved names others ≡ None = grind (arith, nat_tests, stays) in there_at names others i rest is
+there_at _ _ i stays is = absurd (cc)
 
 keeps_clients : (old new : RegistryRecord) → KeepClients (rules_of old) (rules_of new) → KeepsClients old new
-keeps_clients old new keep client = by (client == 0)
-  where
-    named : (clients : List ClientRecord) (i : ℕ) → is_some (slice_get (client_names (map client_told clients)) i) ≡ is_some (slice_get clients i)
-    named clients i = some_mapped (λ (c : ClientFact). c.name) (map client_told clients) i ∙ some_mapped client_told clients i
-
-    by : (none : Bool) → is_some (if none then None else slice_get old.clients (client - 1)) ≡ true →
-        is_some (if none then None else slice_get new.clients (client - 1)) ≡ true
-    by true is = is
-    by false is =
-        sym (named new.clients (client - 1))
-        ∙ there_at (client_names (map client_told old.clients)) (client_names (map client_told new.clients)) (client - 1) keep.1 (named old.clients (client - 1) ∙ is)
+keeps_clients old new keep client =
+    let named : (clients : List ClientRecord) → is_some (slice_get (client_names (map client_told clients)) (client - 1)) ≡ is_some (slice_get clients (client - 1)) =
+    λ clients. some_mapped (λ (c : ClientFact). c.name) (map client_told clients) (client - 1) ∙ some_mapped client_told clients (client - 1) in
+    let there = there_at (client_names (map client_told old.clients)) (client_names (map client_told new.clients)) (client - 1) keep.1 in
+    let was = named old.clients in
+    let is = named new.clients in
+    λ some. grind (arith, nat_tests, there, was, is, some)
 
 -- what was right is right when it is narrowed
 right_left : (left : List ℕ) (history : List Event) (old rules : RegistryRecord) (m : ℕ) → IsNarrower left (rules_of rules) → IsHistory history m →

@@ -1,6 +1,5 @@
 use Rattle.std.proofs.Common.{◌≡◌, map, take}
-use Rattle.start_words.specs.Options.{hook_said}
-use Rattle.command_line.specs.Hooks.{in_file, said_of}
+use Rattle.command_line.proofs.Names.{hook_said, in_file, said_of}
 use Rattle.command_line.proofs.hook_files.read_hooks.Given as goal
 
 abbrev pub invariant-loop-hook : goal.invariant-loop-hook

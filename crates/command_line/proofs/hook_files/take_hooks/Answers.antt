@@ -1,7 +1,5 @@
 use Rattle.std.proofs.Common.{◌≡◌, ◌∷◌, ◌+◌, ◌∙◌, [], List, add-one, append-nil, ap, drop, drop-cons, map, subst, suc, sym}
-use Rattle.std.proofs.lemmas.List.{drop_all}
-use Rattle.command_line.specs.declared.hook_files.HookRead.{HookRead}
-use Rattle.command_line.specs.Hooks.{AreFactsOf, hook_fact_of, in_file}
+use Rattle.command_line.proofs.Names.{drop_all, HookRead, AreFactsOf, hook_fact_of, in_file}
 use Rattle.command_line.proofs.Hooking.{LeadsHooks, leads_all, leads_on}
 use Rattle.command_line.proofs.hook_files.take_hooks.Goals as goal
 

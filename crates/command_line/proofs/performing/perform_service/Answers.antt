@@ -1,5 +1,4 @@
-use Rattle.command_line.specs.Listening.{files_in}
-use Rattle.commands.specs.Outputs.{output}
+use Rattle.command_line.proofs.Names.{files_in, output}
 use Rattle.command_line.proofs.Failing.{fails_told}
 use Rattle.command_line.proofs.performing.perform_service.Goals as goal
 

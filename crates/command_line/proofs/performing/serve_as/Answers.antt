@@ -1,8 +1,5 @@
 use Rattle.std.proofs.Common.{◌≡◌, ◌∙◌, [], None, Some, ap, inl, inr, map, refl, rules, subst}
-use Rattle.image_codec.specs.Facts.{hook_fact}
-use Rattle.command_line.specs.Hooks.{AreFactsOf, TakesHooks, hook_fact_of, in_file}
-use Rattle.command_line.specs.Listening.{HasAll, files_in}
-use Rattle.commands.specs.Outputs.{output, outputs}
+use Rattle.command_line.proofs.Names.{hook_fact, AreFactsOf, TakesHooks, hook_fact_of, in_file, HasAll, files_in, output, outputs}
 use Rattle.command_line.proofs.Serving.{ended_anew, ended_on, not_heard, not_opened, not_served, served}
 use Rattle.command_line.proofs.performing.serve_as.Goals as goal
 

@@ -1,7 +1,5 @@
 use Rattle.std.proofs.Common.{◌≡◌, subst, sym, ℕ, List}
-use Rattle.state_file.specs.Runs.{WasLived}
-use Rattle.lifetime.specs.Found.{is_it}
-use Rattle.lifetime.specs.Given.{life_promises}
+use Rattle.lifetime.proofs.Names.{WasLived, is_it, life_promises}
 use Rattle.lifetime.proofs.Heirs.{found_heir, kept_heir}
 use Rattle.lifetime.proofs.laws.lives_lose_nothing.Goals as goal
 

@@ -1,7 +1,5 @@
 use Rattle.std.proofs.Common.{sym}
-use Rattle.lifetime.specs.Given.{given, life_promises}
-use Rattle.lifetime.specs.Lives.{is_ahead}
-use Rattle.lifetime.specs.LivesParts.{outlook_of}
+use Rattle.lifetime.proofs.Names.{given, life_promises, is_ahead, outlook_of}
 use Rattle.lifetime.proofs.Living.{begins_life}
 use Rattle.lifetime.proofs.life.look.Goals as goal
 

@@ -1,8 +1,5 @@
 use Rattle.std.proofs.Common.{◌≡◌, ◌↔◌, Err, Some, map, refl, rules}
-use Rattle.std.specs.Prelude.{IsSome}
-use Rattle.image_codec.specs.Facts.{hook_fact}
-use Rattle.state_file.specs.Telling.{rules_of}
-use Rattle.state_narrowing.specs.Narrowing.{HasLeftOfEach, IsNarrower}
+use Rattle.lifetime.proofs.Names.{IsSome, hook_fact, rules_of, HasLeftOfEach, IsNarrower}
 use Rattle.hook_chain.specs.contracts.chain.ChainHookHost.TheImpl as chain
 use Rattle.lifetime.proofs.Planning.{not_made, plan_narrowed, plan_whole, unnarrowed}
 use Rattle.lifetime.proofs.plan.plan_of.Goals as goal

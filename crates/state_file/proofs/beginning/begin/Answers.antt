@@ -1,10 +1,5 @@
 use Rattle.std.proofs.Common.{rules, ◌≡◌, Err, sym, subst}
-use Rattle.std.specs.Prelude.{IfErr}
-use Rattle.batch_file.specs.Frames.{lists}
-use Rattle.wire.specs.Format.{ok_is}
-use Rattle.endpoints.specs.Server.{outset_of}
-use Rattle.image_codec.specs.Facts.{image_fact}
-use Rattle.state_file.specs.Resuming.{RefusesImage}
+use Rattle.state_file.proofs.Names.{IfErr, lists, ok_is, outset_of, image_fact, RefusesImage}
 use Rattle.state_file.proofs.Begun.{begins_made}
 use Rattle.state_file.proofs.Refused.{not_made_of}
 use Rattle.state_file.proofs.beginning.begin.Goals as goal

@@ -1,9 +1,5 @@
 use Rattle.std.proofs.Common.{rules, ◌≡◌, ◌+◌, ◌++◌, ◌∙◌, ℕ, [], ◌∷◌, take, sym, ap, arith}
-use Rattle.std.proofs.lemmas.Grind.{common_steps}
-use Rattle.std.specs.Prelude.{max, unwrap_or}
-use Rattle.batch_file.specs.Frames.{lists}
-use Rattle.state_file.specs.Standing.{horizon_in, until_of}
-use Rattle.state_file.specs.StandingLaws.{until_of-append}
+use Rattle.state_file.proofs.Names.{common_steps, max, unwrap_or, lists, horizon_in, until_of, until_of-append}
 use Rattle.state_file.proofs.horizons.until_of.Goals as goal
 
 pub loop-batch-preserved : goal.loop-batch-preserved

@@ -1,6 +1,5 @@
 use Rattle.std.proofs.Common.{◌≡◌, take}
-use Rattle.batch_file.specs.Frames.{lists}
-use Rattle.state_file.specs.Standing.{until_of}
+use Rattle.state_file.proofs.Names.{lists, until_of}
 use Rattle.state_file.proofs.horizons.until_of.Given as goal
 
 abbrev pub invariant-loop-batch : goal.invariant-loop-batch

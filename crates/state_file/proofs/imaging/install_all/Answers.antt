@@ -1,9 +1,5 @@
 use Rattle.std.proofs.Common.{◌≡◌, ◌+◌, ◌++◌, ◌∙◌, List, [], ◌∷◌, get_or, map, take, sym, ap, subst}
-use Rattle.std.proofs.lemmas.List.{map_push, take_all, take_more}
-use Rattle.image_codec.specs.Facts.{HookFact, hook_fact}
-use Rattle.consent.specs.declared.record_version.RecordVersion.TheVariants.{First}
-use Rattle.image_codec.specs.declared.image.KeptHook.{KeptHook}
-use Rattle.state_file.specs.Resuming.{Installs}
+use Rattle.state_file.proofs.Names.{map_push, take_all, take_more, HookFact, hook_fact, First, KeptHook, Installs}
 use Rattle.state_file.proofs.Imaged.{installs_more}
 use Rattle.state_file.proofs.imaging.install_all.Goals as goal
 

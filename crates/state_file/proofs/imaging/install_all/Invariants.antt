@@ -1,6 +1,5 @@
 use Rattle.std.proofs.Common.{map, take}
-use Rattle.image_codec.specs.Facts.{hook_fact}
-use Rattle.state_file.specs.Resuming.{Installs}
+use Rattle.state_file.proofs.Names.{hook_fact, Installs}
 use Rattle.state_file.proofs.imaging.install_all.Given as goal
 
 abbrev pub invariant-loop-hook : goal.invariant-loop-hook

@@ -1,15 +1,6 @@
 use Rattle.std.proofs.Common.{rules, ◌≡◌, ◌≤◌, ◌^◌, inl, inr, ℕ, [], length, Err, Some, map, ap, refl, sym, subst, arith}
-use Rattle.std.specs.Prelude.{IfErr, unwrap_or}
-use Rattle.batch_file.specs.Frames.{recovered}
-use Rattle.change_codec.specs.Spelling.{batch_spelling}
-use Rattle.endpoints.specs.Server.{NowNotes, outset_of}
-use Rattle.image_codec.specs.Facts.{hook_fact}
-use Rattle.state_file.specs.Making.{AreTooLong, RefusesMaking, on_bytes}
-use Rattle.state_file.specs.Resuming.{AnswersFor}
+use Rattle.state_file.proofs.Names.{IfErr, unwrap_or, recovered, batch_spelling, NowNotes, outset_of, hook_fact, AreTooLong, RefusesMaking, on_bytes, AnswersFor, IsMomentTold, rules_of, StateFault}
 use Rattle.state_file.specs.ResumingLaws.{right_now}
-use Rattle.state_file.specs.Standing.{IsMomentTold}
-use Rattle.state_file.specs.Telling.{rules_of}
-use Rattle.state_file.specs.declared.fault.StateFault.{StateFault}
 use Rattle.state_file.proofs.LedOn.{LeadOn, lead_tell, lead_until, makes_from, noting_fits, unadded}
 use Rattle.state_file.proofs.preparing.prepare.Goals as goal
 

@@ -1,9 +1,5 @@
 use Rattle.std.proofs.Common.{◌≡◌, ◌+◌, ◌++◌, List, [], ◌∷◌, take, sym, subst, arith}
-use Rattle.std.proofs.lemmas.Grind.{common_steps}
-use Rattle.std.proofs.lemmas.List.{take_all}
-use Rattle.change_codec.specs.declared.dated.DatedChange.{DatedChange}
-use Rattle.change_codec.specs.Spelling.{DatedFact, dated_fact, dated_facts}
-use Rattle.state_file.specs.Resuming.{RedoesDated}
+use Rattle.state_file.proofs.Names.{common_steps, take_all, DatedChange, DatedFact, dated_fact, dated_facts, RedoesDated}
 use Rattle.state_file.proofs.Redone.{redoes_then}
 use Rattle.state_file.proofs.redoing.redo.Goals as goal
 

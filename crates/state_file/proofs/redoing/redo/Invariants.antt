@@ -1,6 +1,5 @@
 use Rattle.std.proofs.Common.{take}
-use Rattle.change_codec.specs.Spelling.{dated_facts}
-use Rattle.state_file.specs.Resuming.{RedoesDated}
+use Rattle.state_file.proofs.Names.{dated_facts, RedoesDated}
 use Rattle.state_file.proofs.redoing.redo.Given as goal
 
 abbrev pub invariant-loop-dated : goal.invariant-loop-dated

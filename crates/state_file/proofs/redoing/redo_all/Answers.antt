@@ -1,9 +1,6 @@
 use Rattle.std.proofs.Common.{◌≡◌, ℕ, ◌+◌, ◌++◌, List, [], ◌∷◌, take, sym, subst, Vec, arith}
-use Rattle.std.proofs.lemmas.Grind.{common_steps}
-use Rattle.std.proofs.lemmas.List.{take_all}
+use Rattle.state_file.proofs.Names.{common_steps, take_all, lists, RedoesBatches}
 use Rattle.std.specs.declared.alloc.Global.{Global}
-use Rattle.batch_file.specs.Frames.{lists}
-use Rattle.state_file.specs.Resuming.{RedoesBatches}
 use Rattle.state_file.proofs.Redone.{redoes_batches}
 use Rattle.state_file.proofs.redoing.redo_all.Goals as goal
 

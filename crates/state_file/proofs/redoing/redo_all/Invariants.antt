@@ -1,6 +1,5 @@
 use Rattle.std.proofs.Common.{take}
-use Rattle.batch_file.specs.Frames.{lists}
-use Rattle.state_file.specs.Resuming.{RedoesBatches}
+use Rattle.state_file.proofs.Names.{lists, RedoesBatches}
 use Rattle.state_file.proofs.redoing.redo_all.Given as goal
 
 abbrev pub invariant-loop-batch : goal.invariant-loop-batch

@@ -1,8 +1,5 @@
 use Rattle.std.proofs.Common.{◌≡◌, List, subst}
-use Rattle.change_codec.specs.declared.dated.DatedChange.{DatedChange}
-use Rattle.wire.specs.Format.{ok_is}
-use Rattle.change_codec.specs.Spelling.{DatedFact, HaveSpelling, dated_facts, batch_spelling}
-use Rattle.state_file.specs.Resuming.{RedoesDated}
+use Rattle.state_file.proofs.Names.{DatedChange, ok_is, DatedFact, HaveSpelling, dated_facts, batch_spelling, RedoesDated}
 use Rattle.state_file.proofs.Redone.{redoes_batch}
 use Rattle.state_file.proofs.redoing.redo_batch.Goals as goal
 

@@ -1,7 +1,6 @@
 use Rattle.std.proofs.Common.{◌∙◌, inl, inr, length, Err, sym, ap, arith}
+use Rattle.state_file.proofs.Names.{image_fact, rules_spelling}
 use Rattle.wire.specs.declared.fault.EncodeFault.{EncodeFault}
-use Rattle.image_codec.specs.Facts.{image_fact}
-use Rattle.image_codec.specs.Spelling.{rules_spelling}
 use Rattle.state_file.proofs.renewing.spelled_image.Goals as goal
 
 pub returns-in-Err-TooLong-clause-refused : goal.returns-in-Err-TooLong-clause-refused

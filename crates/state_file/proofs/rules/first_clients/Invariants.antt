@@ -1,6 +1,5 @@
 use Rattle.std.proofs.Common.{◌≡◌, map, take}
-use Rattle.image_codec.specs.Facts.{client_fact}
-use Rattle.state_file.specs.Telling.{client_told}
+use Rattle.state_file.proofs.Names.{client_fact, client_told}
 use Rattle.state_file.proofs.rules.first_clients.Given as goal
 
 abbrev pub invariant-loop-i : goal.invariant-loop-i

@@ -1,8 +1,5 @@
 use Rattle.std.proofs.Common.{◌≡◌, Some, sym}
-use Rattle.batch_file.specs.Frames.{lists}
-use Rattle.image_codec.specs.Facts.{rules_fact}
-use Rattle.state_file.specs.Telling.{last_rules}
-use Rattle.state_file.specs.TellingLaws.{tell_in}
+use Rattle.state_file.proofs.Names.{lists, rules_fact, last_rules, tell_in}
 use Rattle.state_file.proofs.telling.compare_behind.Goals as goal
 
 pub returns-clause-taken : goal.returns-clause-taken

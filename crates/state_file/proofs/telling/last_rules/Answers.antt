@@ -1,9 +1,5 @@
 use Rattle.std.proofs.Common.{◌≡◌, ◌+◌, ◌++◌, ◌∙◌, ℕ, List, [], ◌∷◌, Some, take, sym, ap, subst, arith}
-use Rattle.std.specs.Option.{option_copied}
-use Rattle.std.proofs.lemmas.Bool.{iff_false}
-use Rattle.std.proofs.lemmas.Grind.{common_steps}
-use Rattle.batch_file.specs.Frames.{lists}
-use Rattle.state_file.specs.Telling.{last_rules, rules_in}
+use Rattle.state_file.proofs.Names.{option_copied, iff_false, common_steps, lists, last_rules, rules_in}
 use Rattle.state_file.proofs.Tells.{told_item, untold_item}
 use Rattle.state_file.proofs.telling.last_rules.Goals.{then-tells_rules, else-tells_rules}
 use Rattle.state_file.proofs.telling.last_rules.Goals as goal

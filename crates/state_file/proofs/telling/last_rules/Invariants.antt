@@ -1,7 +1,5 @@
 use Rattle.std.proofs.Common.{◌≡◌, take}
-use Rattle.std.specs.Option.{option_copied}
-use Rattle.batch_file.specs.Frames.{lists}
-use Rattle.state_file.specs.Telling.{last_rules}
+use Rattle.state_file.proofs.Names.{option_copied, lists, last_rules}
 use Rattle.state_file.proofs.telling.last_rules.Given as goal
 
 abbrev pub invariant-loop-batch : goal.invariant-loop-batch

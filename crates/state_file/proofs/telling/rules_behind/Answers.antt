@@ -1,9 +1,5 @@
 use Rattle.std.proofs.Common.{◌↔◌, subst}
-use Rattle.std.specs.Prelude.{IsTrue}
-use Rattle.batch_file.specs.Frames.{lists}
-use Rattle.change_codec.specs.Rules.{RulesFact}
-use Rattle.state_file.specs.Comparing.{TakesRules}
-use Rattle.state_file.specs.Telling.{Tell}
+use Rattle.state_file.proofs.Names.{IsTrue, lists, RulesFact, TakesRules, Tell}
 use Rattle.state_file.proofs.telling.rules_behind.Goals as goal
 
 pub returns-clause-taken : goal.returns-clause-taken

@@ -1,7 +1,5 @@
 use Rattle.std.proofs.Common.{◌∙◌, sym, subst}
-use Rattle.change_codec.specs.Rules.{RulesFact}
-use Rattle.image_codec.specs.Facts.{rules_fact}
-use Rattle.state_file.specs.Comparing.{AreAsWide}
+use Rattle.state_file.proofs.Names.{RulesFact, rules_fact, AreAsWide}
 use Rattle.state_file.proofs.Tells.{told_spelled}
 use Rattle.state_file.proofs.telling.tells_as.Goals as goal
 

@@ -1,11 +1,5 @@
 use Rattle.std.proofs.Common.{◌≡◌, ◌↔◌, ℕ, List, Bool, Result, Ok, Err, Some, sym, subst, ◌∙◌}
-use Rattle.std.specs.Prelude.{IfOk, IsTrue}
-use Rattle.change_codec.specs.Rules.{RulesFact}
-use Rattle.image_codec.specs.Facts.{rules_fact}
-use Rattle.state_file.specs.declared.fault.StateFault.{StateFault}
-use Rattle.batch_file.specs.Frames.{lists}
-use Rattle.state_file.specs.Telling.{TellsIn, last_rules, rules_of}
-use Rattle.state_narrowing.specs.Narrowing.{AreLess, AreNarrower}
+use Rattle.state_narrowing.proofs.Names.{IfOk, IsTrue, RulesFact, rules_fact, StateFault, lists, TellsIn, last_rules, rules_of, AreLess, AreNarrower}
 use Rattle.state_narrowing.proofs.Less.{unread}
 use Rattle.state_narrowing.proofs.comparing.is_narrower.Goals as goal
 

@@ -1,10 +1,5 @@
 use Rattle.std.proofs.Common.{rules, inr, ◌≡◌, ◌⊎◌, List, Err, refl, sym, ap, subst}
-use Rattle.image_codec.specs.Facts.{ImageFact, image_fact}
-use Rattle.token_store.specs.Fits.{FitsHistory}
-use Rattle.token_store.specs.Image.{as_kept}
-use Rattle.consent.specs.declared.kept_record.KeptRecord.{KeptRecord}
-use Rattle.state_file.specs.FaultTexts.{of_encoding}
-use Rattle.state_narrowing.specs.Narrowing.{IsUnreadable, RefusesNarrowing}
+use Rattle.state_narrowing.proofs.Names.{ImageFact, image_fact, FitsHistory, as_kept, KeptRecord, of_encoding, IsUnreadable, RefusesNarrowing}
 use Rattle.state_narrowing.proofs.OfLeft.{counted_image, of_encoding_refuses, right_image}
 use Rattle.state_narrowing.proofs.imaging.image_left.Goals as goal
 

@@ -1,10 +1,5 @@
 use Rattle.std.proofs.Common.{rules, ◌≡◌, ◌<◌, ◌^◌, ◌∙◌, ℕ, List, ◌∷◌, Option, Err, refl, sym, ap, subst}
-use Rattle.std.specs.Prelude.{IfSome}
-use Rattle.batch_file.specs.Frames.{recovered}
-use Rattle.state_file.specs.Standing.{horizons, until_of}
-use Rattle.state_file.specs.Telling.{rules_of}
-use Rattle.state_file.proofs.Lasting.{until_of-less}
-use Rattle.state_narrowing.specs.Narrowing.{IsNarrower, IsUnnarrowed}
+use Rattle.state_narrowing.proofs.Names.{IfSome, recovered, horizons, until_of, rules_of, until_of-less, IsNarrower, IsUnnarrowed}
 use Rattle.state_narrowing.proofs.OfLeft.{has_left, unnarrowed}
 use Rattle.state_narrowing.proofs.narrowed.narrow.Goals as goal
 

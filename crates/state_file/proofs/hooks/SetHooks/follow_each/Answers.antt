@@ -1,10 +1,5 @@
 use Rattle.std.proofs.Common.{◌≡◌, ◌+◌, ◌++◌, ◌∙◌, List, [], ◌∷◌, take, sym, ap, arith}
-use Rattle.std.proofs.lemmas.Grind.{common_steps}
-use Rattle.std.proofs.lemmas.List.{take_all}
-use Rattle.change_codec.specs.declared.dated.DatedChange.{DatedChange}
-use Rattle.change_codec.specs.Spelling.{DatedFact, dated_fact, dated_facts}
-use Rattle.image_codec.specs.Facts.{HookFact}
-use Rattle.state_file.specs.Hooks.{hooks_behind, hooks_by}
+use Rattle.state_file.proofs.Names.{common_steps, take_all, DatedChange, DatedFact, dated_fact, dated_facts, HookFact, hooks_behind, hooks_by}
 use Rattle.state_file.proofs.Hooked.{hooks_behind-append}
 use Rattle.state_file.proofs.hooks.SetHooks.follow_each.Goals as goal
 

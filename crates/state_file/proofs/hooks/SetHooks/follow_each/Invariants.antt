@@ -1,6 +1,5 @@
 use Rattle.std.proofs.Common.{◌≡◌, take}
-use Rattle.change_codec.specs.Spelling.{dated_facts}
-use Rattle.state_file.specs.Hooks.{hooks_behind}
+use Rattle.state_file.proofs.Names.{dated_facts, hooks_behind}
 use Rattle.state_file.proofs.hooks.SetHooks.follow_each.Given as goal
 
 abbrev pub invariant-loop-dated : goal.invariant-loop-dated

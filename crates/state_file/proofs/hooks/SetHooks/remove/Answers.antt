@@ -1,8 +1,6 @@
 use Rattle.std.proofs.Common.{rules, ◌≡◌, not, ap, ◌∙◌}
-use Rattle.std.specs.Str.{bytes_eq}
+use Rattle.state_file.proofs.Names.{bytes_eq, HookFact, without_hook}
 use Rattle.std.proofs.lemmas.Fn.{filter_same}
-use Rattle.image_codec.specs.Facts.{HookFact}
-use Rattle.state_file.specs.Hooks.{without_hook}
 use Rattle.state_file.proofs.hooks.SetHooks.remove.Goals as goal
 
 pub returns : goal.returns

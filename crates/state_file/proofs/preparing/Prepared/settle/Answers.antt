@@ -1,8 +1,5 @@
 use Rattle.std.proofs.Common.{◌≡◌, sym, subst, arith}
-use Rattle.batch_file.specs.Crashes.{LeavesOnly}
-use Rattle.batch_file.specs.declared.appending.BatchFile.{BatchFile}
-use Rattle.state_file.specs.Making.{Made, end_of}
-use Rattle.state_file.specs.Starting.{IsOldOr, IsPutOn}
+use Rattle.state_file.proofs.Names.{LeavesOnly, BatchFile, Made, end_of, IsOldOr, IsPutOn}
 use Rattle.state_file.proofs.Kept.{keeper_of}
 use Rattle.state_file.proofs.Put.{old_or, put_on}
 use Rattle.state_file.proofs.preparing.Prepared.settle.Goals as goal

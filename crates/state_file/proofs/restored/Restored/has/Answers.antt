@@ -1,6 +1,5 @@
 use Rattle.std.proofs.Common.{◌≡◌, ◌∙◌, Some, sym, ap}
-use Rattle.image_codec.specs.Facts.{hook_fact}
-use Rattle.state_file.specs.Hooks.{hook_named}
+use Rattle.state_file.proofs.Names.{hook_fact, hook_named}
 use Rattle.state_file.proofs.Setting.{named_is}
 use Rattle.state_file.proofs.restored.Restored.has.Goals as goal
 

@@ -1,7 +1,6 @@
 use Rattle.std.proofs.Common.{refl}
+use Rattle.state_file.proofs.Names.{One, hook_fact}
 use Rattle.consent.specs.declared.change.Change.TheVariants.{HookSet}
-use Rattle.consent.specs.declared.change.Changes.TheVariants.{One}
-use Rattle.image_codec.specs.Facts.{hook_fact}
 use Rattle.state_file.proofs.Setting.{sets_new}
 use Rattle.state_file.proofs.restored.Restored.install.Goals as goal
 

@@ -1,10 +1,5 @@
 use Rattle.std.proofs.Common.{◌∙◌, List, map, refl, sym, ap, subst}
-use Rattle.consent.specs.Consents.{FitsConsents, kept_consents}
-use Rattle.consent.specs.declared.kept_consent.KeptConsent.{KeptConsent}
-use Rattle.endpoints.specs.Server.{outset_of}
-use Rattle.consent.specs.RecordFacts.{record_fact}
-use Rattle.image_codec.specs.Facts.{HookFact, hook_fact, image_fact}
-use Rattle.state_file.specs.Resuming.{Installs}
+use Rattle.state_file.proofs.Names.{FitsConsents, kept_consents, KeptConsent, outset_of, record_fact, HookFact, hook_fact, image_fact, Installs}
 use Rattle.state_file.proofs.Imaged.{made_of}
 use Rattle.state_file.proofs.restored.Restored.of_image.Goals as goal
 

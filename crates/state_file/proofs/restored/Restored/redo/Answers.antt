@@ -1,6 +1,5 @@
 use Rattle.std.proofs.Common.{refl, ap, ◌∙◌}
-use Rattle.consent.specs.declared.change.Changes.TheVariants.{One}
-use Rattle.endpoints.specs.Noting.{with_notes}
+use Rattle.state_file.proofs.Names.{One, with_notes}
 use Rattle.state_file.proofs.Redone.{redoes_one}
 use Rattle.state_file.proofs.restored.Restored.redo.Goals as goal
 

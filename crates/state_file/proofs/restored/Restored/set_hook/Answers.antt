@@ -1,6 +1,5 @@
 use Rattle.std.proofs.Common.{sym, subst}
-use Rattle.image_codec.specs.Facts.{hook_fact}
-use Rattle.state_file.specs.Resuming.{RefusesSetting}
+use Rattle.state_file.proofs.Names.{hook_fact, RefusesSetting}
 use Rattle.state_file.proofs.Refused.{not_made}
 use Rattle.state_file.proofs.restored.Restored.set_hook.Goals as goal
 

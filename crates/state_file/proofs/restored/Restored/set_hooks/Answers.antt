@@ -1,10 +1,5 @@
 use Rattle.std.proofs.Common.{rules, ◌≡◌, ◌+◌, ◌++◌, ◌∙◌, List, [], ◌∷◌, Err, map, take, drop, get_or, sym, ap, subst}
-use Rattle.std.specs.Prelude.{IfErr}
-use Rattle.std.proofs.lemmas.List.{map_push, take_all, take_more}
-use Rattle.image_codec.specs.Facts.{HookFact, hook_fact}
-use Rattle.consent.specs.declared.record_version.RecordVersion.TheVariants.{First}
-use Rattle.image_codec.specs.declared.image.KeptHook.{KeptHook}
-use Rattle.state_file.specs.Resuming.{RefusesSettings, Sets}
+use Rattle.state_file.proofs.Names.{IfErr, map_push, take_all, take_more, HookFact, hook_fact, First, KeptHook, RefusesSettings, Sets}
 use Rattle.state_file.proofs.Refused.{parted}
 use Rattle.state_file.proofs.Setting.{sets_then}
 use Rattle.state_file.proofs.restored.Restored.set_hooks.Goals as goal

@@ -1,6 +1,5 @@
 use Rattle.std.proofs.Common.{◌≡◌, map, take}
-use Rattle.image_codec.specs.Facts.{hook_fact}
-use Rattle.state_file.specs.Resuming.{Sets}
+use Rattle.state_file.proofs.Names.{hook_fact, Sets}
 use Rattle.state_file.proofs.restored.Restored.set_hooks.Given as goal
 
 abbrev pub invariant-loop-hook : goal.invariant-loop-hook
