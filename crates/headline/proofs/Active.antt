@@ -1,31 +1,13 @@
 -- Active tokens are the live ones that are presented.
-use Rattle.std.proofs.Common.{◌≡◌, ◌≤◌, ◌+◌, ℕ, List, true, false, Option, Some, refl, sym, ap, ◌∙◌, arith, subst}
-use Rattle.std.specs.Prelude.{codes, not, bytes_eq, option_map}
-use Rattle.std.proofs.lemmas.Bool.{and_parts, ltb-true, false≢true}
-use Rattle.std.proofs.lemmas.Slice.Eq.{bytes_eq-Decides}
-use Rattle.params.specs.Form.{value_sent}
-use Rattle.clients.specs.RegistryRecord.{RegistryRecord}
-use Rattle.clients.specs.ClientRecord.{ClientRecord}
-use Rattle.clients.specs.Clients.{client_at}
-use Rattle.authentication.specs.Authentication.{authenticated}
+use Rattle.std.proofs.Common.{◌≡◌, ◌≤◌, ◌+◌, ℕ, List, [], true, false, Some, refl, sym, ap, ◌∙◌, arith, subst}
+use Rattle.headline.proofs.Names.{codes, not, and_parts, ltb-true, false≢true, bytes_eq-Decides, RegistryRecord, ClientRecord, client_at, Grant, grant_at, grants, live_grant, is_code, is_named}
+use Rattle.headline.proofs.Names.{is_unexpired, is_single_use, is_spent, IsHistory, grant_at-past, Kind, Code, Token, plain, Outcome, point, only, bare, chosen, digest_told, live_token, AllRight}
+use Rattle.headline.proofs.Names.{IsBounded, tokens_keep_their_bounds, introspect, told_of, IsLive, Shows, TellsOf, IsActive, TellsWithin, IsActiveWhereLive, TellsLive, KeepsScope, Occasion, GoesTo}
+use Rattle.headline.proofs.Names.{outcome_of, reply_on, setting_on}
+use Rattle.std.specs.Prelude.{bytes_eq}
 use Rattle.authentication.specs.AuthenticationLaws.{authenticated-from}
-use Rattle.consent.specs.History.{Event, Grant, grant_at, grants, live_grant, is_code, is_named, is_unexpired, is_single_use, is_spent, IsHistory}
-use Rattle.consent.specs.HistoryLaws.{grant_at-past}
+use Rattle.consent.specs.History.{Event}
 use Rattle.consent.specs.ListLaws.{find-passes}
-use Rattle.consent.specs.declared.grant.Kind.{Kind}
-use Rattle.consent.specs.declared.grant.Kind.TheVariants.{Code, Token}
-use Rattle.messages.specs.Reply.{plain}
-use Rattle.messages.specs.Reply.Body.{Inactive}
-use Rattle.messages.specs.declared.error.ErrorName.TheVariants.{InvalidRequest}
-use Rattle.answers.specs.Outcomes.{Outcome, need, point, only, refuse, bare, chosen, unavailable}
-use Rattle.answers.specs.Requesters.{Parameters, KnownClient, with_client}
-use Rattle.answers.specs.Texts.{digest_told}
-use Rattle.answers.specs.Tokens.{live_token}
-use Rattle.endpoints.specs.Bounded.{IsBounded}
-use Rattle.endpoints.specs.Introspect.{introspect, told_of}
-use Rattle.headline.specs.Activity.{IsLive, Shows, TellsOf, IsActive, TellsWithin, IsActiveWhereLive, TellsLive}
-use Rattle.headline.specs.Grants.{KeepsScope}
-use Rattle.headline.specs.Occasions.{Occasion, GoesTo, outcome_of, reply_on, setting_on}
 use Rattle.headline.proofs.Bounding.{live_keeps, of_client, there, IsShort}
 use Rattle.headline.proofs.Exchanged.{at_path}
 use Rattle.headline.proofs.Ways.{Way, Quiet, ByToken, Tells, Wanting, at_each, outcome_by}
@@ -64,8 +46,11 @@ told_tells : (rules : RegistryRecord) (g : Grant) (client : ClientRecord) → cl
 told_tells rules g client at Code is no_code = absurd (false≢true (sym no_code))
 told_tells rules g client at (Token kind) is no_code = (is, rw at refl, refl, refl, refl, refl)
 
-module _ (rules : RegistryRecord) (history : List Event) (m : ℕ) (is : IsHistory history m) (bounded : IsBounded rules history)
+module _ (rules : RegistryRecord) (history : List Event) (m : ℕ) (is : IsHistory history m) (right : AllRight rules [] history)
     (occasion : Occasion) (later : m ≤ occasion.arrival.moment) where
+  bounded : IsBounded rules history
+  bounded = tokens_keep_their_bounds rules history m is right
+
   abbrev P : Outcome → Type 0
   P o =
       o ≡ outcome_of rules history occasion → IsActive o.reply.body →
@@ -90,14 +75,6 @@ module _ (rules : RegistryRecord) (history : List Event) (m : ℕ) (is : IsHisto
   pub tells_within : TellsWithin rules history occasion
   tells_within = at_each P rules history occasion by_way refl
 
-  -- the points of the client and its token
-  abbrev by_live : Option Grant → Outcome
-  by_live live = need live (only (plain 200 Inactive)) (λ token. only (plain 200 (told_of rules token token.kind)))
-
-  abbrev ask : Parameters → KnownClient → Outcome
-  ask params known =
-      need (value_sent (codes "token") params) (refuse InvalidRequest) (λ text. by_live (live_token history occasion.arrival.moment text))
-
   each_live : (text : List ℕ) (token : Grant) → GoesTo occasion (codes "/introspect") → occasion.arrival.asked.method ≡ codes "POST" →
       occasion.refused ≡ false → Shows rules occasion text → IsLive history text occasion.arrival.moment token →
       TellsOf rules token (reply_on rules history occasion).body
@@ -107,18 +84,17 @@ module _ (rules : RegistryRecord) (history : List Event) (m : ℕ) (is : IsHisto
       let from = authenticated-from rules.clients occasion.arrival.asked.authorization shown.0 shown.2 shown.3.authentic in
       let known = from.3.1 in
       let sender = there rules shown.2 (grind (arith, known)) in
-      let known : KnownClient = record { number = shown.2; client = sender.0 } in
+      let at = sender.1 in
+      let form = shown.3.form in
+      let authentic = shown.3.authentic in
+      let sent = shown.1 in
+      let found = live_token_is history text occasion.arrival.moment token live in
       let client = of_client rules history token.digest occasion.arrival.moment token bounded live.named in
       let goes_there : outcome_of rules history occasion ≡ o =
       ap (at_path rules history occasion) goes
       ∙ ap (λ b. point (not b) (bare 405) (chosen occasion.refused o)) ((bytes_eq-Decides asked.method (codes "POST")).1 posted)
       ∙ ap (λ b. chosen b o) unrefused in
-      let told : o ≡ only (plain 200 (told_of rules token token.kind)) =
-      ap (λ (p : Option Parameters). need p (refuse InvalidRequest) (λ params. with_client rules (authenticated rules.clients asked.authorization params) (ask params))) shown.3.form
-      ∙ ap (λ r. with_client rules r (ask shown.0)) shown.3.authentic
-      ∙ ap (λ (c : Option ClientRecord). need (option_map (λ client. let k : KnownClient = record { number = shown.2; client = client } in k) c) unavailable (ask shown.0)) sender.1
-      ∙ ap (λ t. need t (refuse InvalidRequest) (λ text. by_live (live_token history occasion.arrival.moment text))) shown.1
-      ∙ ap by_live (live_token_is history text occasion.arrival.moment token live) in
+      let told : o ≡ only (plain 200 (told_of rules token token.kind)) = grind (arith, form, authentic, at, sent, found) in
       subst (λ (x : Outcome). TellsOf rules token x.reply.body) (sym (goes_there ∙ told)) (told_tells rules token client.0 client.1 token.kind refl live.no_code)
 
   pub active_where_live : IsActiveWhereLive rules history occasion

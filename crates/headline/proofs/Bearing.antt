@@ -1,34 +1,20 @@
 -- What happens, and the end of each family, is borne by credentials and keys.
 use Rattle.std.proofs.Common.{◌≡◌, ◌≢◌, ℕ, suc, List, [], ◌∷◌, Bool, true, false, Option, Some, None, cond, length, refl, sym, ap, ◌∙◌, arith, subst, ◌⊎◌, inl, inr, ◌++◌, append-nil}
-use Rattle.std.specs.Prelude.{All, Contains, find, ◌||◌, not}
+use Rattle.headline.proofs.Names.{Contains, find, ◌||◌, not, false≢true, and_parts, not-true, nat_tests, All-nil, All-cons, All-contains, All-weaker, All-head, RegistryRecord, authenticated, Change}
+use Rattle.headline.proofs.Names.{Grant, grant_at, grants, is_named, is_of, opener, IsHistory, event_at, Terms, code_terms, ends, has_ended, is_beyond, with_change, with_changes, CodeGiven, Issued}
+use Rattle.headline.proofs.Names.{Spent, FamilyEnded, Consented, opener-fresh, Asked, under_digest, Extent, Outcome, form_of, owner_of_key, Setting, is_operator, access_issued, refresh_issued}
+use Rattle.headline.proofs.Names.{list_all, has_ended-push, has_ended-push_other, with_changes-cons, BearsCredentials, BearsOwnerKey, BearsOperatorKey, Occasion, outcome_of, setting_on}
+use Rattle.std.specs.Prelude.{All}
 use Rattle.std.specs.Option.{option_map_or}
-use Rattle.std.proofs.lemmas.Bool.{false≢true, and_parts, not-true}
-use Rattle.std.proofs.lemmas.Bool.Decides.{nat_tests}
-use Rattle.std.proofs.lemmas.List.Elements.{All-nil, All-cons, All-contains, All-weaker, All-head}
 use Rattle.std.proofs.lemmas.List.Sums.{AllPass-from_list_all}
-use Rattle.clients.specs.RegistryRecord.{RegistryRecord}
 use Rattle.clients.specs.Registry.{is_operator_key}
 use Rattle.clients.specs.Owners.{owner_with}
-use Rattle.authentication.specs.Authentication.{authenticated}
-use Rattle.consent.specs.History.{Event, Change, Grant, grant_at, grants, is_named, is_of, opener, IsHistory, event_at, Terms, code_terms, ends, has_ended, is_beyond, with_change, with_changes}
-use Rattle.consent.specs.History.Change.{CodeGiven, Issued, Spent, FamilyEnded, Consented}
-use Rattle.consent.specs.HistoryLaws.{opener-fresh}
-use Rattle.messages.specs.Asked.{Asked}
-use Rattle.answers.specs.FoundLaws.{under_digest}
-use Rattle.answers.specs.Outcomes.{Extent, Outcome}
-use Rattle.answers.specs.Requesters.{form_of, owner_of_key}
-use Rattle.answers.specs.Setting.{Setting}
-use Rattle.endpoints.specs.HookPaths.{is_operator}
-use Rattle.token_endpoint.specs.Grants.{access_issued, refresh_issued}
-use Rattle.std.specs.List.{list_all}
+use Rattle.consent.specs.History.{Event}
 use Rattle.consent.specs.Growth.{may_end}
-use Rattle.consent.specs.GrowthLaws.{has_ended-push, has_ended-push_other, with_changes-cons}
 use Rattle.headline.specs.Authority.{IsAuthorized, IsAllAuthorized, LeavesAlone, IsIsolated, EndsWithAuthority}
-use Rattle.headline.specs.Bearers.{BearsCredentials, BearsOwnerKey, BearsOperatorKey}
-use Rattle.headline.specs.Occasions.{Occasion, outcome_of, setting_on}
 use Rattle.headline.proofs.Spending.{live_is}
 use Rattle.headline.proofs.Walking.{same_some, through}
-use Rattle.headline.proofs.Ways.{Sender, Way, ByToken, Coded, Consents, Revokes, Installs, Removes, Again, InVain, Once, Twice, Refreshed, Own, at_each, both_issued, number_in, one_issued, outcome_by, Quiet, Turned, Tells, Refused, Wanting}
+use Rattle.headline.proofs.Ways.{Sender, Way, ByToken, Coded, Consents, Revokes, Installs, Removes, Again, InVain, Once, Twice, Refreshed, Own, at_each, both_issued, number_in, one_issued, outcome_by, Wanting}
 
 -- what is found is in the list
 pub find_contains : {X : Type 0} (p : X → Bool) (xs : List X) (x : X) → find p xs ≡ Some x → Contains xs x
@@ -39,7 +25,6 @@ find_contains {X = X} p (y ∷ ys) x e = by_test (p y) e (find_contains p ys x)
     by_test true h rest = (0, omega arith, let same : y ≡ x = cc in same)
     by_test false h rest = let in_rest = rest h in let below = in_rest.1 in (suc in_rest.0, omega (arith, below), in_rest.2)
 
--- the codes and tokens of a family are of one client
 -- each code and token of the family is the client's
 abbrev IsFamilyOf : List Event → ℕ → ℕ → Type 0
 IsFamilyOf history family client = (g : Grant) → Contains (grants history) g → g.family ≡ family → g.client ≡ client
@@ -76,11 +61,8 @@ module _ (history : List Event) (m : ℕ) (is : IsHistory history m) where
     abbrev P : Outcome → Type 0
     P o = All Right o.changes
 
-    nothing : All Right []
-    nothing = All-nil Right
-
     one : (change : Change) → Right change → All Right (change ∷ [])
-    one change right = All-cons Right change [] right nothing
+    one change right = All-cons Right change [] right (All-nil Right)
 
     credentials : (sender : Sender rules asked) → BearsCredentials rules asked sender.known.number
     credentials sender = (sender.params, record { form = sender.form; authentic = sender.authenticates })
@@ -133,7 +115,7 @@ module _ (history : List Event) (m : ℕ) (is : IsHistory history m) where
     by_way (Revokes x own) = one _ (ended x.sender x.digest x.token (live_is history x.digest occasion.arrival.moment x.token x.live).0 own)
     by_way (Installs name version code operator) = one _ (operator_key operator)
     by_way (Removes name operator) = one _ (operator_key operator)
-    by_way _ = nothing
+    by_way _ = All-nil Right
 
     pub authorized : IsAllAuthorized rules history occasion
     authorized = at_each P rules history occasion by_way
@@ -165,23 +147,17 @@ module _ (history : List Event) (m : ℕ) (is : IsHistory history m) where
 abbrev is_quiet : Change → Bool
 is_quiet change = not (may_end change)
 
--- the changes end no family, or there is one
-abbrev IsShort : List Change → Type 0
-IsShort changes = (list_all is_quiet changes ≡ true) ⊎ ((change : Change) × (changes ≡ change ∷ []))
+-- there is one change, or they end no family
+abbrev are_short : List Change → Bool
+are_short (change ∷ []) = true
+are_short changes = list_all is_quiet changes
 
-are_short : (rules : RegistryRecord) (history : List Event) (occasion : Occasion) → IsShort (outcome_of rules history occasion).changes
-are_short rules history occasion = at_each (λ o. IsShort o.changes) rules history occasion by_way
+short_each : (rules : RegistryRecord) (history : List Event) (occasion : Occasion) → are_short (outcome_of rules history occasion).changes ≡ true
+short_each rules history occasion = at_each (λ o. are_short o.changes ≡ true) rules history occasion by_way
   where
-    by_way : (way : Way (setting_on rules history occasion) occasion.arrival.asked) → IsShort (outcome_by way).changes
-    by_way (Quiet status body moves active) = inl refl
-    by_way (ByToken (Refused error)) = inl refl
-    by_way (ByToken Wanting) = inl refl
-    by_way (ByToken (Once x left is untaken)) = inl refl
-    by_way (ByToken (Twice x left is untaken)) = inl refl
-    by_way (ByToken (Refreshed x left is untaken)) = inl refl
-    by_way (Turned x error) = inl refl
-    by_way (Tells x) = inl refl
-    by_way _ = inr (_, refl)
+    by_way : (way : Way (setting_on rules history occasion) occasion.arrival.asked) → are_short (outcome_by way).changes ≡ true
+    by_way (ByToken Wanting) = refl
+    by_way _ = refl
 
 module _ (history : List Event) (m : ℕ) (is : IsHistory history m) (rules : RegistryRecord) (occasion : Occasion) (family : ℕ)
     (lives : has_ended history family ≡ false) where
@@ -204,12 +180,7 @@ module _ (history : List Event) (m : ℕ) (is : IsHistory history m) (rules : Re
   pushed : (change : Change) → has_ended (history ++ event_at occasion.arrival.moment change ∷ []) family ≡ true →
       (ends family change || is_beyond change (code_terms history family)) ≡ true
   pushed change e =
-      ap (λ b. b || (ends family change || is_beyond change (code_terms history family))) (sym lives)
-      ∙ sym (has_ended-push history (event_at occasion.arrival.moment change) family (is.one_code family)) ∙ e
-
-  quiet_no : (change : Change) → may_end change ≡ false → has_ended (history ++ event_at occasion.arrival.moment change ∷ []) family ≡ true → Ends
-  quiet_no change quiet e =
-      absurd (false≢true (sym (has_ended-push_other history (event_at occasion.arrival.moment change) family quiet ∙ lives) ∙ e))
+      let more = has_ended-push history (event_at occasion.arrival.moment change) family (is.one_code family) in grind (arith, more, lives, e)
 
   by_one : (change : Change) → IsAuthorized rules history occasion change → has_ended (history ++ event_at occasion.arrival.moment change ∷ []) family ≡ true → Ends
   by_one (FamilyEnded f) right e =
@@ -223,15 +194,15 @@ module _ (history : List Event) (m : ℕ) (is : IsHistory history m) (rules : Re
       by_terms (Some terms) is h =
           let same : owner ≡ terms.owner = grind (arith, nat_tests, h) in
           inr (terms, is, subst (λ n. BearsOwnerKey rules occasion.arrival.asked n) same right)
-  by_one change right e = quiet_no change refl e
+  by_one change right e =
+      absurd (false≢true (sym (has_ended-push_other history (event_at occasion.arrival.moment change) family refl ∙ lives) ∙ e))
 
-  by_all : (changes : List Change) → IsShort changes → All (IsAuthorized rules history occasion) changes →
+  by_all : (changes : List Change) → are_short changes ≡ true → All (IsAuthorized rules history occasion) changes →
       has_ended (with_changes history occasion.arrival.moment changes) family ≡ true → Ends
-  by_all changes (inl quiet) right e = absurd (false≢true (sym (all_quiet history changes quiet lives) ∙ e))
-  by_all changes (inr single) right e =
-      by_one single.0 (All-head (IsAuthorized rules history occasion) single.0 [] (subst (All (IsAuthorized rules history occasion)) single.1 right))
-      (sym (ap (λ cs. has_ended (with_changes history occasion.arrival.moment cs) family) single.1) ∙ e)
+  by_all [] short right e = absurd (false≢true (sym (all_quiet history [] refl lives) ∙ e))
+  by_all (change ∷ []) short right e = by_one change (All-head (IsAuthorized rules history occasion) change [] right) e
+  by_all (change ∷ more ∷ rest) short right e = absurd (false≢true (sym (all_quiet history (change ∷ more ∷ rest) short lives) ∙ e))
 
 pub ends_with_authority : (history : List Event) (m : ℕ) → IsHistory history m → (rules : RegistryRecord) (occasion : Occasion) → EndsWithAuthority rules history occasion
 ends_with_authority history m is rules occasion family lives e =
-    by_all history m is rules occasion family lives (outcome_of rules history occasion).changes (are_short rules history occasion) (authorized history m is rules occasion) e
+    by_all history m is rules occasion family lives (outcome_of rules history occasion).changes (short_each rules history occasion) (authorized history m is rules occasion) e

@@ -1,18 +1,10 @@
 -- Live tokens of a bounded history.
 use Rattle.std.proofs.Common.{◌≡◌, ◌≢◌, ◌≤◌, ◌⊎◌, inl, inr, ℕ, List, [], ◌∷◌, ◌++◌, true, false, Option, Some, None, arith, refl, sym, ap, ◌∙◌, append_assoc, append-nil, subst}
-use Rattle.std.specs.Prelude.{is_some, unwrap_or}
-use Rattle.std.proofs.lemmas.Bool.{false≢true}
-use Rattle.std.proofs.lemmas.Bool.Decides.{nat_tests}
-use Rattle.clients.specs.ClientRecord.{ClientRecord}
-use Rattle.clients.specs.Clients.{client_at}
-use Rattle.clients.specs.RegistryRecord.{RegistryRecord}
-use Rattle.consent.specs.History.{Event, Change, event_at, Grant, grant_by, grant_at, is_code, is_within, consented_scope, last_consent, has_ended, live_grant}
-use Rattle.consent.specs.History.Change.{Consented, CodeGiven, Issued}
-use Rattle.consent.specs.HistoryLaws.{grant_at-given}
-use Rattle.consent.specs.declared.grant.Kind.TheVariants.{Token}
+use Rattle.headline.proofs.Names.{is_some, unwrap_or, false≢true, nat_tests, ClientRecord, client_at, RegistryRecord, Change, event_at, Grant, grant_by, grant_at, is_code, is_within, consented_scope}
+use Rattle.headline.proofs.Names.{last_consent, has_ended, live_grant, IsHistory, Consented, CodeGiven, Issued, grant_at-given, Token, tokens_keep_their_bounds, AllRight, IsBounded, IsAllowed}
+use Rattle.headline.proofs.Names.{IsConsentedAt, token_life_limit, KeepsScope, IsSince}
+use Rattle.consent.specs.History.{Event}
 use Rattle.consent.specs.declared.grant.TokenKind.{TokenKind}
-use Rattle.endpoints.specs.Bounded.{IsBounded, IsAllowed, IsConsentedAt, IsOwn, token_life_limit}
-use Rattle.headline.specs.Grants.{KeepsScope, IsSince}
 use Rattle.headline.proofs.Spending.{live_is, ended_stays}
 
 -- a life within the limit of the kind
@@ -31,12 +23,10 @@ change_keeps : (rules : RegistryRecord) (history : List Event) (moment : ℕ) (c
     KeepsScope rules history g × IsShort rules g
 change_keeps rules history moment (Issued family parties new) g at token allowed consented alive =
     subst (λ (x : Grant). has_ended history x.family ≡ false → KeepsScope rules history x × IsShort rules x) (same_grant _ g at)
-    (λ lives. (record { allowed = allowed.0; consented = by_owner lives consented }, λ k is. subst (λ x. new.life ≤ token_life_limit rules x) (same_kind new.kind k is) allowed.1)) alive
-  where
-    by_owner : has_ended history family ≡ false → (IsOwn history family parties.owner ⊎ (has_ended history family ≡ false → is_within new.scope (consented_scope history parties.owner parties.client) ≡ true)) →
-        IsOwn history family parties.owner ⊎ (is_within new.scope (consented_scope history parties.owner parties.client) ≡ true)
-    by_owner lives (inl own) = inl own
-    by_owner lives (inr within) = inr (within lives)
+    (λ lives. (
+      record { allowed = allowed.0; consented = elim consented [ inl own ↦ inl own | inr within ↦ inr (within lives) ] },
+      λ k is. subst (λ x. new.life ≤ token_life_limit rules x) (same_kind new.kind k is) allowed.1,
+    )) alive
 change_keeps rules history moment (CodeGiven family code digest) g at token allowed consented alive =
     absurd (false≢true (sym token ∙ sym (ap (λ (x : Grant). is_code x.kind) (same_grant _ g at))))
 change_keeps rules history moment _ g at token allowed consented alive = absurd (cc)
@@ -102,22 +92,22 @@ last_is : (before later : List Event) (owner client when mask : ℕ) → last_co
 last_is [] later owner client when mask none = grind (arith, nat_tests, none)
 last_is (x ∷ before) later owner client when mask none = let rest = last_is before later owner client when mask none in grind (arith, rest)
 
-pub lowered : (rules : RegistryRecord) (history : List Event) → IsBounded rules history →
+pub lowered : (rules : RegistryRecord) (history : List Event) (m : ℕ) → IsHistory history m → AllRight rules [] history →
     (digest : List ℕ) (t : ℕ) (g : Grant) (mask : ℕ) → live_grant history digest t ≡ Some g →
     is_code g.kind ≡ false → g.owner ≢ 0 → IsSince history digest t g mask → is_within g.scope mask ≡ true
-lowered rules history bounded digest t g mask live token some since = by_case since.counts
+lowered rules history m is right digest t g mask live token some since = by_case since.counts
   where
     by_case : (grant_at since.before digest t ≡ Some g) ⊎ (last_consent since.later g.owner g.client ≡ None) → is_within g.scope mask ≡ true
     by_case (inr last) =
         let now : consented_scope history g.owner g.client ≡ mask =
         ap (λ h. consented_scope h g.owner g.client) since.whole
         ∙ ap (λ o. unwrap_or o 0) (last_is since.before since.later g.owner g.client since.when mask last) in
-        ap (is_within g.scope) (sym now) ∙ with_owner rules history g (live_keeps rules history digest t g bounded live token).0 some
+        ap (is_within g.scope) (sym now) ∙ with_owner rules history g (live_keeps rules history digest t g (tokens_keep_their_bounds rules history m is right) live token).0 some
     by_case (inl named) =
         let e = event_at since.when (Consented g.owner g.client mask) in
         let whole : history ≡ (since.before ++ e ∷ []) ++ since.later = since.whole ∙ sym (append_assoc since.before (e ∷ []) since.later) in
         let alive = ended_stays (since.before ++ e ∷ []) since.later g.family (ap (λ h. has_ended h g.family) (sym whole) ∙ (live_is history digest t g live).1) in
-        let keeps = named_keeps rules since.before (e ∷ []) since.later digest t g (subst (λ h. IsBounded rules h) whole bounded) named token alive in
+        let keeps = named_keeps rules since.before (e ∷ []) since.later digest t g (subst (λ h. IsBounded rules h) whole (tokens_keep_their_bounds rules history m is right)) named token alive in
         let now : consented_scope (since.before ++ e ∷ []) g.owner g.client ≡ mask =
         ap (λ o. unwrap_or o 0) (last_is since.before [] g.owner g.client since.when mask refl) in
         ap (is_within g.scope) (sym now) ∙ with_owner rules (since.before ++ e ∷ []) g keeps.0 some

@@ -1,14 +1,11 @@
 -- The hooks of a chain are safe.
 use Rattle.std.proofs.Common.{List, [], ◌∷◌, All, sym, subst}
-use Rattle.std.specs.Prelude.{not}
+use Rattle.headline.proofs.Names.{not, All-append, All-cons, All-filter, All-nil, Change, HookSet, HookGone, HostStep, HostRun}
 use Rattle.std.specs.Str.{bytes_eq}
-use Rattle.std.proofs.lemmas.List.Elements.{All-append, All-cons, All-filter, All-nil}
 use Rattle.hook_chain.specs.Chains.{Named}
 use Rattle.hook_chain.specs.contracts.chain.ChainHookHost.TheImpl as chains
 use Rattle.hook_chain.specs.ExitLaws.{exits_are_runs}
-use Rattle.consent.specs.History.{Event, Change}
-use Rattle.consent.specs.History.Change.{HookSet, HookGone}
-use Rattle.endpoints.specs.Hosts.{HostStep, HostRun}
+use Rattle.consent.specs.History.{Event}
 use Rattle.headline.specs.SafeHooks.{IsSafeHook}
 
 -- a hook of a chain is safe

@@ -1,21 +1,12 @@
 -- The digests of codes and tokens are those of draws.
-use Rattle.std.proofs.Common.{◌≡◌, inl, inr, ℕ, List, [], ◌∷◌, ◌++◌, length, map, take, append_assoc, refl, sym, ap, ◌∙◌, subst}
-use Rattle.std.specs.List.{flat_map}
-use Rattle.std.proofs.lemmas.List.{map-append}
-use Rattle.sha2.specs.Sha256.{sha256}
-use Rattle.clients.specs.RegistryRecord.{RegistryRecord}
-use Rattle.consent.specs.History.{Event, event_at, grants, with_changes}
-use Rattle.consent.specs.GrowthLaws.{grants-append}
-use Rattle.hook_host.specs.declared.host.HookHost.{Ghosts as Hosting}
+use Rattle.std.proofs.Common.{arith, ◌≡◌, inl, inr, ℕ, List, [], ◌∷◌, ◌++◌, length, map, take, append_assoc, append-nil, refl, sym, ap, ◌∙◌, subst}
+use Rattle.headline.proofs.Names.{flat_map, map-append, sha256, RegistryRecord, event_at, grants, with_changes, grants-append, Hosting, Outcome, says_with, Outset, AnsweredRequest, AreAnswered}
+use Rattle.headline.proofs.Names.{IsOutcomeOfRequest, changes_made, draws_in, mishaps_in, AnsweredPiece, Happening, Came, Taken, Resumed, Happens, PieceComes, Run, World, first_world, Occasion}
+use Rattle.headline.proofs.Names.{outcome_of, setting_on}
+use Rattle.consent.specs.History.{Event}
 use Rattle.messages.specs.declared.request.Draws.{Draws}
-use Rattle.answers.specs.Outcomes.{Outcome}
-use Rattle.endpoints.specs.Hosts.{says_with}
-use Rattle.endpoints.specs.Server.{Outset}
-use Rattle.http_edge.specs.Answers.{AnsweredRequest, AreAnswered, IsOutcomeOfRequest, changes_made, draws_in, mishaps_in}
-use Rattle.http_edge.specs.Schedule.{AnsweredPiece, Happening, Opened, Came, HasEnded, Taken, Forgotten, Kept, Resumed, Happens, PieceComes, Run, World, first_world}
 use Rattle.headline.specs.Drawn.{AreAmong, AreDrawn, digests_by}
-use Rattle.headline.specs.Occasions.{Occasion, outcome_of, setting_on}
-use Rattle.headline.proofs.Ways.{Way, ByToken, Coded, Once, Twice, Refreshed, Own, at_each, outcome_by}
+use Rattle.headline.proofs.Ways.{Way, ByToken, Wanting, at_each, outcome_by}
 
 -- the digests of two draws
 abbrev digests_of : Draws → List (List ℕ)
@@ -27,12 +18,6 @@ digests_given history = map (λ g. g.digest) (grants history)
 
 -- AMONG OTHERS
 
-among_more : (xs ys zs : List (List ℕ)) → AreAmong xs ys → AreAmong xs (ys ++ zs)
-among_more [] ys zs a = tt
-among_more (x ∷ xs) [] zs a = absurd a
-among_more (x ∷ xs) (y ∷ ys) zs (inl here) = inl (here.0, among_more xs ys zs here.1)
-among_more (x ∷ xs) (y ∷ ys) zs (inr there) = inr (among_more (x ∷ xs) ys zs there)
-
 among_later : (xs ys zs : List (List ℕ)) → AreAmong xs zs → AreAmong xs (ys ++ zs)
 among_later [] ys zs a = tt
 among_later (x ∷ xs) [] zs a = a
@@ -43,6 +28,9 @@ among_both [] ys zs us a b = among_later ys zs us b
 among_both (x ∷ xs) ys [] us a b = absurd a
 among_both (x ∷ xs) ys (z ∷ zs) us (inl here) b = inl (here.0, among_both xs ys zs us here.1 b)
 among_both (x ∷ xs) ys (z ∷ zs) us (inr there) b = inr (among_both (x ∷ xs) ys zs us there b)
+
+among_more : (xs ys zs : List (List ℕ)) → AreAmong xs ys → AreAmong xs (ys ++ zs)
+among_more xs ys zs a = subst (λ l. AreAmong l (ys ++ zs)) (append-nil xs) (among_both xs [] ys zs a tt)
 
 among_self : (xs : List (List ℕ)) → AreAmong xs xs
 among_self [] = tt
@@ -58,12 +46,8 @@ module _ (rules : RegistryRecord) (history : List Event) (occasion : Occasion) (
   P o = AreAmong (digests_given (map (event_at m) o.changes)) (digests_of occasion.arrival.draws)
 
   by_way : (way : Way (setting_on rules history occasion) occasion.arrival.asked) → P (outcome_by way)
-  by_way (ByToken (Once x left is untaken)) = inl (refl, tt)
-  by_way (ByToken (Twice x left is untaken)) = inl (refl, inl (refl, tt))
-  by_way (ByToken (Refreshed x left is untaken)) = inl (refl, inl (refl, tt))
-  by_way (ByToken (Own sender typed scope left is untaken)) = inl (refl, tt)
-  by_way (Coded x code key of) = inl (refl, tt)
-  by_way _ = tt
+  by_way (ByToken Wanting) = tt
+  by_way _ = grind arith
 
   drawn_once : P (outcome_of rules history occasion)
   drawn_once = at_each P rules history occasion by_way
@@ -117,19 +101,16 @@ module _ {H : Type 0} (hosting : Hosting H) (outset : Outset H) where
 
   one_more : (old new : World) (e : Happening) → Happens hosting outset old e new → (before : List (List ℕ)) →
       AreAmong (digests_given old.history) before → AreAmong (digests_given new.history) (before ++ digests_by e)
-  one_more old new (Opened c) happens before a = still old new before [] happens.still.history a
   one_more old new (Came came) happens before a = elim happens.1 [
     | inl comes ↦ of_piece old new came comes before a
     | inr passes ↦ still old new before (digests_by (Came came)) (ap (λ (w : World). w.history) passes.same) a
   ]
-  one_more old new (HasEnded c) happens before a = still old new before [] happens.still.history a
   one_more old new (Taken c n) (inl takes) before a = still old new before [] takes.still.history a
   one_more old new (Taken c n) (inr nothing) before a = still old new before [] (ap (λ (w : World). w.history) nothing.same) a
-  one_more old new (Forgotten c) happens before a = still old new before [] happens.still.history a
-  one_more old new Kept happens before a = still old new before [] (ap (λ (w : World). w.history) happens.kept) a
   one_more old new (Resumed history greatest) happens before a =
       among_later (digests_given new.history) before (digests_given history)
       (subst (λ h. AreAmong (digests_given h) (digests_given history)) (sym (ap (λ (w : World). w.history) happens.resumed)) (among_self (digests_given history)))
+  one_more old new _ happens before a = still old new before [] (cc) a
 
   drawn_from : (old new : World) (schedule : List Happening) → Run hosting outset old schedule new → (before : List (List ℕ)) →
       AreAmong (digests_given old.history) before → AreAmong (digests_given new.history) (before ++ flat_map digests_by schedule)

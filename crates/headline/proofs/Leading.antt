@@ -1,8 +1,6 @@
 -- Calls that were made on a new edge, one more at a time.
 use Rattle.std.proofs.Common.{◌≡◌, List, [], ◌∷◌, ◌++◌, length, take, refl, sym, ap, subst, ◌∙◌}
-use Rattle.hook_host.specs.declared.host.HookHost.{Ghosts as Hosting}
-use Rattle.endpoints.specs.Server.{Outset}
-use Rattle.http_edge.specs.Schedule.{Happening, Opened, Came, HasEnded, Taken, Forgotten, connection_at, piece_of, untaken}
+use Rattle.headline.proofs.Names.{Hosting, Outset, Happening, Opened, Came, HasEnded, Taken, Forgotten, connection_at, piece_of, untaken, IsMade}
 use Rattle.http_edge.specs.Edges.{SeenEdge}
 use Rattle.http_edge.specs.Reached.{GoesOn, Journey, Reached, led_on, new_journey}
 use Rattle.http_edge.proofs.Showing.{shows_output}
@@ -12,7 +10,6 @@ use Rattle.headline.specs.declared.call.EdgeCall.TheVariants.{Event, Take, Forge
 use Rattle.headline.specs.declared.call.Upshot.{Upshot}
 use Rattle.headline.specs.declared.call.Upshot.TheVariants.{Done, Refused}
 use Rattle.headline.specs.Calls.{Lead}
-use Rattle.headline.specs.Headline.{IsMade}
 use Rattle.headline.specs.Making.{CallLeads}
 
 module _ {H : Type 0} (hosting : Hosting H) where

@@ -15,3 +15,4 @@ pub mod Redirecting
 pub mod Replaying
 pub mod Deciding
 pub mod Drawing
+pub mod Names

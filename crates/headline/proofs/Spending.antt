@@ -1,12 +1,8 @@
 -- Of the codes and tokens of a digest, in a history and whatever comes after it.
-use Rattle.std.proofs.Common.{◌≡◌, ℕ, List, [], ◌∷◌, ◌++◌, Bool, true, false, Option, Some, None, arith, refl, sym, ap, ◌∙◌, append_assoc, append-nil}
-use Rattle.std.specs.Prelude.{◌||◌, not, find}
-use Rattle.std.specs.List.{list_any}
+use Rattle.std.proofs.Common.{◌≡◌, ℕ, List, [], ◌∷◌, ◌++◌, Bool, true, false, Some, None, arith, refl, sym, ap, ◌∙◌, append_assoc, append-nil}
+use Rattle.headline.proofs.Names.{find, list_any, list_any-append, Grant, grants, grant_at, is_named, spends, is_spent, has_ended, ends, is_good, live_grant, grant_at-append, has_ended-before}
 use Rattle.std.specs.Str.{bytes_eq}
-use Rattle.std.proofs.lemmas.Bool.{or_left, or_right}
-use Rattle.std.proofs.lemmas.List.Folds.{list_any-append}
-use Rattle.consent.specs.History.{Event, Grant, grants, grant_at, is_named, spends, is_spent, has_ended, ends, is_lowered, is_good, where_good, live_grant}
-use Rattle.consent.specs.GrowthLaws.{grant_at-append, has_ended-before}
+use Rattle.consent.specs.History.{Event}
 
 -- the code or token has the digest
 abbrev pub has_digest : List ℕ → Grant → Bool
@@ -43,17 +39,13 @@ ended_stays history (x ∷ more) family e =
 
 -- and it has ended with its end
 pub ended_by : (history : List Event) (e : Event) (family : ℕ) → ends family e.change ≡ true → has_ended (history ++ e ∷ []) family ≡ true
-ended_by [] e family is = or_left (ends family e.change || is_lowered family e.change []) false (or_left (ends family e.change) (is_lowered family e.change []) is)
-ended_by (x ∷ later) e family is =
-    or_right (ends family x.change || is_lowered family x.change (later ++ e ∷ [])) (has_ended (later ++ e ∷ []) family) (ended_by later e family is)
+ended_by [] e family is = grind (arith, is)
+ended_by (x ∷ later) e family is = let rest = ended_by later e family is in grind (arith, rest)
 
 -- what is live is there, and good
 pub live_good : (history : List Event) (digest : List ℕ) (t : ℕ) (g : Grant) → live_grant history digest t ≡ Some g →
     (grant_at history digest t ≡ Some g) × (is_good history digest t g ≡ true)
-live_good history digest t g live = by_grant (grant_at history digest t) live
-  where
-    by_grant : (o : Option Grant) → where_good history digest t o ≡ Some g → (o ≡ Some g) × (is_good history digest t g ≡ true)
-    by_grant o h = (grind (arith, h), grind (arith, h))
+live_good history digest t g live = (grind (arith, live), grind (arith, live))
 
 -- and its family has not ended
 pub live_is : (history : List Event) (digest : List ℕ) (t : ℕ) (g : Grant) → live_grant history digest t ≡ Some g →

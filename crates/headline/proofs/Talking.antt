@@ -1,18 +1,15 @@
 -- Connections are conversations, event by event.
-use Rattle.std.proofs.Common.{◌≡◌, inl, inr, ◌+◌, ℕ, List, [], ◌∷◌, ◌++◌, Bool, true, false, Some, None, cond, append_assoc, append-nil, refl, sym, ap, subst, ◌∙◌}
-use Rattle.std.specs.Prelude.{◌==◌, All, map}
-use Rattle.std.proofs.lemmas.List.{map-append}
-use Rattle.std.proofs.lemmas.List.Elements.{All-append, All-cons, All-nil}
+use Rattle.std.proofs.Common.{◌≡◌, ◌≢◌, inl, inr, arith, ◌+◌, ℕ, List, [], ◌∷◌, ◌++◌, Bool, Some, None, cond, append_assoc, append-nil, refl, sym, ap, subst, ◌∙◌}
+use Rattle.headline.proofs.Names.{◌==◌, map-append, All-append, All-cons, All-nil, Hosting, with_changes, Asked, Outset, AnsweredRequest, AreAnswered, AreAskedBy, replies_of, World, Connection}
+use Rattle.headline.proofs.Names.{AnsweredPiece, Happening, Opened, Came, HasEnded, Taken, Forgotten, Kept, Resumed, Happens, Run, PieceComes, Opens, StreamEnds, TakesOutput, ForgetsConnection}
+use Rattle.headline.proofs.Names.{connection_at, with_connection, fresh, heard, is_closing_phase, faulty_if}
+use Rattle.std.specs.Prelude.{All, map}
 use Rattle.std.proofs.lemmas.List.Concat.{flat_map-append}
-use Rattle.hook_host.specs.declared.host.HookHost.{Ghosts as Hosting}
-use Rattle.consent.specs.History.{Event, with_changes}
-use Rattle.messages.specs.Asked.{Asked}
+use Rattle.consent.specs.History.{Event}
 use Rattle.messages.specs.Written.{in_writing, reply_bytes}
-use Rattle.endpoints.specs.Server.{Outset}
 use Rattle.heads.specs.Message.{Message, asked_of_message}
 use Rattle.heads.specs.ReadingLaws.{nothing_has_none}
-use Rattle.http_edge.specs.Answers.{AnsweredRequest, AreAnswered, AreAskedBy, replies_of}
-use Rattle.http_edge.specs.Schedule.{World, Connection, AnsweredPiece, Happening, Opened, Came, HasEnded, Taken, Forgotten, Kept, Resumed, Happens, Run, PieceComes, Opens, StreamEnds, TakesOutput, ForgetsConnection, connection_at, with_connection, ended, fresh, heard, is_closing_phase, faulty_if}
+use Rattle.http_edge.specs.Schedule.{ended}
 use Rattle.http_edge.specs.declared.lane.Phase.{Phase}
 use Rattle.http_edge.specs.declared.lane.Phase.TheVariants as phase
 use Rattle.headline.specs.Conversations.{Conversation, HasConversations, HasOutcome}
@@ -35,38 +32,38 @@ join_asked messages more requests later a b =
 
 -- a stream's end tells nothing of faulty heads
 closing_stays : (p : Phase) → is_closing_phase (ended p) ≡ is_closing_phase p
-closing_stays phase.Open = refl
-closing_stays _ = refl
+closing_stays p = grind arith
 
 closing_told : (closes : Bool) → is_closing_phase (cond closes phase.Closing phase.Open) ≡ closes
-closing_told true = refl
-closing_told false = refl
+closing_told closes = grind arith
 
 module _ {H : Type 0} (hosting : Hosting H) (outset : Outset H) where
   module _ (old new : World) (c : ℕ) (talks : HasConversations hosting outset old) where
-    -- it is as it was
-    stays : (d : ℕ) (k : Connection) → connection_at new.connections d ≡ connection_at old.connections d → connection_at new.connections d ≡ Some k → Conversation hosting outset k
-    stays d k same here = talks d k (sym same ∙ here)
+    -- all but this one are as they were
+    changed : ((d : ℕ) → d ≢ c → connection_at new.connections d ≡ connection_at old.connections d) →
+        ((k : Connection) → connection_at new.connections c ≡ Some k → Conversation hosting outset k) → HasConversations hosting outset new
+    changed others this d k here =
+        by_number c d (λ b. Conversation hosting outset k)
+        (λ same. this k (ap (λ n. connection_at new.connections n) same ∙ here))
+        (λ other. talks d k (sym (others d other) ∙ here))
 
-    -- it is this one
-    becomes : (d : ℕ) (k x : Connection) → c ≡ d → connection_at new.connections c ≡ Some x → connection_at new.connections d ≡ Some k → Conversation hosting outset x → Conversation hosting outset k
-    becomes d k x same now here talk =
-        subst (λ y. Conversation hosting outset y) (same_connection x k (sym now ∙ ap (λ n. connection_at new.connections n) same ∙ here)) talk
+    -- this one is there now
+    becomes : (x : Connection) → connection_at new.connections c ≡ Some x → Conversation hosting outset x →
+        (k : Connection) → connection_at new.connections c ≡ Some k → Conversation hosting outset k
+    becomes x now talk k here = subst (λ y. Conversation hosting outset y) (same_connection x k (sym now ∙ here)) talk
 
     -- the one of this number is put in the place of the one before
     put : (y x : Connection) → connection_at old.connections c ≡ Some y → x.number ≡ y.number → new.connections ≡ with_connection c x old.connections →
         Conversation hosting outset x → HasConversations hosting outset new
-    put y x here number connections talk d k there =
-        by_number c d (λ b. Conversation hosting outset k)
-        (λ same. becomes d k x same (rw connections (found_put old.connections c y x here number)) there talk)
-        (λ other. stays d k (rw connections (put_other old.connections c d x (ap (λ (n : ℕ). n == c) number ∙ found_number old.connections c y here) other)) there)
+    put y x here number connections talk =
+        changed (λ d other. rw connections (put_other old.connections c d x (ap (λ (n : ℕ). n == c) number ∙ found_number old.connections c y here) other))
+        (becomes x (rw connections (found_put old.connections c y x here number)) talk)
 
     talks_opened : Opens old new c → HasConversations hosting outset new
-    talks_opened opens d k here =
-        by_number c d (λ b. Conversation hosting outset k)
-        (λ same. becomes d k (fresh c) same (rw opens.connections (found_fresh old.connections c opens.absent)) here
+    talks_opened opens =
+        changed (λ d other. rw opens.connections (added_other old.connections c d other))
+        (becomes (fresh c) (rw opens.connections (found_fresh old.connections c opens.absent))
         (record { rest = []; reads = record { reads = refl; none = nothing_has_none }; requests = []; asked = refl; each = All-nil (HasOutcome hosting outset); replies = refl }))
-        (λ other. stays d k (rw opens.connections (added_other old.connections c d other)) here)
 
     talks_ended : StreamEnds old new c → HasConversations hosting outset new
     talks_ended ends =
@@ -82,12 +79,10 @@ module _ {H : Type 0} (hosting : Hosting H) (outset : Outset H) where
         })
 
     talks_forgotten : ForgetsConnection old new c → HasConversations hosting outset new
-    talks_forgotten forgets d k here =
-        by_number c d (λ b. Conversation hosting outset k)
-        (λ same.
-        let gone : connection_at new.connections d ≡ None = ap (λ n. connection_at new.connections n) (sym same) ∙ rw forgets.connections (found_gone old.connections c) in
+    talks_forgotten forgets =
+        changed (λ d other. rw forgets.connections (without_other old.connections c d other)) (λ k here.
+        let gone : connection_at new.connections c ≡ None = rw forgets.connections (found_gone old.connections c) in
         let none : Some k ≡ None = sym here ∙ gone in absurd (cc))
-        (λ other. stays d k (rw forgets.connections (without_other old.connections c d other)) here)
 
     talks_taken : (n : ℕ) → TakesOutput old new c n → HasConversations hosting outset new
     talks_taken n takes =

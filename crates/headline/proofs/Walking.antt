@@ -1,43 +1,47 @@
 -- What holds at each point of an outcome holds of the outcome.
-use Rattle.std.proofs.Common.{◌≡◌, ℕ, List, Bool, true, false, Option, Some, None, eqb, refl, sym, ◌∙◌, subst, arith}
-use Rattle.std.specs.Prelude.{not, option_and_then}
-use Rattle.std.proofs.lemmas.Bool.{eq-eqb, false≢true}
-use Rattle.consent.specs.History.{has_room, is_taken}
-use Rattle.answers.specs.Setting.{Setting}
-use Rattle.messages.specs.declared.error.ErrorName.{ErrorName}
-use Rattle.messages.specs.declared.error.ErrorName.TheVariants.{InvalidRequest}
-use Rattle.answers.specs.Outcomes.{Outcome, point, need, unavailable, unless_taken, bare, chosen, status_of}
+use Rattle.std.proofs.Common.{◌≡◌, ℕ, List, Bool, true, false, Option, Some, None, eqb, refl, sym, ◌∙◌, arith}
+use Rattle.headline.proofs.Names.{not, option_and_then, eq-eqb, false≢true, has_room, is_taken, Setting, Outcome, point, need, unavailable, unless_taken, bare, chosen}
+
+-- so it is of two outcomes that have their points in common
+module _ (P : Outcome → Outcome → Type 0) where
+  pub both_point : (b : Bool) (here later later' : Outcome) → (b ≡ true → P here here) → (b ≡ false → P later later') →
+      P (point b here later) (point b here later')
+  both_point true here later later' a z = a refl
+  both_point false here later later' a z = z refl
+
+  pub both_unless : (b : Bool) (here later later' : Outcome) → P here here → (b ≡ true → P later later') →
+      P (point (not b) here later) (point (not b) here later')
+  both_unless true here later later' a z = z refl
+  both_unless false here later later' a z = a
+
+  pub both_need : {A : Type 0} (o : Option A) (without : Outcome) (later later' : A → Outcome) →
+      P without without → ((x : A) → o ≡ Some x → P (later x) (later' x)) → P (need o without later) (need o without later')
+  both_need None without later later' a z = a
+  both_need (Some x) without later later' a z = z x refl
+
+  pub both_untaken : (s : Setting) (digests : List (List ℕ)) (given given' : Outcome) → P unavailable unavailable →
+      (is_taken s.history s.moment digests ≡ false → P given given') → P (unless_taken s digests given) (unless_taken s digests given')
+  both_untaken s digests given given' a z =
+      both_unless (has_room s.history s.moment digests) unavailable _ _ a
+      (λ _. both_point (is_taken s.history s.moment digests) unavailable given given' (λ _. a) z)
+
+  pub both_chosen : (refused : Bool) (o o' : Outcome) → P unavailable unavailable → P o o' → P (chosen refused o) (chosen refused o')
+  both_chosen true o o' a z = a
+  both_chosen false o o' a z = z
 
 module _ (P : Outcome → Type 0) where
   pub at_point : (b : Bool) (here later : Outcome) → (b ≡ true → P here) → (b ≡ false → P later) → P (point b here later)
-  at_point true here later a z = a refl
-  at_point false here later a z = z refl
+  at_point b here later = both_point (λ o _. P o) b here later later
 
   pub at_unless : (b : Bool) (here later : Outcome) → P here → (b ≡ true → P later) → P (point (not b) here later)
-  at_unless true here later a z = z refl
-  at_unless false here later a z = a
+  at_unless b here later = both_unless (λ o _. P o) b here later later
 
   pub at_need : {A : Type 0} (o : Option A) (without : Outcome) (later : A → Outcome) →
       P without → ((x : A) → o ≡ Some x → P (later x)) → P (need o without later)
-  at_need None without later a z = a
-  at_need (Some x) without later a z = z x refl
-
-  pub at_untaken : (s : Setting) (digests : List (List ℕ)) (given : Outcome) → P unavailable →
-      (is_taken s.history s.moment digests ≡ false → P given) → P (unless_taken s digests given)
-  at_untaken s digests given a z =
-      at_unless (has_room s.history s.moment digests) unavailable _ a
-      (λ _. at_point (is_taken s.history s.moment digests) unavailable given (λ _. a) z)
+  at_need {A = A} o without later = both_need (λ o _. P o) {A = A} o without later later
 
   pub at_chosen : (refused : Bool) (o : Outcome) → P unavailable → P o → P (chosen refused o)
-  at_chosen true o a z = a
-  at_chosen false o a z = z
-
-  -- what is there leads on
-  pub at_some : {A : Type 0} (o : Option A) (x : A) (without : Outcome) (later : A → Outcome) → o ≡ Some x → P (later x) → P (need o without later)
-  at_some {A = A} o x without later is p = subst (λ (y : Option A). P (need y without later)) (sym is) p
-
-  pub at_true : (b : Bool) (here later : Outcome) → b ≡ true → P here → P (point b here later)
-  at_true b here later is p = subst (λ x. P (point x here later)) (sym is) p
+  at_chosen refused o = both_chosen (λ p _. P p) refused o o
 
 -- what is found through what is there
 pub through : {A B : Type 0} (f : A → Option B) (o : Option A) (y : B) → option_and_then f o ≡ Some y → (x : A) × (o ≡ Some x) × (f x ≡ Some y)
@@ -48,17 +52,10 @@ through f (Some x) y e = (x, refl, e)
 pub other : (a b : ℕ) → eqb a b ≡ false → a ≡ b → ⊥
 other a b apart same = false≢true (sym apart ∙ eq-eqb a b same)
 
--- no error has the status 200
-pub no_error_200 : (error : ErrorName) → status_of error ≡ 200 → ⊥
-no_error_200 InvalidRequest e = omega (arith, e)
-no_error_200 _ e = omega (arith, e)
-
 -- what is granted at an endpoint is its own outcome
 pub granted_at : (b refused : Bool) (o : Outcome) → (point b (bare 405) (chosen refused o)).reply.status ≡ 200 →
     (point b (bare 405) (chosen refused o)) ≡ o
-granted_at true refused o e = absurd (other 405 200 refl e)
-granted_at false true o e = absurd (other 503 200 refl e)
-granted_at false false o e = refl
+granted_at b refused o e = grind (arith, e)
 
 pub same_some : {A : Type 0} (x y : A) (o : Option A) → o ≡ Some x → o ≡ Some y → x ≡ y
 same_some x y o a b = cc

@@ -1,66 +1,39 @@
 -- The ways that a request may go to its outcome, and what it has passed on each.
-use Rattle.std.proofs.Common.{◌≡◌, ℕ, List, [], ◌∷◌, Bool, true, false, Option, Some, None, Result, Ok, Err, length, refl, sym, ap, ◌∙◌, arith}
-use Rattle.std.specs.Prelude.{◌==◌, codes, not, bytes_eq, if◌then◌else◌, option_and_then}
-use Rattle.std.specs.Result.{result_ok}
-use Rattle.std.proofs.lemmas.Bool.{and_parts, eqb-true, false≢true, not-true}
-use Rattle.std.proofs.lemmas.Slice.Eq.{bytes_eq-Decides}
-use Rattle.sha2.specs.Sha256.{sha256}
-use Rattle.pkce.specs.Proof.{proves}
+use Rattle.std.proofs.Common.{◌≡◌, ℕ, List, [], ◌∷◌, Bool, true, false, Option, Some, None, Result, Ok, Err, length, refl, sym, ap, subst, ◌∙◌, arith}
+use Rattle.headline.proofs.Names.{◌==◌, codes, not, if◌then◌else◌, option_and_then, result_ok, eqb-true, false≢true, not-true, nat_tests, bytes_eq-Decides, sha256, proves, read_params, value_sent}
+use Rattle.headline.proofs.Names.{RegistryRecord, ClientRecord, has_redirect, has_grant, grant_named, AuthorizationCode, RefreshToken, ClientCredentials, authenticated, Change, Grant, grant_at}
+use Rattle.headline.proofs.Names.{live_grant, is_code, is_spent, is_taken, has_ended, consented_scope, is_within, has_consent_room, Consented, CodeGiven, Spent, HookSet, HookGone, is_within-self}
+use Rattle.headline.proofs.Names.{Kind, met_with, met_with_narrows, Ask, Narrowed, Allowed, Denied, EmptyScope, IsNarrowing, InvalidRequest, InvalidClient, InvalidGrant, InvalidScope}
+use Rattle.headline.proofs.Names.{UnauthorizedClient, UnsupportedGrantType, UnsupportedResponseType, AccessDenied, Asked, path_of, query_of, Body, consent_body, hook_body, plain, refused_body}
+use Rattle.headline.proofs.Names.{sent_back, Empty, Inactive, Told, Endpoint, Authorize, GiveConsent, IssueToken, RevokeToken, Introspect, InstallHook, RemoveHook, Read, Extent, Outcome, need, only}
+use Rattle.headline.proofs.Names.{point, refuse, bare, unavailable, unless_denied, endpoint_at, method_at, Parameters, KnownClient, form_of, known_client, with_client, with_authenticated}
+use Rattle.headline.proofs.Names.{scope_within, scope_asked, client_named, owner_of_key, Setting, digest_told, where_passes, code_of_client, refresh_of_client, is_own, is_refresh, live_token}
+use Rattle.headline.proofs.Names.{client_credentials, own_ask, access_for, access_issued, ask_for, both_digests, both_for, issued_alone, left_by_host, refresh_issued, issue_token, grant_points}
+use Rattle.headline.proofs.Names.{change_hooks, by_fault, installation, removal, is_operator, introspect, told_of, outcome_at, IsActive, allows_all, Occasion, outcome_of, setting_on}
+use Rattle.std.specs.Prelude.{bytes_eq}
+use Rattle.std.proofs.lemmas.Nat.{and_le_r}
 use Rattle.pkce.specs.Token.{token_text}
-use Rattle.params.specs.Form.{read_params, value_sent}
 use Rattle.params.specs.Scope.{scope_text}
-use Rattle.clients.specs.RegistryRecord.{RegistryRecord}
-use Rattle.clients.specs.ClientRecord.{ClientRecord}
-use Rattle.clients.specs.Clients.{client_at, has_redirect}
-use Rattle.clients.specs.Grants.{has_grant, grant_named}
 use Rattle.clients.specs.declared.grant.GrantType.{GrantType}
-use Rattle.clients.specs.declared.grant.GrantType.TheVariants.{AuthorizationCode, RefreshToken, ClientCredentials}
-use Rattle.authentication.specs.Authentication.{authenticated}
 use Rattle.authentication.specs.declared.authentication.AuthFault.{AuthFault}
 use Rattle.authentication.specs.declared.authentication.AuthFault.TheVariants as auth
-use Rattle.consent.specs.History.{Event, Change, Grant, grant_at, live_grant, is_code, is_spent, is_taken, has_ended, consented_scope, is_within, has_consent_room}
-use Rattle.consent.specs.History.Change.{Consented, CodeGiven, Spent, HookSet, HookGone}
+use Rattle.consent.specs.History.{Event}
 use Rattle.consent.specs.Facts.{GivenCode}
-use Rattle.consent.specs.declared.grant.Kind.{Kind}
 use Rattle.consent.specs.declared.record_version.RecordVersion.{RecordVersion}
 use Rattle.hook_host.specs.declared.fault.HookFault.{HookFault}
 use Rattle.hook_host.specs.declared.fault.HookFault.TheVariants as hook
 use Rattle.hook_host.specs.Faults.{hook_fault_text}
-use Rattle.hook_record.specs.declared.Ask.{Ask}
 use Rattle.hook_record.specs.declared.Kind.TheVariants as kind
-use Rattle.hook_record.specs.declared.Narrowed.{Narrowed}
-use Rattle.hook_record.specs.declared.Narrowed.TheVariants.{Allowed, Denied, EmptyScope}
 use Rattle.messages.specs.declared.error.ErrorName.{ErrorName}
-use Rattle.messages.specs.declared.error.ErrorName.TheVariants.{InvalidRequest, InvalidClient, InvalidGrant, InvalidScope, UnauthorizedClient, UnsupportedGrantType, UnsupportedResponseType, AccessDenied}
-use Rattle.messages.specs.Asked.{Asked}
 use Rattle.messages.specs.Members.{Member}
-use Rattle.messages.specs.Target.{path_of, query_of}
-use Rattle.messages.specs.Reply.{Body, consent_body, hook_body, plain, refused_body, sent_back}
-use Rattle.messages.specs.Reply.Body.{Empty, Inactive, Told}
-use Rattle.answers.specs.declared.endpoint.Endpoint.{Endpoint}
-use Rattle.answers.specs.declared.endpoint.Endpoint.TheVariants.{Authorize, GiveConsent, IssueToken, RevokeToken, Introspect, InstallHook, RemoveHook, Read}
-use Rattle.answers.specs.Outcomes.{Extent, Outcome, need, only, refuse, bare, unavailable, unless_denied, status_of}
-use Rattle.answers.specs.Paths.{endpoint_at, method_at}
 use Rattle.answers.specs.Replies.{access_reply, both_reply}
-use Rattle.answers.specs.Requesters.{Parameters, KnownClient, form_of, known_client, with_client, with_authenticated, scope_within, scope_asked, client_named, owner_of_key}
-use Rattle.answers.specs.Setting.{Setting}
-use Rattle.answers.specs.Texts.{digest_told, where_passes}
-use Rattle.answers.specs.Tokens.{code_of_client, refresh_of_client, is_own, is_refresh, live_token}
-use Rattle.token_endpoint.specs.ClientCredentials.{client_credentials, own_ask}
 use Rattle.token_endpoint.specs.Exchange.{ends_family, exchange, exchanged, spent_in_vain}
-use Rattle.token_endpoint.specs.Grants.{access_for, access_issued, ask_for, both_digests, both_for, issued_alone, left_by_host, refresh_issued}
 use Rattle.token_endpoint.specs.Refresh.{refresh}
-use Rattle.token_endpoint.specs.TokenPath.{issue_token, grant_points}
 use Rattle.endpoints.specs.Authorize.{authorize, challenge_sent, redirect_sent, state_sent, turned_back}
 use Rattle.endpoints.specs.ConsentPath.{give_consent}
 use Rattle.endpoints.specs.Revoke.{revoke_token, revoked}
-use Rattle.endpoints.specs.HookPaths.{change_hooks, by_fault, installation, removal, is_operator}
-use Rattle.endpoints.specs.Introspect.{introspect, told_of}
 use Rattle.endpoints.specs.Documents.{document_outcome}
-use Rattle.endpoints.specs.Replies.{outcome_at}
-use Rattle.headline.specs.Activity.{IsActive}
-use Rattle.headline.specs.Occasions.{Occasion, outcome_of, setting_on}
-use Rattle.headline.proofs.Walking.{at_point, at_unless, at_need, at_untaken, at_chosen, other, through}
+use Rattle.headline.proofs.Walking.{both_point, both_unless, both_need, both_untaken, at_unless, at_need, at_chosen, other, through}
 
 -- WHO ASKS
 
@@ -70,17 +43,11 @@ pub record Sender (rules : RegistryRecord) (asked : Asked) : Type 0 where
   pub form : form_of asked ≡ Some params
   pub known : KnownClient
   pub authenticates : authenticated rules.clients asked.authorization params ≡ Ok known.number
-  pub is_client : client_at known.number rules.clients ≡ Some known.client
 
 -- the number of a client that was authenticated
 abbrev pub number_in : Result ℕ AuthFault → ℕ
 number_in (Ok number) = number
 number_in (Err fault) = 0
-
--- a client that is known has its number
-known_is : (rules : RegistryRecord) (number : ℕ) (known : KnownClient) → known_client rules number ≡ Some known →
-    (number ≡ known.number) × (client_at number rules.clients ≡ Some known.client)
-known_is rules number known e = (grind (arith, e), grind (arith, e))
 
 -- what passes a test is there, and passes it
 pub passes : {A : Type 0} (test : A → Bool) (o : Option A) (x : A) → where_passes test o ≡ Some x → (o ≡ Some x) × (test x ≡ true)
@@ -89,10 +56,7 @@ passes test o x e = (grind (arith, e), grind (arith, e))
 -- it is of this kind and this client's
 own_is : (test : Kind → Bool) (client : ℕ) (o : Option Grant) (g : Grant) → where_passes (is_own test client) o ≡ Some g →
     (o ≡ Some g) × (test g.kind ≡ true) × (g.client ≡ client)
-own_is test client o g e =
-    let is = passes (is_own test client) o g e in
-    let parts = and_parts (test g.kind) (g.client == client) is.1 in
-    (is.0, parts.0, eqb-true g.client client parts.1)
+own_is test client o g e = (grind (arith, e), grind (arith, nat_tests, e), grind (arith, nat_tests, e))
 
 -- the name of a grant type
 abbrev pub type_name : GrantType → List ℕ
@@ -172,17 +136,24 @@ own_issued s client left = record {
 abbrev pub IsLeft : Setting → Ask → Extent → Type 0
 IsLeft s ask left = left_by_host s ask ≡ Allowed left.scope left.life
 
+-- what is asked of the host
+abbrev pub code_ask : {s : Setting} {asked : Asked} → Proven s asked → Ask
+code_ask {s = s} x = ask_for s x.code.sender.known kind.Code x.code.grant.owner x.code.grant.scope
+
+abbrev pub refresh_ask : {s : Setting} {asked : Asked} → Refreshing s asked → Ask
+refresh_ask {s = s} x = ask_for s x.token.sender.known kind.Refresh x.token.grant.owner x.scope
+
 -- the ways of a request for tokens
 pub data TokenWay (s : Setting) (asked : Asked) : Type 0 where
   Refused : ErrorName → TokenWay s asked
   Wanting : TokenWay s asked
   Again : (type name : List ℕ) (test : Kind → Bool) (x : Use s asked type name test) → is_spent s.history x.digest s.moment ≡ true → TokenWay s asked
   InVain : Proven s asked → ErrorName → TokenWay s asked
-  Once : (x : Proven s asked) (left : Extent) → IsLeft s (ask_for s x.code.sender.known kind.Code x.code.grant.owner x.code.grant.scope) left →
+  Once : (x : Proven s asked) (left : Extent) → IsLeft s (code_ask x) left →
       is_taken s.history s.moment (sha256 s.draws.first ∷ []) ≡ false → TokenWay s asked
-  Twice : (x : Proven s asked) (left : Extent) → IsLeft s (ask_for s x.code.sender.known kind.Code x.code.grant.owner x.code.grant.scope) left →
+  Twice : (x : Proven s asked) (left : Extent) → IsLeft s (code_ask x) left →
       is_taken s.history s.moment (both_digests s.draws) ≡ false → TokenWay s asked
-  Refreshed : (x : Refreshing s asked) (left : Extent) → IsLeft s (ask_for s x.token.sender.known kind.Refresh x.token.grant.owner x.scope) left →
+  Refreshed : (x : Refreshing s asked) (left : Extent) → IsLeft s (refresh_ask x) left →
       is_taken s.history s.moment (both_digests s.draws) ≡ false → TokenWay s asked
   Own : (sender : Sender s.rules asked) → value_sent (codes "grant_type") sender.params ≡ Some (codes "client_credentials") →
       (scope : ℕ) (left : Extent) → IsLeft s (own_ask s sender.known scope) left →
@@ -199,49 +170,90 @@ token_outcome {s = s} (Twice x left is untaken) = both_issued s x.code.grant lef
 token_outcome {s = s} (Refreshed x left is untaken) = both_issued s x.token.grant left x.token.grant.scope
 token_outcome {s = s} (Own sender typed scope left is untaken) = own_issued s sender.known.number left
 
-module _ (P : Outcome → Type 0) where
-  pub at_left : (s : Setting) (ask : Ask) (denied empty : Outcome) (later : Extent → Outcome) →
-      P denied → P empty → ((left : Extent) → IsLeft s ask left → P (later left)) → P (unless_denied (left_by_host s ask) denied empty later)
-  at_left s ask denied empty later a b z = by_left (left_by_host s ask) refl
-    where
-      by_left : (left : Narrowed) → left_by_host s ask ≡ left → P (unless_denied left denied empty later)
-      by_left Denied is = a
-      by_left EmptyScope is = b
-      by_left (Allowed scope life) is = z (record { scope = scope; life = life }) is
+-- the setting with a host that allows all, and has these names and this fault
+abbrev pub open_to_all : Setting → Setting
+open_to_all s = record { rules = s.rules; history = s.history; host = record { answer = allows_all; names = s.host.names; fault = s.host.fault }; moment = s.moment; draws = s.draws }
 
-  pub at_sender : (rules : RegistryRecord) (asked : Asked) (next : Parameters → KnownClient → Outcome) →
-      P (refuse InvalidRequest) → P (refuse InvalidClient) → P unavailable → ((sender : Sender rules asked) → P (next sender.params sender.known)) →
-      P (with_authenticated rules asked next)
-  at_sender rules asked next r c u each =
-      at_need P {A = Parameters} (form_of asked) (refuse InvalidRequest)
-      (λ params. with_client rules (authenticated rules.clients asked.authorization params) (next params)) r (λ params form.
+-- all that is asked
+abbrev pub whole : Ask → Extent
+whole ask = record { scope = ask.scope; life = ask.life }
+
+-- where they lead there: to the same tokens, of all that is asked; where none are given, it may be to any other
+abbrev pub beside : {s : Setting} {asked : Asked} → TokenWay s asked → Outcome → Outcome
+beside {s = s} (Once x left is untaken) other = one_issued s x.code.grant (whole (code_ask x))
+beside {s = s} (Twice x left is untaken) other = both_issued s x.code.grant (whole (code_ask x)) x.code.grant.scope
+beside {s = s} (Refreshed x left is untaken) other = both_issued s x.token.grant (whole (refresh_ask x)) x.token.grant.scope
+beside {s = s} (Own sender typed scope left is untaken) other = own_issued s sender.known.number (whole (own_ask s sender.known scope))
+beside way other = other
+
+-- what an ask holds some of is left of it by a host that allows all
+all_left : (ask : Ask) (scope life : ℕ) → IsNarrowing ask scope life → met_with ask (allows_all ask) ≡ Allowed ask.scope ask.life
+all_left ask scope life some =
+    let self = is_within-self ask.scope in
+    let least = and_le_r scope ask.scope in
+    let is = some.within in
+    let more = some.some_scope in
+    let few = some.no_longer in
+    let lives = some.some_life in
+    grind (arith, nat_tests, self, least, is, more, few, lives)
+
+module _ (P : Outcome → Outcome → Type 0) where
+  at_left : (s : Setting) (ask : Ask) (denied empty : Outcome) (later later' : Extent → Outcome) →
+      ((other : Outcome) → P denied other) → ((other : Outcome) → P empty other) →
+      ((left : Extent) → IsLeft s ask left → P (later left) (later' (whole ask))) →
+      P (unless_denied (left_by_host s ask) denied empty later) (unless_denied (left_by_host (open_to_all s) ask) denied empty later')
+  at_left s ask denied empty later later' a b z = by_left (left_by_host s ask) refl
+    where
+      by_left : (left : Narrowed) → left_by_host s ask ≡ left →
+          P (unless_denied left denied empty later) (unless_denied (left_by_host (open_to_all s) ask) denied empty later')
+      by_left Denied is = a _
+      by_left EmptyScope is = b _
+      by_left (Allowed scope life) is =
+          subst (λ left. P (later (record { scope = scope; life = life })) (unless_denied left denied empty later'))
+          (sym (all_left ask scope life (met_with_narrows ask (s.host.answer ask) scope life is)))
+          (z (record { scope = scope; life = life }) is)
+
+  pub at_sender : (rules : RegistryRecord) (asked : Asked) (next next' : Parameters → KnownClient → Outcome) →
+      P (refuse InvalidRequest) (refuse InvalidRequest) → P (refuse InvalidClient) (refuse InvalidClient) → P unavailable unavailable →
+      ((sender : Sender rules asked) → P (next sender.params sender.known) (next' sender.params sender.known)) →
+      P (with_authenticated rules asked next) (with_authenticated rules asked next')
+  at_sender rules asked next next' r c u each =
+      both_need P {A = Parameters} (form_of asked) (refuse InvalidRequest)
+      (λ params. with_client rules (authenticated rules.clients asked.authorization params) (next params))
+      (λ params. with_client rules (authenticated rules.clients asked.authorization params) (next' params)) r (λ params form.
       by_client params form (authenticated rules.clients asked.authorization params) refl)
     where
       by_client : (params : Parameters) → form_of asked ≡ Some params → (result : Result ℕ AuthFault) →
-          authenticated rules.clients asked.authorization params ≡ result → P (with_client rules result (next params))
+          authenticated rules.clients asked.authorization params ≡ result → P (with_client rules result (next params)) (with_client rules result (next' params))
       by_client params form (Ok number) is =
-          at_need P {A = KnownClient} (known_client rules number) unavailable (next params) u (λ known at.
-          let it = known_is rules number known at in
-          each (record {
-            params = params;
-            form = form;
-            known = known;
-            authenticates = is ∙ ap (λ n. Ok n) it.0;
-            is_client = ap (λ n. client_at n rules.clients) (sym it.0) ∙ it.1;
-          }))
+          both_need P {A = KnownClient} (known_client rules number) unavailable (next params) (next' params) u (λ known at.
+          let same : number ≡ known.number = grind (arith, at) in
+          each (record { params = params; form = form; known = known; authenticates = is ∙ ap (λ n. Ok n) same }))
       by_client params form (Err auth.TwoMethods) is = r
       by_client params form (Err auth.Memory) is = u
       by_client params form (Err fault) is = c
 
-module _ (P : Outcome → Type 0) (s : Setting) (asked : Asked) (ways : (way : TokenWay s asked) → P (token_outcome way)) where
+module _ (P : Outcome → Outcome → Type 0) (s : Setting) (asked : Asked)
+    (ways : (way : TokenWay s asked) (other : Outcome) → P (token_outcome way) (beside way other)) where
+  no : (error : ErrorName) → P (refuse error) (refuse error)
+  no error = ways (Refused error) (refuse error)
+
+  none : P unavailable unavailable
+  none = ways Wanting unavailable
+
   module _ (sender : Sender s.rules asked) where
-    for_code : (x : Proven s asked) (left : Extent) → IsLeft s (ask_for s x.code.sender.known kind.Code x.code.grant.owner x.code.grant.scope) left →
-        (client : ClientRecord) → P (exchanged s client x.code.grant left)
+    for_code : (x : Proven s asked) (left : Extent) → IsLeft s (code_ask x) left → (client : ClientRecord) →
+        P (exchanged s client x.code.grant left) (exchanged (open_to_all s) client x.code.grant (whole (code_ask x)))
     for_code x left is client = by_grant (has_grant RefreshToken client.grants)
       where
         by_grant : (b : Bool) → P (if b then both_for s x.code.grant left left.scope else access_for s x.code.grant left)
-        by_grant true = at_untaken P s (both_digests s.draws) (both_issued s x.code.grant left left.scope) (ways Wanting) (λ untaken. ways (Twice x left is untaken))
-        by_grant false = at_untaken P s (sha256 s.draws.first ∷ []) (one_issued s x.code.grant left) (ways Wanting) (λ untaken. ways (Once x left is untaken))
+            (if b then both_for s x.code.grant (whole (code_ask x)) x.code.grant.scope else access_for s x.code.grant (whole (code_ask x)))
+        by_grant true =
+            both_untaken P s (both_digests s.draws) (both_issued s x.code.grant left left.scope) (both_issued s x.code.grant (whole (code_ask x)) x.code.grant.scope)
+            none (λ untaken. ways (Twice x left is untaken) unavailable)
+        by_grant false =
+            both_untaken P s (sha256 s.draws.first ∷ []) (one_issued s x.code.grant left) (one_issued s x.code.grant (whole (code_ask x)))
+            none (λ untaken. ways (Once x left is untaken) unavailable)
 
     abbrev use_of : (type name : List ℕ) (test : Kind → Bool) → value_sent (codes "grant_type") sender.params ≡ Some type → (text : List ℕ) → value_sent name sender.params ≡ Some text →
         (digest : List ℕ) → digest_told text ≡ Some digest → (g : Grant) → where_passes (is_own test sender.known.number) (grant_at s.history digest s.moment) ≡ Some g →
@@ -261,18 +273,19 @@ module _ (P : Outcome → Type 0) (s : Setting) (asked : Asked) (ways : (way : T
           own = is.2;
         }
 
-    in_exchange : value_sent (codes "grant_type") sender.params ≡ Some (codes "authorization_code") → P (exchange s sender.params sender.known)
+    in_exchange : value_sent (codes "grant_type") sender.params ≡ Some (codes "authorization_code") →
+        P (exchange s sender.params sender.known) (exchange (open_to_all s) sender.params sender.known)
     in_exchange typed =
-        at_need P {A = List ℕ} (value_sent (codes "code") sender.params) (refuse InvalidRequest) _ (ways (Refused InvalidRequest)) (λ text sent.
-        at_need P {A = List ℕ} (value_sent (codes "redirect_uri") sender.params) (refuse InvalidRequest) _ (ways (Refused InvalidRequest)) (λ uri led.
-        at_need P {A = List ℕ} (value_sent (codes "code_verifier") sender.params) (refuse InvalidRequest) _ (ways (Refused InvalidRequest)) (λ verifier verified.
-        at_need P {A = List ℕ} (digest_told text) (refuse InvalidGrant) _ (ways (Refused InvalidGrant)) (λ digest told.
-        at_need P {A = Grant} (code_of_client s.history s.moment sender.known.number digest) (refuse InvalidGrant) _ (ways (Refused InvalidGrant)) (λ g found.
+        both_need P {A = List ℕ} (value_sent (codes "code") sender.params) (refuse InvalidRequest) _ _ (no InvalidRequest) (λ text sent.
+        both_need P {A = List ℕ} (value_sent (codes "redirect_uri") sender.params) (refuse InvalidRequest) _ _ (no InvalidRequest) (λ uri led.
+        both_need P {A = List ℕ} (value_sent (codes "code_verifier") sender.params) (refuse InvalidRequest) _ _ (no InvalidRequest) (λ verifier verified.
+        both_need P {A = List ℕ} (digest_told text) (refuse InvalidGrant) _ _ (no InvalidGrant) (λ digest told.
+        both_need P {A = Grant} (code_of_client s.history s.moment sender.known.number digest) (refuse InvalidGrant) _ _ (no InvalidGrant) (λ g found.
         let code = use_of (codes "authorization_code") (codes "code") is_code typed text sent digest told g found in
-        at_point P (is_spent s.history digest s.moment) (ends_family g) _ (λ spent. ways (Again _ _ is_code code spent)) (λ unspent.
-        at_point P (has_ended s.history g.family) (refuse InvalidGrant) _ (λ _. ways (Refused InvalidGrant)) (λ alive.
-        at_unless P (bytes_eq uri g.redirect) (refuse InvalidGrant) _ (ways (Refused InvalidGrant)) (λ same.
-        at_unless P (proves verifier g.challenge) (refuse InvalidGrant) _ (ways (Refused InvalidGrant)) (λ proven.
+        both_point P (is_spent s.history digest s.moment) (ends_family g) _ _ (λ spent. ways (Again _ _ is_code code spent) (ends_family g)) (λ unspent.
+        both_point P (has_ended s.history g.family) (refuse InvalidGrant) _ _ (λ _. no InvalidGrant) (λ alive.
+        both_unless P (bytes_eq uri g.redirect) (refuse InvalidGrant) _ _ (no InvalidGrant) (λ same.
+        both_unless P (proves verifier g.challenge) (refuse InvalidGrant) _ _ (no InvalidGrant) (λ proven.
         let x : Proven s asked = record {
           code = code;
           unspent = unspent;
@@ -282,41 +295,45 @@ module _ (P : Outcome → Type 0) (s : Setting) (asked : Asked) (ways : (way : T
           verified = verified;
           proven = proven;
         } in
-        at_left P s (ask_for s sender.known kind.Code g.owner g.scope) (spent_in_vain g InvalidGrant) (spent_in_vain g InvalidScope) _
+        at_left P s (code_ask x) (spent_in_vain g InvalidGrant) (spent_in_vain g InvalidScope) _ _
         (ways (InVain x InvalidGrant)) (ways (InVain x InvalidScope)) (λ left is. for_code x left is sender.known.client))))))))))
 
-    in_refresh : value_sent (codes "grant_type") sender.params ≡ Some (codes "refresh_token") → P (refresh s sender.params sender.known)
+    in_refresh : value_sent (codes "grant_type") sender.params ≡ Some (codes "refresh_token") →
+        P (refresh s sender.params sender.known) (refresh (open_to_all s) sender.params sender.known)
     in_refresh typed =
-        at_need P {A = List ℕ} (value_sent (codes "refresh_token") sender.params) (refuse InvalidRequest) _ (ways (Refused InvalidRequest)) (λ text sent.
-        at_need P {A = List ℕ} (digest_told text) (refuse InvalidGrant) _ (ways (Refused InvalidGrant)) (λ digest told.
-        at_need P {A = Grant} (refresh_of_client s.history s.moment sender.known.number digest) (refuse InvalidGrant) _ (ways (Refused InvalidGrant)) (λ g found.
+        both_need P {A = List ℕ} (value_sent (codes "refresh_token") sender.params) (refuse InvalidRequest) _ _ (no InvalidRequest) (λ text sent.
+        both_need P {A = List ℕ} (digest_told text) (refuse InvalidGrant) _ _ (no InvalidGrant) (λ digest told.
+        both_need P {A = Grant} (refresh_of_client s.history s.moment sender.known.number digest) (refuse InvalidGrant) _ _ (no InvalidGrant) (λ g found.
         let token = use_of (codes "refresh_token") (codes "refresh_token") is_refresh typed text sent digest told g found in
-        at_point P (is_spent s.history digest s.moment) (ends_family g) _ (λ spent. ways (Again _ _ is_refresh token spent)) (λ unspent.
-        at_point P (has_ended s.history g.family) (refuse InvalidGrant) _ (λ _. ways (Refused InvalidGrant)) (λ alive.
-        at_need P {A = ℕ} (scope_within s.rules g.scope sender.params) (refuse InvalidScope) _ (ways (Refused InvalidScope)) (λ scope asks.
-        at_left P s (ask_for s sender.known kind.Refresh g.owner scope) (refuse InvalidGrant) (refuse InvalidScope) _
-        (ways (Refused InvalidGrant)) (ways (Refused InvalidScope)) (λ left is.
-        at_untaken P s (both_digests s.draws) (both_issued s g left g.scope) (ways Wanting)
-        (λ untaken. ways (Refreshed (record { token = token; unspent = unspent; alive = alive; scope = scope; asks = asks }) left is untaken)))))))))
+        both_point P (is_spent s.history digest s.moment) (ends_family g) _ _ (λ spent. ways (Again _ _ is_refresh token spent) (ends_family g)) (λ unspent.
+        both_point P (has_ended s.history g.family) (refuse InvalidGrant) _ _ (λ _. no InvalidGrant) (λ alive.
+        both_need P {A = ℕ} (scope_within s.rules g.scope sender.params) (refuse InvalidScope) _ _ (no InvalidScope) (λ scope asks.
+        let x : Refreshing s asked = record { token = token; unspent = unspent; alive = alive; scope = scope; asks = asks } in
+        at_left P s (refresh_ask x) (refuse InvalidGrant) (refuse InvalidScope) _ _ (ways (Refused InvalidGrant)) (ways (Refused InvalidScope)) (λ left is.
+        both_untaken P s (both_digests s.draws) (both_issued s g left g.scope) (both_issued s g (whole (refresh_ask x)) g.scope)
+        none (λ untaken. ways (Refreshed x left is untaken) unavailable))))))))
 
-    in_own : value_sent (codes "grant_type") sender.params ≡ Some (codes "client_credentials") → P (client_credentials s sender.params sender.known)
+    in_own : value_sent (codes "grant_type") sender.params ≡ Some (codes "client_credentials") →
+        P (client_credentials s sender.params sender.known) (client_credentials (open_to_all s) sender.params sender.known)
     in_own typed =
-        at_need P {A = ℕ} (scope_within s.rules sender.known.client.allowed sender.params) (refuse InvalidScope) _ (ways (Refused InvalidScope)) (λ scope _.
-        at_left P s (own_ask s sender.known scope) (refuse UnauthorizedClient) (refuse InvalidScope) _
-        (ways (Refused UnauthorizedClient)) (ways (Refused InvalidScope)) (λ left is.
-        at_untaken P s (sha256 s.draws.first ∷ []) (own_issued s sender.known.number left) (ways Wanting) (λ untaken. ways (Own sender typed scope left is untaken))))
+        both_need P {A = ℕ} (scope_within s.rules sender.known.client.allowed sender.params) (refuse InvalidScope) _ _ (no InvalidScope) (λ scope _.
+        let ask = own_ask s sender.known scope in
+        at_left P s ask (refuse UnauthorizedClient) (refuse InvalidScope) _ _ (ways (Refused UnauthorizedClient)) (ways (Refused InvalidScope)) (λ left is.
+        both_untaken P s (sha256 s.draws.first ∷ []) (own_issued s sender.known.number left) (own_issued s sender.known.number (whole ask))
+        none (λ untaken. ways (Own sender typed scope left is untaken) unavailable)))
 
-    by_type : (grant : GrantType) → value_sent (codes "grant_type") sender.params ≡ Some (type_name grant) → P (grant_points grant s sender.params sender.known)
+    by_type : (grant : GrantType) → value_sent (codes "grant_type") sender.params ≡ Some (type_name grant) →
+        P (grant_points grant s sender.params sender.known) (grant_points grant (open_to_all s) sender.params sender.known)
     by_type AuthorizationCode typed = in_exchange typed
     by_type RefreshToken typed = in_refresh typed
     by_type ClientCredentials typed = in_own typed
 
-  pub at_token : P (issue_token s asked)
+  pub at_token : P (issue_token s asked) (issue_token (open_to_all s) asked)
   at_token =
-      at_sender P s.rules asked _ (ways (Refused InvalidRequest)) (ways (Refused InvalidClient)) (ways Wanting) (λ sender.
-      at_need P {A = List ℕ} (value_sent (codes "grant_type") sender.params) (refuse InvalidRequest) _ (ways (Refused InvalidRequest)) (λ name typed.
-      at_need P {A = GrantType} (grant_named name) (refuse UnsupportedGrantType) _ (ways (Refused UnsupportedGrantType)) (λ grant is.
-      at_unless P (has_grant grant sender.known.client.grants) (refuse UnauthorizedClient) _ (ways (Refused UnauthorizedClient)) (λ _.
+      at_sender P s.rules asked _ _ (no InvalidRequest) (no InvalidClient) none (λ sender.
+      both_need P {A = List ℕ} (value_sent (codes "grant_type") sender.params) (refuse InvalidRequest) _ _ (no InvalidRequest) (λ name typed.
+      both_need P {A = GrantType} (grant_named name) (refuse UnsupportedGrantType) _ _ (no UnsupportedGrantType) (λ grant is.
+      both_unless P (has_grant grant sender.known.client.grants) (refuse UnauthorizedClient) _ _ (no UnauthorizedClient) (λ _.
       by_type sender grant (typed ∙ ap (λ n. Some n) (named_is name grant is))))))
 
 -- ALL PATHS
@@ -380,11 +397,6 @@ outcome_by {s = s} (Tells x) = only (plain 200 (told_of s.rules x.token x.token.
 outcome_by (Installs name version code operator) = record { reply = plain 200 (hook_body name); changes = HookSet name version code ∷ [] }
 outcome_by (Removes name operator) = record { reply = plain 200 (hook_body name); changes = HookGone name ∷ [] }
 
--- no error has the status 302
-pub no_error_302 : (error : ErrorName) → status_of error ≡ 302 → ⊥
-no_error_302 InvalidRequest e = omega (arith, e)
-no_error_302 _ e = omega (arith, e)
-
 module _ (P : Outcome → Type 0) (s : Setting) (asked : Asked) (ways : (way : Way s asked) → P (outcome_by way)) where
   refused : (error : ErrorName) → P (refuse error)
   refused error = ways (ByToken (Refused error))
@@ -406,7 +418,7 @@ module _ (P : Outcome → Type 0) (s : Setting) (asked : Asked) (ways : (way : W
       at_need P {A = ℕ} (scope_within s.rules known.client.allowed params) (turned_back uri params InvalidScope) _ (ways (Turned x InvalidScope)) (λ scope _.
       at_need P {A = ℕ} (owner_of_key s.rules asked) (turned_back uri params AccessDenied) _ (ways (Turned x AccessDenied)) (λ owner key.
       at_unless P (is_within scope (consented_scope s.history owner known.number)) (turned_back uri params AccessDenied) _ (ways (Turned x AccessDenied)) (λ _.
-      at_untaken P s (sha256 s.draws.first ∷ []) _ wanting (λ _. ways (Coded x (record { client = known.number; owner = owner; scope = scope; redirect = uri; challenge = challenge }) key (refl, refl)))))))))))))
+      both_untaken (λ o _. P o) s (sha256 s.draws.first ∷ []) _ unavailable wanting (λ _. ways (Coded x (record { client = known.number; owner = owner; scope = scope; redirect = uri; challenge = challenge }) key (refl, refl)))))))))))))
 
   at_consent : P (give_consent s asked)
   at_consent =
@@ -417,30 +429,29 @@ module _ (P : Outcome → Type 0) (s : Setting) (asked : Asked) (ways : (way : W
       at_unless P (has_consent_room s.history owner known.number mask) unavailable _ wanting (λ _.
       ways (Consents owner known.number mask key))))))
 
-  -- by the live token of the text, if there is one
-  at_shown : (sender : Sender s.rules asked) (text : List ℕ) → value_sent (codes "token") sender.params ≡ Some text →
-      (without : Outcome) (later : Grant → Outcome) → P without →
-      ((x : Shown s asked) → x.sender ≡ sender → P (later x.token)) → P (need (live_token s.history s.moment text) without later)
-  at_shown sender text sent without later a z =
-      at_need P {A = Grant} (live_token s.history s.moment text) without later a (λ g found.
+  -- by the live token that a sender presents, if there is one
+  at_shown : (without : Outcome) (later : KnownClient → Grant → Outcome) → P without → ((x : Shown s asked) → P (later x.sender.known x.token)) →
+      P (with_authenticated s.rules asked (λ params known.
+      need (value_sent (codes "token") params) (refuse InvalidRequest) (λ text. need (live_token s.history s.moment text) without (later known))))
+  at_shown without later a z =
+      at_sender (λ o _. P o) s.rules asked _ (λ _ _. unavailable) (refused InvalidRequest) (refused InvalidClient) wanting (λ sender.
+      at_need P {A = List ℕ} (value_sent (codes "token") sender.params) (refuse InvalidRequest) _ (refused InvalidRequest) (λ text sent.
+      at_need P {A = Grant} (live_token s.history s.moment text) without (later sender.known) a (λ g found.
       let is = passes (λ (x : Grant). not (is_code x.kind)) (option_and_then (λ digest. live_grant s.history digest s.moment) (digest_told text)) g found in
       let at = through (λ digest. live_grant s.history digest s.moment) (digest_told text) g is.0 in
-      z (record { sender = sender; text = text; sent = sent; digest = at.0; told = at.1; token = g; live = at.2; no_code = not-true (is_code g.kind) is.1 }) refl)
+      z (record { sender = sender; text = text; sent = sent; digest = at.0; told = at.1; token = g; live = at.2; no_code = not-true (is_code g.kind) is.1 }))))
 
   at_revoke : P (revoke_token s asked)
   at_revoke =
-      at_sender P s.rules asked _ (refused InvalidRequest) (refused InvalidClient) wanting (λ sender.
-      at_need P {A = List ℕ} (value_sent (codes "token") sender.params) (refuse InvalidRequest) _ (refused InvalidRequest) (λ text sent.
-      at_shown sender text sent (bare 200) _ (ways (Quiet 200 Empty (other 200 302 refl) (λ active. active))) (λ x is.
-      at_unless P (x.token.client == sender.known.number) (refuse InvalidGrant) _ (refused InvalidGrant) (λ same.
-      ways (Revokes x (eqb-true x.token.client sender.known.number same
-      ∙ ap (λ (y : Sender s.rules asked). y.known.number) (sym is)))))))
+      at_shown (bare 200) (λ known token. point (not (token.client == known.number)) (refuse InvalidGrant) (revoked token))
+      (ways (Quiet 200 Empty (other 200 302 refl) (λ active. active))) (λ x.
+      at_unless P (x.token.client == x.sender.known.number) (refuse InvalidGrant) _ (refused InvalidGrant) (λ same.
+      ways (Revokes x (eqb-true x.token.client x.sender.known.number same))))
 
   at_introspect : P (introspect s asked)
   at_introspect =
-      at_sender P s.rules asked _ (refused InvalidRequest) (refused InvalidClient) wanting (λ sender.
-      at_need P {A = List ℕ} (value_sent (codes "token") sender.params) (refuse InvalidRequest) _ (refused InvalidRequest) (λ text sent.
-      at_shown sender text sent (only (plain 200 Inactive)) _ (ways (Quiet 200 Inactive (other 200 302 refl) (λ active. active))) (λ x _. ways (Tells x))))
+      at_shown (only (plain 200 Inactive)) (λ known token. only (plain 200 (told_of s.rules token token.kind)))
+      (ways (Quiet 200 Inactive (other 200 302 refl) (λ active. active))) (λ x. ways (Tells x))
 
   by_hook : (change : Change) → is_of_hooks change ≡ true → is_operator s.rules asked ≡ true → (fault : Option HookFault) → P (by_fault change fault)
   by_hook (HookSet name version code) of operator None = ways (Installs name version code operator)
@@ -458,26 +469,19 @@ module _ (P : Outcome → Type 0) (s : Setting) (asked : Asked) (ways : (way : W
   at_document (Ok members) = ways (Quiet 200 (Told members) (other 200 302 refl) (λ active. active))
   at_document (Err error) = refused error
 
--- what is asked for is of the hooks
-install_is : (asked : Asked) (c : Change) → installation asked ≡ Some c → is_of_hooks c ≡ true
-install_is asked c e = grind (arith, e)
-
-removal_is : (asked : Asked) (c : Change) → removal asked ≡ Some c → is_of_hooks c ≡ true
-removal_is asked c e = grind (arith, e)
-
 -- what holds on each way holds of the outcome
 module _ (P : Outcome → Type 0) (rules : RegistryRecord) (history : List Event) (occasion : Occasion)
     (ways : (way : Way (setting_on rules history occasion) occasion.arrival.asked) → P (outcome_by way)) where
   at_endpoint : (endpoint : Endpoint) → P (outcome_at endpoint (setting_on rules history occasion) occasion.arrival.asked)
   at_endpoint Authorize = at_authorize P (setting_on rules history occasion) occasion.arrival.asked ways
   at_endpoint GiveConsent = at_consent P (setting_on rules history occasion) occasion.arrival.asked ways
-  at_endpoint IssueToken = at_token P (setting_on rules history occasion) occasion.arrival.asked (λ way. ways (ByToken way))
+  at_endpoint IssueToken = at_token (λ o _. P o) (setting_on rules history occasion) occasion.arrival.asked (λ way _. ways (ByToken way))
   at_endpoint RevokeToken = at_revoke P (setting_on rules history occasion) occasion.arrival.asked ways
   at_endpoint Introspect = at_introspect P (setting_on rules history occasion) occasion.arrival.asked ways
   at_endpoint InstallHook =
-      at_hooks P (setting_on rules history occasion) occasion.arrival.asked ways (installation occasion.arrival.asked) (install_is occasion.arrival.asked)
+      at_hooks P (setting_on rules history occasion) occasion.arrival.asked ways (installation occasion.arrival.asked) (λ c is. grind (arith, is))
   at_endpoint RemoveHook =
-      at_hooks P (setting_on rules history occasion) occasion.arrival.asked ways (removal occasion.arrival.asked) (removal_is occasion.arrival.asked)
+      at_hooks P (setting_on rules history occasion) occasion.arrival.asked ways (removal occasion.arrival.asked) (λ c is. grind (arith, is))
   at_endpoint (Read document) = at_document P (setting_on rules history occasion) occasion.arrival.asked ways _
 
   pub at_each : P (outcome_of rules history occasion)

@@ -27,6 +27,7 @@ pub fn active_means_live<H: HookHost>()
 {}
 
 /// No live token is beyond a consent that its owner gave to its client since, or gave last.
+#[tactic(auto, using(crate::proofs::Bounding::lowered))]
 pub fn no_token_is_beyond_a_lowered_consent<H: HookHost>()
     ensures { InEachHistory H.HookHost (λ rules history. KeepsToConsents history) }
 {}
@@ -82,6 +83,7 @@ pub fn nothing_happens_without_authority<H: HookHost>()
 
 /// No family ends without authority: it ends with the credentials of its client or, where a consent falls below the scope of
 /// its code, with the key of that code's owner. Without any request codes and tokens only expire.
+#[tactic(auto, using(crate::proofs::Bearing::ends_with_authority))]
 pub fn no_family_ends_without_authority<H: HookHost>()
     ensures { AtEachServer H.HookHost EndsWithAuthority }
 {}

@@ -1,7 +1,5 @@
 use Rattle.std.proofs.Common.{◌≡◌, ◌+◌, [], ◌∷◌, ◌++◌, take, sym, ap, subst, ◌∙◌}
-use Rattle.std.proofs.lemmas.List.{take_all, take_more}
-use Rattle.endpoints.specs.Server.{outset_of}
-use Rattle.headline.specs.Headline.{IsMade}
+use Rattle.headline.proofs.Names.{take_all, take_more, outset_of, IsMade}
 use Rattle.headline.proofs.Leading.{nothing_made, one_more}
 use Rattle.headline.proofs.making.make_calls.Goals as goal
 

@@ -1,6 +1,5 @@
 use Rattle.std.proofs.Common.{take}
-use Rattle.endpoints.specs.Server.{outset_of}
-use Rattle.headline.specs.Headline.{IsMade}
+use Rattle.headline.proofs.Names.{outset_of, IsMade}
 use Rattle.headline.proofs.making.make_calls.Given as goal
 
 -- the calls so far were made
