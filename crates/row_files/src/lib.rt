@@ -4,7 +4,7 @@
 
 mod blocks;
 pub mod comparing;
-pub mod fault;
+mod fault;
 pub mod names;
 pub mod reading;
 pub mod row;

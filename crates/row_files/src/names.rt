@@ -4,8 +4,9 @@
 //! the other, in the order in which they are defined, so that a text may name those that are defined behind it. Lines of a talk
 //! stand in the place of `with NAME`.
 
-use crate::fault::{LineFault, Why};
+use crate::fault::wrong;
 use std::alloc::{AllocError, Global};
+use std::io;
 
 /// A text behind its name.
 #[derive(Drop)]
@@ -24,22 +25,20 @@ pub struct Names {
 }
 
 /// The text behind a name.
-fn text_behind<'d>(definitions: &'d [Definition], name: &str) -> Option<&'d str> {
+fn text_behind<'d>(definitions: &'d [Definition], name: &str) -> io::Result<&'d str> {
     for definition in definitions {
         if definition.name.as_str() == name {
-            return Some(definition.text.as_str());
+            return Ok(definition.text.as_str());
         }
     }
-    None
+    Err(wrong("undefined name"))
 }
 
-/// A text with what stands behind a name in its places, in which other names may stand.
-fn put_in(alloc: Global, text: String, definition: &Definition) -> Result<String, AllocError> {
-    if text.contains('$') {
-        text.replace(alloc, definition.name.as_str(), definition.text.as_str())
-    } else {
-        Ok(text)
-    }
+/// Puts a text behind its name. What this stood for before is forgotten.
+fn put(definitions: &mut Vec<Definition>, name: String, text: String) -> io::Result<()> {
+    definitions.retain(|definition| definition.name.as_str() != name.as_str());
+    definitions.push(Definition { name, text })?;
+    Ok(())
 }
 
 /// Whether a byte may stand in a name.
@@ -55,9 +54,9 @@ fn is_name(text: &str) -> bool {
     }
 }
 
-/// Whether one of two names begins the other.
-fn begin_alike(one: &str, other: &str) -> bool {
-    one.starts_with(other) || other.starts_with(one)
+/// Whether one of two names begins the other, and they are not the same.
+fn clash(one: &str, other: &str) -> bool {
+    one != other && (one.starts_with(other) || other.starts_with(one))
 }
 
 impl Names {
@@ -69,57 +68,48 @@ impl Names {
         }
     }
 
-    /// Defines a name of a text. What it stood for before is forgotten. It may not begin another one.
-    pub fn define(&mut self, name: String, text: String) -> Result<(), LineFault> {
-        self.texts
-            .retain(|definition| definition.name.as_str() != name.as_str());
+    /// Defines a name of a text. It may not begin another one.
+    pub fn define(&mut self, name: String, text: String) -> io::Result<()> {
         if !is_name(name.as_str()) {
-            return Err(LineFault::Wrong(Why::NoName));
+            return Err(wrong("no name"));
         }
-        if self.texts.iter().any(|definition| begin_alike(
-            definition.name.as_str(),
-            name.as_str(),
-        )) {
-            return Err(LineFault::Wrong(Why::Clash));
+        for definition in &self.texts {
+            if clash(definition.name.as_str(), name.as_str()) {
+                return Err(wrong("a name that begins another one, or begins with it"));
+            }
         }
-        self.texts.push(Definition { name, text })?;
-        Ok(())
+        put(&mut self.texts, name, text)
     }
 
     /// Defines a name of lines.
-    pub fn define_lines(&mut self, name: String, text: String) -> Result<(), AllocError> {
-        self.lines
-            .retain(|definition| definition.name.as_str() != name.as_str());
-        self.lines.push(Definition { name, text })?;
-        Ok(())
+    pub fn define_lines(&mut self, name: String, text: String) -> io::Result<()> {
+        put(&mut self.lines, name, text)
     }
 
     /// A text with the texts in the places of their names, one name after the other.
     pub fn written_out(&self, alloc: Global, text: &str) -> Result<String, AllocError> {
         let mut whole = String::from_str(alloc, text)?;
         for definition in &self.texts {
-            whole = put_in(alloc, whole, definition)?;
+            if whole.contains('$') {
+                whole = whole.replace(alloc, definition.name.as_str(), definition.text.as_str())?;
+            }
         }
         Ok(whole)
     }
 
     /// The text behind a name that begins with `$`, written out.
-    pub fn text_of(&self, alloc: Global, name: &str) -> Result<String, LineFault> {
-        match text_behind(&self.texts, name) {
-            Some(text) => Ok(self.written_out(alloc, text)?),
-            None => Err(LineFault::Wrong(Why::Undefined)),
-        }
+    pub fn text_of(&self, alloc: Global, name: &str) -> io::Result<String> {
+        Ok(self.written_out(alloc, text_behind(&self.texts, name)?)?)
     }
 
     /// Lines with those that are named in the places of `with NAME`.
-    pub fn with_lines(&self, alloc: Global, lines: &str) -> Result<String, LineFault> {
+    pub fn with_lines(&self, alloc: Global, lines: &str) -> io::Result<String> {
         let mut all = String::new(alloc);
         for line in lines.split('\n') {
-            let put = match line.strip_prefix("with ") {
-                Some(name) => text_behind(&self.lines, name).ok_or(Why::Undefined)?,
+            all.push_str(match line.strip_prefix("with ") {
+                Some(name) => text_behind(&self.lines, name)?,
                 None => line,
-            };
-            all.push_str(put)?;
+            })?;
             all.push('\n')?;
         }
         Ok(all)

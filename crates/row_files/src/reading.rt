@@ -1,19 +1,23 @@
 //! Reading a file of rows.
 
-use crate::blocks::{Block, Heading, blocks_of, say_nothing};
-use crate::fault::{LineFault, Stop, Why};
+use crate::blocks::{Block, blocks_of, refuse_lines};
+use crate::fault::{at, wrong};
 use crate::names::Names;
-use crate::row::{Row, Section};
-use crate::sections::section_of;
+use crate::row::Row;
+use crate::sections::{put_section, split_heading};
 use crate::words::words_of;
-use std::alloc::{AllocError, Global};
+use std::alloc::Global;
+use std::io;
 
-/// A row that says nothing yet.
-fn blank_row(alloc: Global, line: usize, name: &str) -> Result<Row, AllocError> {
-    let name = String::from_str(alloc, name)?;
+/// A row of this name that says nothing yet, with no lines behind it.
+fn row(alloc: Global, line: usize, name: &str, body: &str) -> io::Result<Row> {
+    if name.is_empty() {
+        return Err(wrong("no name"));
+    }
+    refuse_lines(body)?;
     Ok(Row {
         line,
-        name,
+        name: String::from_str(alloc, name)?,
         commands: Vec::new(alloc),
         files: Vec::new(alloc),
         out: None,
@@ -24,74 +28,24 @@ fn blank_row(alloc: Global, line: usize, name: &str) -> Result<Row, AllocError> 
     })
 }
 
-/// Says what is not yet said.
-fn say<T: Drop>(place: &mut Option<T>, value: T) -> Result<(), LineFault> {
-    match place.replace(value) {
-        None => Ok(()),
-        Some(_) => Err(LineFault::Wrong(Why::Twice)),
+/// Defines a name of a text, which stands behind it or in the lines behind it.
+fn define(
+    alloc: Global,
+    names: &mut Names,
+    (name, text): (&str, &str),
+    body: &str,
+) -> io::Result<()> {
+    let mut text = String::from_str(alloc, text)?;
+    for line in body.split('\n') {
+        text.push_str(line)?;
     }
-}
-
-/// Puts a section into its row.
-fn put_section(row: &mut Row, section: Section) -> Result<(), LineFault> {
-    match section {
-        Section::Command(words) => Ok(row.commands.push(words)?),
-        Section::File(file) if row.has_file(file.name.as_str()) => {
-            Err(LineFault::Wrong(Why::Twice))
-        }
-        Section::File(file) => Ok(row.files.push(file)?),
-        Section::Out(wanted) => say(&mut row.out, wanted),
-        Section::Err(wanted) => say(&mut row.err, wanted),
-        Section::Status(code) => say(&mut row.status, code),
-        Section::Now(seconds) => say(&mut row.now, seconds),
-        Section::Talk(talk) => say(&mut row.talk, talk),
-    }
-}
-
-/// The text of lines, joined without line ends.
-fn joined(alloc: Global, lines: &str) -> Result<String, AllocError> {
-    lines.replace(alloc, '\n', "")
-}
-
-/// A command line, with no lines behind it.
-fn command(alloc: Global, names: &Names, words: &str, body: &str) -> Result<Section, LineFault> {
-    if !say_nothing(body) {
-        return Err(LineFault::Wrong(Why::NoSection));
-    }
-    let words = names.written_out(alloc, words)?;
-    Ok(Section::Command(words_of(alloc, words.as_str())?))
-}
-
-/// A row of this name, with no lines behind it.
-fn row(alloc: Global, line: usize, name: &str, body: &str) -> Result<Row, LineFault> {
-    if name.is_empty() {
-        return Err(LineFault::Wrong(Why::NoName));
-    }
-    if !say_nothing(body) {
-        return Err(LineFault::Wrong(Why::NoSection));
-    }
-    Ok(blank_row(alloc, line, name)?)
-}
-
-/// Puts a section into the row that was begun last.
-fn put_in_last(rows: &mut Vec<Row>, section: Section) -> Result<(), LineFault> {
-    match rows.last_mut() {
-        Some(row) => put_section(row, section),
-        None => Err(LineFault::Wrong(Why::NoSection)),
-    }
-}
-
-/// Defines a name of a text.
-fn define(alloc: Global, names: &mut Names, name: &str, text: String) -> Result<(), LineFault> {
-    let name = String::from_str(alloc, name)?;
-    names.define(name, text)
+    names.define(String::from_str(alloc, name)?, text)
 }
 
 /// Defines a name of lines.
-fn define_lines(alloc: Global, names: &mut Names, name: &str, body: &str) -> Result<(), LineFault> {
+fn define_lines(alloc: Global, names: &mut Names, name: &str, body: &str) -> io::Result<()> {
     let lines = names.with_lines(alloc, body.trim_end_matches('\n'))?;
-    let name = String::from_str(alloc, name)?;
-    Ok(names.define_lines(name, lines)?)
+    names.define_lines(String::from_str(alloc, name)?, lines)
 }
 
 /// Reads a block: defines a name, or goes on with the rows.
@@ -100,52 +54,34 @@ fn read_block(
     names: &mut Names,
     rows: &mut Vec<Row>,
     block: &Block<'_>,
-) -> Result<(), LineFault> {
+) -> io::Result<()> {
+    let (kind, rest) = split_heading(block.heading);
     let body = block.body.as_str();
-    match block.heading {
-        Heading::Name(name, text) => define(alloc, names, name, String::from_str(alloc, text)?),
-        Heading::LongName(name) => define(alloc, names, name, joined(alloc, body)?),
-        Heading::Lines(name) => define_lines(alloc, names, name, body),
-        Heading::Row(name) => Ok(rows.push(row(alloc, block.line, name, body)?)?),
-        Heading::Command(words) => put_in_last(rows, command(alloc, names, words, body)?),
-        Heading::Section(heading) => put_in_last(rows, section_of(alloc, names, heading, body)?),
+    if kind == "==" {
+        rows.push(row(alloc, block.line, rest, body)?)?;
+        return Ok(());
     }
-}
-
-/// What is wrong with a row that was read, if anything is.
-fn wrong_with(row: &Row) -> Option<Why> {
-    if !row.is_called() {
-        Some(Why::NoCommand)
-    } else if !row.has_its_files() {
-        Some(Why::NoFile)
-    } else {
-        None
-    }
-}
-
-/// Looks for a row with which something is wrong.
-fn look_at_rows<'f>(path: &'f str, rows: &[Row]) -> Result<(), Stop<'f>> {
-    for row in rows {
-        if let Some(why) = wrong_with(row) {
-            return Err(Stop::NoRows(path, row.line, why));
+    match (kind, rows.last_mut()) {
+        ("$", Some(row)) => {
+            refuse_lines(body)?;
+            let words = names.written_out(alloc, rest)?;
+            Ok(row.commands.push(words_of(alloc, words.as_str())?)?)
         }
+        (_, Some(row)) => put_section(alloc, names, row, rest, body),
+        ("--", None) => define_lines(alloc, names, split_heading(rest).1, body),
+        (_, None) => define(alloc, names, (kind, rest), body),
     }
-    Ok(())
 }
 
-/// The rows in the text that stands in the file of a path. What it defines is known from there on.
-pub fn rows_of<'f>(
-    alloc: Global,
-    names: &mut Names,
-    path: &'f str,
-    text: &str,
-) -> Result<Vec<Row>, Stop<'f>> {
+/// The rows in the text of a file. What it defines is known from there on.
+pub fn rows_of(alloc: Global, names: &mut Names, text: &str) -> io::Result<Vec<Row>> {
     let mut rows: Vec<Row> = Vec::new(alloc);
-    for block in &blocks_of(alloc, path, text)? {
-        if let Err(fault) = read_block(alloc, names, &mut rows, block) {
-            return Err(fault.at(path, block.line));
-        }
+    for block in &blocks_of(alloc, text)? {
+        read_block(alloc, names, &mut rows, block).map_err(|error| at(alloc, block.line, error))?;
     }
-    look_at_rows(path, &rows)?;
+    for row in rows.iter_mut() {
+        row.check().map_err(|error| at(alloc, row.line, error))?;
+        row.want_replies(alloc)?;
+    }
     Ok(rows)
 }

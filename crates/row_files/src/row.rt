@@ -1,5 +1,9 @@
 //! Rows: command lines, or a talk, and what they are to come to.
 
+use crate::fault::wrong;
+use std::alloc::{AllocError, Global};
+use std::io;
+
 /// How a text that is wanted is compared with the one that is found.
 #[derive(Clone, Copy)]
 pub enum Likeness {
@@ -20,24 +24,15 @@ pub struct Wanted {
     pub bytes: Vec<u8>,
 }
 
-/// What a file is made of.
-#[derive(Clone, Copy)]
-pub enum Making {
-    /// It has the bytes that the row gives.
-    Given,
-    /// It has what `asm` makes of these.
-    Assembled,
-}
-
 /// A file that stands in the folder while its row runs.
 #[derive(Drop)]
 pub struct RowFile {
     /// Its name.
     pub name: String,
-    /// What it is made of.
-    pub making: Making,
     /// The bytes that the row gives.
     pub bytes: Vec<u8>,
+    /// Whether it has what `asm` makes of these.
+    pub is_assembled: bool,
 }
 
 /// A word of a command line.
@@ -73,25 +68,6 @@ pub struct Talk {
     pub lines: String,
 }
 
-/// A section of a row.
-#[derive(Drop)]
-pub enum Section {
-    /// A command line.
-    Command(Vec<Word>),
-    /// A file.
-    File(RowFile),
-    /// What is to be written to standard output.
-    Out(Wanted),
-    /// What is to be written to standard error.
-    Err(Wanted),
-    /// The exit status.
-    Status(u8),
-    /// The machine's clock, in seconds since 1970.
-    Now(u64),
-    /// A talk, in place of command lines.
-    Talk(Talk),
-}
-
 /// A row.
 #[derive(Drop)]
 pub struct Row {
@@ -121,21 +97,34 @@ impl Row {
         self.files.iter().any(|file| file.name.as_str() == name)
     }
 
-    /// Whether it has command lines or a talk, and not both.
-    pub fn is_called(&self) -> bool {
-        self.commands.is_empty() == self.talk.is_some()
-    }
-
-    /// Whether it has each file whose contents are words of its command lines.
-    pub fn has_its_files(&self) -> bool {
+    /// Refuses it where it has no command lines and no talk, or both, or a word of a file that it has not.
+    pub fn check(&self) -> io::Result<()> {
+        if self.commands.is_empty() != self.talk.is_some() {
+            return Err(wrong("no command line and no talk, or both"));
+        }
         for words in &self.commands {
             for word in words {
                 match word {
-                    Word::OfFile(name) if !self.has_file(name.as_str()) => return false,
+                    Word::OfFile(name) if !self.has_file(name.as_str()) => {
+                        return Err(wrong("a word of a file that the row has not"));
+                    }
                     _ => {}
                 }
             }
         }
-        true
+        Ok(())
+    }
+
+    /// A talk ends with its replies, unless the row says what is written.
+    pub fn want_replies(&mut self, alloc: Global) -> Result<(), AllocError> {
+        if let Some(talk) = &self.talk
+            && self.out.is_none()
+            && self.err.is_none()
+        {
+            let bytes = talk.replies(alloc)?.into_bytes();
+            let likeness = Likeness::Whole;
+            self.out = Some(Wanted { likeness, bytes });
+        }
+        Ok(())
     }
 }

@@ -12,52 +12,54 @@
 //!   `byte by byte`, `in two pieces` or `broken off` may stand behind the name. It ends with its replies, unless the row has an
 //!   `-- out` or `-- err`.
 
-use crate::blocks::say_nothing;
-use crate::fault::{LineFault, Why};
+use crate::blocks::refuse_lines;
+use crate::fault::wrong;
 use crate::names::Names;
-use crate::row::{Likeness, Making, Pieces, RowFile, Section, Talk, Wanted};
+use crate::row::{Likeness, Pieces, Row, RowFile, Talk, Wanted};
 use std::alloc::{AllocError, Global};
+use std::io;
+use std::str::FromStr;
 
-/// The lines of a section's text, without the empty ones at its end and the end of the last one.
-fn lines_in(text: &str) -> &str {
-    text.trim_end_matches('\n')
-}
+/// No section has this form.
+const UNKNOWN: &str = "unknown section";
 
-/// The bytes of lines, each with its end.
-fn whole_lines(alloc: Global, lines: &str) -> Result<Vec<u8>, AllocError> {
-    let mut bytes = Vec::from_slice(alloc, lines.as_bytes())?;
-    if !lines.is_empty() {
-        bytes.push(b'\n')?;
-    }
-    Ok(bytes)
+/// The row says the same twice.
+const TWICE: &str = "said twice";
+
+/// The first word of a heading, and what stands behind it.
+pub fn split_heading(heading: &str) -> (&str, &str) {
+    heading.split_once(' ').unwrap_or((heading, ""))
 }
 
 /// The bytes that hex digits say. Blanks and line ends between them say nothing.
-fn hex_bytes(alloc: Global, lines: &str) -> Result<Vec<u8>, LineFault> {
+fn hex_bytes(alloc: Global, lines: &str) -> io::Result<Vec<u8>> {
     let mut digits = String::new(alloc);
     for part in lines.split_ascii_whitespace() {
         digits.push_str(part)?;
     }
     match hex::decode(alloc, digits.as_str()) {
         Ok(bytes) => Ok(bytes),
-        Err(hex::FromHexError::OutOfMemory) => Err(LineFault::OutOfMemory),
-        Err(_) => Err(LineFault::Wrong(Why::BadHex)),
+        Err(hex::FromHexError::OutOfMemory) => Err(io::Error::from(AllocError)),
+        Err(_) => Err(wrong("bad hex")),
     }
 }
 
-/// The bytes of a section's text, in the form that stands behind the section's name.
-fn bytes_in(alloc: Global, form: &str, text: &str) -> Result<Vec<u8>, LineFault> {
-    let lines = lines_in(text);
-    match form {
-        "cut" => Ok(Vec::from_slice(alloc, lines.as_bytes())?),
-        "hex" => hex_bytes(alloc, lines),
-        "" => Ok(whole_lines(alloc, lines)?),
-        _ => Err(LineFault::Wrong(Why::UnknownSection)),
+/// The bytes of a section's text, without the empty lines at its end, in the form that stands behind the section's name.
+fn bytes_in(alloc: Global, form: &str, text: &str) -> io::Result<Vec<u8>> {
+    let lines = text.trim_end_matches('\n');
+    let mut bytes = match form {
+        "hex" => hex_bytes(alloc, lines)?,
+        "" | "cut" => Vec::from_slice(alloc, lines.as_bytes())?,
+        _ => return Err(wrong(UNKNOWN)),
+    };
+    if form.is_empty() && !lines.is_empty() {
+        bytes.push(b'\n')?;
     }
+    Ok(bytes)
 }
 
 /// What is to be written to an output.
-fn wanted(alloc: Global, form: &str, text: &str) -> Result<Wanted, LineFault> {
+fn wanted(alloc: Global, form: &str, text: &str) -> io::Result<Wanted> {
     let (likeness, form) = match form {
         "begins" => (Likeness::Front, ""),
         "begins cut" => (Likeness::Front, "cut"),
@@ -66,111 +68,96 @@ fn wanted(alloc: Global, form: &str, text: &str) -> Result<Wanted, LineFault> {
     };
     let bytes = bytes_in(alloc, form, text)?;
     match likeness {
-        Likeness::Front | Likeness::Lines if bytes.is_empty() => {
-            Err(LineFault::Wrong(Why::NoText))
-        }
+        Likeness::Front | Likeness::Lines if bytes.is_empty() => Err(wrong("no text")),
         _ => Ok(Wanted { likeness, bytes }),
     }
 }
 
-/// A file: its name, and the form of its text.
-fn file(alloc: Global, heading: &str, text: &str) -> Result<RowFile, LineFault> {
-    let (name, form) = heading.split_once(' ').unwrap_or((heading, ""));
+/// Puts a file of a name into its row, in the form that stands behind the name.
+fn put_file(alloc: Global, row: &mut Row, heading: &str, text: &str) -> io::Result<()> {
+    let (name, form) = split_heading(heading);
     if name.is_empty() || name.contains('/') {
-        return Err(LineFault::Wrong(Why::NoName));
+        return Err(wrong("no name"));
     }
-    let (making, form) = match form {
-        "assembled" => (Making::Assembled, ""),
-        form => (Making::Given, form),
-    };
-    let bytes = bytes_in(alloc, form, text)?;
+    let is_assembled = form == "assembled";
+    let bytes = bytes_in(alloc, if is_assembled { "" } else { form }, text)?;
+    if row.has_file(name) {
+        return Err(wrong(TWICE));
+    }
     let name = String::from_str(alloc, name)?;
-    Ok(RowFile {
+    row.files.push(RowFile {
         name,
-        making,
         bytes,
-    })
+        is_assembled,
+    })?;
+    Ok(())
 }
 
 /// In which pieces requests come.
-fn pieces(form: &str) -> Result<Pieces, LineFault> {
+fn pieces(form: &str) -> io::Result<Pieces> {
     match form {
         "" => Ok(Pieces::Whole),
         "byte by byte" => Ok(Pieces::Bytes),
         "in two pieces" => Ok(Pieces::Two),
         "broken off" => Ok(Pieces::Front),
-        _ => Err(LineFault::Wrong(Why::UnknownSection)),
+        _ => Err(wrong(UNKNOWN)),
     }
 }
 
-/// The lines of a talk, with those that it names, written out.
-fn talk_lines(alloc: Global, names: &Names, text: &str) -> Result<String, LineFault> {
-    let lines = names.with_lines(alloc, text)?;
-    Ok(names.written_out(alloc, lines.as_str())?)
-}
-
-/// A talk: the name of its registry and in which pieces requests come, and its lines.
-fn talk(alloc: Global, names: &Names, heading: &str, text: &str) -> Result<Talk, LineFault> {
-    let (name, form) = heading.split_once(' ').unwrap_or((heading, ""));
+/// A talk: the name of its registry and in which pieces requests come, and its lines, with those that it names, written out.
+fn talk(alloc: Global, names: &Names, heading: &str, body: &str) -> io::Result<Talk> {
+    let (name, form) = split_heading(heading);
     let pieces = pieces(form)?;
+    let lines = names.with_lines(alloc, body)?;
     let talk = Talk {
         config: names.text_of(alloc, name)?,
         pieces,
-        lines: talk_lines(alloc, names, text)?,
+        lines: names.written_out(alloc, lines.as_str())?,
     };
     if talk.is_whole() {
         Ok(talk)
     } else {
-        Err(LineFault::Wrong(Why::BadTalk))
+        Err(wrong("bad line in a talk"))
     }
 }
 
-/// An exit status.
-fn status(form: &str) -> Result<u8, LineFault> {
-    match form.parse() {
-        Ok(status) => Ok(status),
-        Err(_) => Err(LineFault::Wrong(Why::BadNumber)),
-    }
-}
-
-/// A moment, in seconds since 1970.
-fn seconds(form: &str) -> Result<u64, LineFault> {
-    match form.parse() {
-        Ok(seconds) => Ok(seconds),
-        Err(_) => Err(LineFault::Wrong(Why::BadNumber)),
-    }
-}
-
-/// A section of one line, with no lines behind it.
-fn one_line(kind: &str, form: &str, body: &str) -> Result<Section, LineFault> {
-    let section = match kind {
-        "status" => Section::Status(status(form)?),
-        "now" => Section::Now(seconds(form)?),
-        _ => return Err(LineFault::Wrong(Why::UnknownSection)),
+/// An exit status or a moment, with no lines behind it.
+fn number<N: FromStr + Drop>(form: &str, body: &str) -> io::Result<N>
+where
+    N::Err: Drop,
+{
+    let Ok(number) = form.parse() else {
+        return Err(wrong("bad number"));
     };
-    if say_nothing(body) {
-        Ok(section)
-    } else {
-        Err(LineFault::Wrong(Why::NoSection))
+    refuse_lines(body)?;
+    Ok(number)
+}
+
+/// Says what is not yet said.
+fn say<T: Drop>(place: &mut Option<T>, value: T) -> io::Result<()> {
+    match place.replace(value) {
+        None => Ok(()),
+        Some(_) => Err(wrong(TWICE)),
     }
 }
 
-/// The section of this heading, behind `-- `, with these lines.
-pub fn section_of(
+/// Puts the section of this heading, behind `-- `, with these lines into its row.
+pub fn put_section(
     alloc: Global,
     names: &Names,
+    row: &mut Row,
     heading: &str,
     body: &str,
-) -> Result<Section, LineFault> {
-    let (kind, form) = heading.split_once(' ').unwrap_or((heading, ""));
-    if kind == "talk" {
-        return Ok(Section::Talk(talk(alloc, names, form, body)?));
-    }
+) -> io::Result<()> {
+    let (kind, form) = split_heading(heading);
     let text = names.written_out(alloc, body)?;
     match kind {
-        "file" => Ok(Section::File(file(alloc, form, text.as_str())?)),
-        "out" => Ok(Section::Out(wanted(alloc, form, text.as_str())?)),
-        "err" => Ok(Section::Err(wanted(alloc, form, text.as_str())?)),
-        _ => one_line(kind, form, body),
+        "file" => put_file(alloc, row, form, text.as_str()),
+        "out" => say(&mut row.out, wanted(alloc, form, text.as_str())?),
+        "err" => say(&mut row.err, wanted(alloc, form, text.as_str())?),
+        "status" => say(&mut row.status, number(form, body)?),
+        "now" => say(&mut row.now, number(form, body)?),
+        "talk" => say(&mut row.talk, talk(alloc, names, form, body)?),
+        _ => Err(wrong(UNKNOWN)),
     }
 }

@@ -12,30 +12,24 @@
 
 use crate::row::{Pieces, Talk};
 use std::alloc::{AllocError, Global};
-use std::ops::Range;
+use std::fmt::Write;
 use std::str;
 
 /// A request, as a line of a talk says it.
 #[derive(Clone, Copy)]
-pub struct Request<'t> {
-    /// The number of its connection.
+struct Request<'t> {
     connection: &'t str,
-    /// The moment at which it comes.
     moment: &'t str,
-    /// The hex of the byte that the first draw repeats.
-    first: &'t str,
-    /// The hex of the byte that the second draw repeats.
-    second: &'t str,
+    /// The hex of the bytes that its two draws repeat.
+    draws: (&'t str, &'t str),
     /// Its line and its parts, or `^` and its text as it is.
     text: &'t str,
 }
 
 /// A reply, as a line of a talk says it.
 #[derive(Clone, Copy)]
-pub struct Reply<'t> {
-    /// The number of its connection.
+struct Reply<'t> {
     connection: &'t str,
-    /// Its status.
     code: &'t str,
     /// Its JSON, or its Location, or nothing.
     text: &'t str,
@@ -43,7 +37,7 @@ pub struct Reply<'t> {
 
 /// A line of a talk.
 #[derive(Clone, Copy)]
-pub enum TalkLine<'t> {
+enum TalkLine<'t> {
     /// It says nothing.
     Nothing,
     /// A line of a transcript.
@@ -54,22 +48,9 @@ pub enum TalkLine<'t> {
     Reply(Reply<'t>),
 }
 
-/// Where requests are cut into pieces.
-#[derive(Clone, Copy)]
-pub enum Cut {
-    /// Nowhere.
-    Nowhere,
-    /// On connection 1 behind so many bytes, where there are more.
-    Behind(usize),
-    /// On connection 1 behind each byte.
-    Everywhere,
-    /// On connection 2 behind so many bytes, and what stands behind them does not come.
-    Off(usize),
-}
-
 impl<'t> TalkLine<'t> {
     /// What a line says, unless it has another form.
-    pub fn of(line: &'t str) -> Option<TalkLine<'t>> {
+    fn of(line: &'t str) -> Option<TalkLine<'t>> {
         if line.is_empty() || line.starts_with('#') {
             return Some(TalkLine::Nothing);
         }
@@ -88,103 +69,76 @@ impl<'t> TalkLine<'t> {
         }
         let (moment, rest) = rest.split_once(' ')?;
         let (draws, text) = rest.split_once(' ')?;
-        let (first, second) = draws.split_once('/')?;
         Some(TalkLine::Request(Request {
             connection,
             moment,
-            first,
-            second,
+            draws: draws.split_once('/')?,
             text,
         }))
     }
 }
 
-/// The head of a request, without the empty line at its end, and its body in hex.
-#[derive(Drop)]
-struct Parts {
-    head: String,
-    body: String,
-}
-
-impl Parts {
-    /// Puts a part of a request behind the others.
-    fn put(&mut self, alloc: Global, part: &str) -> Result<(), AllocError> {
-        if part.contains(": ") {
-            self.head.push_str(part)?;
-            self.head.push_str("\r\n")
-        } else if let Some(digits) = part.strip_prefix("0x") {
-            self.body.push_str(digits)
-        } else {
-            let digits = hex::encode(alloc, part)?;
-            self.body.push_str(digits.as_str())
-        }
-    }
-
-    /// Puts the line of the body's length behind the others, where there is a body, and the end of the head.
-    fn end(&mut self, alloc: Global) -> Result<(), AllocError> {
-        if !self.body.is_empty() {
-            let length = self.body.len() / 2;
-            let line = format!(in alloc; "Content-Length: {length}\r\n")?;
-            self.head.push_str(line.as_str())?;
-        }
-        self.head.push_str("\r\n")
-    }
-}
-
-/// The parts of a request.
-fn parts_of(alloc: Global, text: &str) -> Result<Parts, AllocError> {
-    let (line, parts) = text.split_once(" | ").unwrap_or((text, ""));
-    let head = format!(in alloc; "{line} HTTP/1.1\r\n")?;
-    let body = String::new(alloc);
-    let mut all = Parts { head, body };
-    for part in parts.split(" | ") {
-        all.put(alloc, part)?;
-    }
-    all.end(alloc)?;
-    Ok(all)
-}
-
 impl<'t> Request<'t> {
-    /// Its bytes in hex.
+    /// Its bytes in hex. Behind its head stands the line of its body's length, where it has a body.
     fn digits(&self, alloc: Global) -> Result<String, AllocError> {
         if let Some(raw) = self.text.strip_prefix('^') {
             let bytes = raw.replace(alloc, '^', "\r\n")?;
             return hex::encode(alloc, bytes.as_str());
         }
-        let parts = parts_of(alloc, self.text)?;
-        let mut digits = hex::encode(alloc, parts.head.as_str())?;
-        digits.push_str(parts.body.as_str())?;
+        let (line, parts) = self.text.split_once(" | ").unwrap_or((self.text, ""));
+        let mut head = format!(in alloc; "{line} HTTP/1.1\r\n")?;
+        let mut body = String::new(alloc);
+        for part in parts.split(" | ") {
+            if part.contains(": ") {
+                write!(head, "{part}\r\n")?;
+            } else if let Some(digits) = part.strip_prefix("0x") {
+                body.push_str(digits)?;
+            } else {
+                body.push_str(hex::encode(alloc, part)?.as_str())?;
+            }
+        }
+        if !body.is_empty() {
+            let length = body.len() / 2;
+            write!(head, "Content-Length: {length}\r\n")?;
+        }
+        head.push_str("\r\n")?;
+        let mut digits = hex::encode(alloc, head.as_str())?;
+        digits.push_str(body.as_str())?;
         Ok(digits)
     }
 
     /// What stands before its bytes in a line of a transcript: two draws are 32 bytes and 32 more.
     fn front(&self, alloc: Global) -> Result<String, AllocError> {
         let (connection, moment) = (self.connection, self.moment);
-        let mut front = format!(in alloc; "bytes {connection} {moment} ")?;
-        for draw in [self.first, self.second] {
-            for _ in 0..32 {
-                front.push_str(draw)?;
-            }
-        }
-        front.push(' ')?;
-        Ok(front)
+        let first = self.draws.0.repeat(alloc, 32)?;
+        let second = self.draws.1.repeat(alloc, 32)?;
+        format!(in alloc; "bytes {connection} {moment} {first}{second} ")
     }
 
-    /// Puts the lines of its pieces behind those of a transcript.
-    fn push_to(&self, alloc: Global, transcript: &mut String, cut: Cut) -> Result<(), AllocError> {
+    /// Puts the lines of its pieces behind those of a transcript, where it may be cut at a place.
+    fn push_to(
+        &self,
+        alloc: Global,
+        transcript: &mut String,
+        pieces: Pieces,
+        place: usize,
+    ) -> Result<(), AllocError> {
         let front = self.front(alloc)?;
         let digits = self.digits(alloc)?;
-        match (self.connection, cut) {
-            ("1", Cut::Behind(place)) => {
-                let (first, rest) = parted(digits.as_str(), place);
+        let (first, rest) = parted(digits.as_str(), place);
+        match (self.connection, pieces) {
+            ("1", Pieces::Bytes) => {
+                for byte in digits.as_bytes().chunks(2) {
+                    let byte = str::from_utf8(byte).unwrap_or("");
+                    push_piece(transcript, front.as_str(), byte)?;
+                }
+                Ok(())
+            }
+            ("1", Pieces::Two) => {
                 push_piece(transcript, front.as_str(), first)?;
                 push_piece(transcript, front.as_str(), rest)
             }
-            ("1", Cut::Everywhere) => push_bytes(transcript, front.as_str(), digits.as_str()),
-            ("2", Cut::Off(place)) => {
-                let (first, _) = parted(digits.as_str(), place);
-                push_piece(transcript, front.as_str(), first)
-            }
+            ("2", Pieces::Front) => push_piece(transcript, front.as_str(), first),
             _ => push_piece(transcript, front.as_str(), digits.as_str()),
         }
     }
@@ -202,22 +156,14 @@ fn push_piece(transcript: &mut String, front: &str, digits: &str) -> Result<(), 
     if digits.is_empty() {
         return Ok(());
     }
-    transcript.push_str(front)?;
-    transcript.push_str(digits)?;
-    transcript.push('\n')
-}
-
-/// Each byte goes into a line of its own.
-fn push_bytes(transcript: &mut String, front: &str, digits: &str) -> Result<(), AllocError> {
-    for byte in digits.as_bytes().chunks(2) {
-        push_piece(transcript, front, str::from_utf8(byte).unwrap_or(""))?;
-    }
-    Ok(())
+    writeln!(transcript, "{front}{digits}")
 }
 
 const NOT_STORED: &str = "Cache-Control: no-store\r\nPragma: no-cache\r\n";
 
 const JSON: &str = "Content-Type: application/json\r\n";
+
+const BASIC: &str = "WWW-Authenticate: Basic realm=\"oauthd\"\r\n";
 
 impl<'t> Reply<'t> {
     /// The phrase of its status.
@@ -234,40 +180,24 @@ impl<'t> Reply<'t> {
         }
     }
 
-    /// The header lines before that of its length.
-    fn header_lines(&self, alloc: Global) -> Result<String, AllocError> {
-        let text = self.text;
-        match (self.code, text.is_empty()) {
-            ("200", true) => String::from_str(alloc, NOT_STORED),
-            (_, true) => Ok(String::new(alloc)),
-            ("302", false) => format!(in alloc; "{NOT_STORED}Location: {text}\r\n"),
-            ("401", false) => format!(in alloc;
-                "{JSON}{NOT_STORED}WWW-Authenticate: Basic realm=\"oauthd\"\r\n"
-            ),
-            (_, false) => format!(in alloc; "{JSON}{NOT_STORED}"),
-        }
-    }
-
-    /// The header line behind that of its length, if there is one.
-    fn last_line(&self) -> &'static str {
-        if self.code == "400" && self.text.is_empty() {
-            "Connection: close\r\n"
-        } else {
-            ""
-        }
-    }
-
     /// Puts its bytes behind those of other replies.
-    fn push_to(&self, alloc: Global, replies: &mut String) -> Result<(), AllocError> {
-        let (code, phrase) = (self.code, self.phrase());
-        let lines = self.header_lines(alloc)?;
-        let last = self.last_line();
-        let body = if code == "302" { "" } else { self.text };
+    fn push_to(&self, replies: &mut String) -> Result<(), AllocError> {
+        let (code, text, phrase) = (self.code, self.text, self.phrase());
+        let (last, body) = match (code, text) {
+            ("400", "") => ("Connection: close\r\n", ""),
+            ("302", _) => ("", ""),
+            (_, body) => ("", body),
+        };
         let length = body.len();
-        let reply = format!(in alloc;
-            "HTTP/1.1 {code} {phrase}\r\n{lines}Content-Length: {length}\r\n{last}\r\n{body}"
-        )?;
-        replies.push_str(reply.as_str())
+        write!(replies, "HTTP/1.1 {code} {phrase}\r\n")?;
+        match (code, text) {
+            ("200", "") => replies.push_str(NOT_STORED)?,
+            (_, "") => {}
+            ("302", _) => write!(replies, "{NOT_STORED}Location: {text}\r\n")?,
+            ("401", _) => write!(replies, "{JSON}{NOT_STORED}{BASIC}")?,
+            _ => write!(replies, "{JSON}{NOT_STORED}")?,
+        }
+        write!(replies, "Content-Length: {length}\r\n{last}\r\n{body}")
     }
 }
 
@@ -281,28 +211,21 @@ impl Talk {
 
     /// Whether each line has one of the forms, and goes out on a connection that is opened, if it goes out.
     pub fn is_whole(&self) -> bool {
-        for line in self.lines.split('\n') {
-            match TalkLine::of(line) {
-                None => return false,
-                Some(TalkLine::Reply(reply)) if !self.opens(reply.connection) => return false,
-                Some(_) => {}
-            }
-        }
-        true
+        self.lines.split('\n').all(|line| match TalkLine::of(line) {
+            Some(TalkLine::Reply(reply)) => self.opens(reply.connection),
+            said => said.is_some(),
+        })
     }
 
-    /// The transcript that says what comes.
-    pub fn transcript(&self, alloc: Global, cut: Cut) -> Result<String, AllocError> {
+    /// The transcript that says what comes, where requests may be cut at a place.
+    pub fn transcript(&self, alloc: Global, place: usize) -> Result<String, AllocError> {
         let config = self.config.as_str();
         let mut transcript = format!(in alloc; "config {config}\n")?;
         for line in self.lines.split('\n') {
             match TalkLine::of(line) {
-                Some(TalkLine::Event(event)) => {
-                    transcript.push_str(event)?;
-                    transcript.push('\n')?;
-                }
+                Some(TalkLine::Event(event)) => writeln!(transcript, "{event}")?,
                 Some(TalkLine::Request(request)) => {
-                    request.push_to(alloc, &mut transcript, cut)?;
+                    request.push_to(alloc, &mut transcript, self.pieces, place)?;
                 }
                 _ => {}
             }
@@ -317,7 +240,7 @@ impl Talk {
             if let Some(TalkLine::Reply(reply)) = TalkLine::of(line)
                 && reply.connection == connection
             {
-                reply.push_to(alloc, &mut replies)?;
+                reply.push_to(&mut replies)?;
             }
         }
         Ok(replies)
@@ -330,15 +253,14 @@ impl Talk {
             if let Some(connection) = line.strip_prefix("open ") {
                 let replies = self.replies_on(alloc, connection)?;
                 let length = replies.len();
-                let shown = format!(in alloc; "connection {connection} {length}\n{replies}\n")?;
-                all.push_str(shown.as_str())?;
+                write!(all, "connection {connection} {length}\n{replies}\n")?;
             }
         }
         Ok(all)
     }
 
-    /// How many bytes the longest request on a connection has.
-    fn longest(&self, alloc: Global, connection: &str) -> Result<usize, AllocError> {
+    /// Where the longest request on a connection can be cut: behind so many bytes.
+    fn cuts(&self, alloc: Global, connection: &str) -> Result<Vec<usize>, AllocError> {
         let mut longest = 0;
         for line in self.lines.split('\n') {
             if let Some(TalkLine::Request(request)) = TalkLine::of(line)
@@ -347,21 +269,15 @@ impl Talk {
                 longest = longest.max(request.digits(alloc)?.len() / 2);
             }
         }
-        Ok(longest)
+        (1..longest).collect(alloc)
     }
 
-    /// Where the longest request on a connection can be cut.
-    fn places(&self, alloc: Global, connection: &str) -> Result<Range<usize>, AllocError> {
-        Ok(1..self.longest(alloc, connection)?)
-    }
-
-    /// The cuts of its requests, for each of which it runs.
-    pub fn cuts(&self, alloc: Global) -> Result<Vec<Cut>, AllocError> {
+    /// The places of a cut, for each of which it runs.
+    pub fn places(&self, alloc: Global) -> Result<Vec<usize>, AllocError> {
         match self.pieces {
-            Pieces::Whole => Vec::from_slice(alloc, &[Cut::Nowhere]),
-            Pieces::Bytes => Vec::from_slice(alloc, &[Cut::Everywhere]),
-            Pieces::Two => self.places(alloc, "1")?.map(Cut::Behind).collect(alloc),
-            Pieces::Front => self.places(alloc, "2")?.map(Cut::Off).collect(alloc),
+            Pieces::Whole | Pieces::Bytes => Vec::from_slice(alloc, &[0]),
+            Pieces::Two => self.cuts(alloc, "1"),
+            Pieces::Front => self.cuts(alloc, "2"),
         }
     }
 }

@@ -2,10 +2,8 @@
 
 use command_line::perform;
 use commands::Status;
-use row_files::comparing::{Ended, Ending, differences};
-use row_files::fault::Stop;
-use row_files::row::{Likeness, Making, Row, RowFile, Talk, Wanted, Word};
-use row_files::talk::Cut;
+use row_files::comparing::{Ended, differences};
+use row_files::row::{Row, RowFile, Talk, Word};
 use row_files::world::World;
 use std::alloc::{AllocError, Global};
 use std::fs::{self, File, OpenOptions};
@@ -47,66 +45,6 @@ fn write_file<R: Files>(rt: &R, name: &str, bytes: &[u8]) -> io::Result<()> {
     file.write_all(bytes)
 }
 
-/// Carries out a command line. Where memory is refused the runner stops, unless the row wants that.
-fn ended<'f, R: Files<File = File> + Net + Clock + RandomSource + AllocGlobal>(
-    rt: &R,
-    words: &[String],
-    wanted: u8,
-) -> Result<Ended, Stop<'f>> {
-    let (mut out, mut err) = (Vec::new(rt.alloc()), Vec::new(rt.alloc()));
-    let status = perform(rt, words, &mut out, &mut err).code();
-    if status == Status::NoMemory.code() && status != wanted {
-        return Err(Stop::OutOfMemory);
-    }
-    Ok(Ended { status, out, err })
-}
-
-/// The words of a command on a file.
-fn words_of(alloc: Global, command: &str, file: &str) -> Result<Vec<String>, AllocError> {
-    let mut words = Vec::new(alloc);
-    words.push(String::from_str(alloc, command)?)?;
-    words.push(String::from_str(alloc, file)?)?;
-    Ok(words)
-}
-
-/// Tells why a file is not assembled.
-fn told_of_file(alloc: Global, name: &str, err: &[u8]) -> Result<String, AllocError> {
-    let why = String::from_utf8_lossy(alloc, err)?;
-    format!(in alloc; ": {name} is not assembled: {why:?}")
-}
-
-/// Puts what `asm` makes of a file in its place, and tells what is wrong with it, if anything is.
-fn assemble<'f, R: Files<File = File> + Net + Clock + RandomSource + AllocGlobal>(
-    rt: &R,
-    name: &str,
-) -> Result<String, Stop<'f>> {
-    let words = words_of(rt.alloc(), "asm", name)?;
-    let Ended { status, out, err } = ended(rt, &words, 0)?;
-    if status == 0 {
-        write_file(rt, name, &out)?;
-        Ok(String::new(rt.alloc()))
-    } else {
-        Ok(told_of_file(rt.alloc(), name, &err)?)
-    }
-}
-
-/// Writes the files of a row, and tells what is wrong with one, if anything is.
-fn write_files<'f, R: Files<File = File> + Net + Clock + RandomSource + AllocGlobal>(
-    rt: &R,
-    files: &[RowFile],
-) -> Result<String, Stop<'f>> {
-    for file in files {
-        write_file(rt, file.name.as_str(), &file.bytes)?;
-        if let Making::Assembled = file.making {
-            let told = assemble(rt, file.name.as_str())?;
-            if !told.is_empty() {
-                return Ok(told);
-            }
-        }
-    }
-    Ok(String::new(rt.alloc()))
-}
-
 /// Removes the files of a row. One that is not there stays away.
 fn remove_files<R: Files>(rt: &R, files: &[RowFile]) {
     for file in files {
@@ -115,133 +53,123 @@ fn remove_files<R: Files>(rt: &R, files: &[RowFile]) {
     let _ = fs::remove_file(rt, TRANSCRIPT);
 }
 
-/// A word as a command is called with it. Of a file it has all but the last line end.
-fn written_word<R: Files + AllocGlobal>(rt: &R, word: &Word) -> io::Result<String> {
-    match word {
-        Word::Text(text) => Ok(String::from_str(rt.alloc(), text)?),
-        Word::OfFile(name) => {
-            let text = fs::read_to_string(rt, name.as_str())?;
-            let word = text.strip_suffix('\n').unwrap_or(text.as_str());
-            Ok(String::from_str(rt.alloc(), word)?)
+/// A row, and where it runs.
+#[derive(Drop)]
+struct Runner<'m, R> {
+    rt: &'m R,
+    alloc: Global,
+    row: &'m Row,
+}
+
+impl<R: Files<File = File> + Net + Clock + RandomSource + AllocGlobal> Runner<'_, R> {
+    /// Carries out a command line. Where memory is refused the runner stops, unless the row wants that.
+    fn ended(&self, words: &[String]) -> io::Result<Ended> {
+        let (mut out, mut err) = (Vec::new(self.alloc), Vec::new(self.alloc));
+        let status = perform(self.rt, words, &mut out, &mut err).code();
+        if status == Status::NoMemory.code() && self.row.status != Some(status) {
+            return Err(io::Error::from(AllocError));
         }
+        Ok(Ended { status, out, err })
     }
-}
 
-/// The words that a command is called with.
-fn written_words<R: Files + AllocGlobal>(rt: &R, words: &[Word]) -> io::Result<Vec<String>> {
-    let mut written = Vec::new(rt.alloc());
-    for word in words {
-        written.push(written_word(rt, word)?)?;
-    }
-    Ok(written)
-}
-
-/// Runs the command lines of a row, up to the first that ends otherwise, and tells what differs.
-fn run_commands<'f, R: Files<File = File> + Net + Clock + RandomSource + AllocGlobal>(
-    rt: &R,
-    commands: &[Vec<Word>],
-    ending: Ending<'_>,
-) -> Result<String, Stop<'f>> {
-    for command in commands {
-        let words = written_words(rt, command)?;
-        let ended = ended(rt, &words, ending.status)?;
-        let told = differences(rt.alloc(), ending, &ended)?;
-        if !told.is_empty() {
-            return Ok(told);
+    /// Carries out a command on a file.
+    fn ended_on(&self, command: &str, file: &str) -> io::Result<Ended> {
+        let mut words = Vec::new(self.alloc);
+        for word in [command, file] {
+            words.push(String::from_str(self.alloc, word)?)?;
         }
+        self.ended(&words)
     }
-    Ok(String::new(rt.alloc()))
-}
 
-/// Tells where a talk is cut that differs.
-fn told_of_cut(alloc: Global, cut: Cut, told: String) -> Result<String, AllocError> {
-    match cut {
-        Cut::Behind(place) | Cut::Off(place) => {
-            format!(in alloc; ": cut behind {place} bytes{told}")
+    /// Writes the files of the row, and tells what is wrong with one that is to be assembled, if anything is.
+    fn write_files(&self) -> io::Result<String> {
+        for file in &self.row.files {
+            let name = file.name.as_str();
+            write_file(self.rt, name, &file.bytes)?;
+            if file.is_assembled {
+                let Ended { status, out, err } = self.ended_on("asm", name)?;
+                if status != 0 {
+                    let why = String::from_utf8_lossy(self.alloc, &err)?;
+                    return Ok(format!(in self.alloc; ": {name} is not assembled: {why:?}")?);
+                }
+                write_file(self.rt, name, &out)?;
+            }
         }
-        Cut::Nowhere | Cut::Everywhere => Ok(told),
+        Ok(String::new(self.alloc))
     }
-}
 
-/// Runs a talk with a cut, and tells what differs.
-fn run_cut<'f, R: Files<File = File> + Net + Clock + RandomSource + AllocGlobal>(
-    rt: &R,
-    talk: &Talk,
-    cut: Cut,
-    ending: Ending<'_>,
-) -> Result<String, Stop<'f>> {
-    let transcript = talk.transcript(rt.alloc(), cut)?;
-    write_file(rt, TRANSCRIPT, transcript.as_bytes())?;
-    let words = words_of(rt.alloc(), "replay", TRANSCRIPT)?;
-    let ended = ended(rt, &words, ending.status)?;
-    Ok(differences(rt.alloc(), ending, &ended)?)
-}
-
-/// Runs a talk, up to the first cut with which it ends otherwise, and tells what differs.
-fn run_talk<'f, R: Files<File = File> + Net + Clock + RandomSource + AllocGlobal>(
-    rt: &R,
-    talk: &Talk,
-    ending: Ending<'_>,
-) -> Result<String, Stop<'f>> {
-    let cuts = talk.cuts(rt.alloc())?;
-    if cuts.is_empty() {
-        return Ok(String::from_str(rt.alloc(), ": nothing can be cut")?);
-    }
-    for cut in &cuts {
-        let told = run_cut(rt, talk, *cut, ending)?;
-        if !told.is_empty() {
-            return Ok(told_of_cut(rt.alloc(), *cut, told)?);
+    /// The words that a command is called with. Of a file a word has all but the last line end.
+    fn written(&self, words: &[Word]) -> io::Result<Vec<String>> {
+        let mut written = Vec::new(self.alloc);
+        for word in words {
+            written.push(match word {
+                Word::Text(text) => String::from_str(self.alloc, text)?,
+                Word::OfFile(name) => {
+                    let text = fs::read_to_string(self.rt, name.as_str())?;
+                    let word = text.strip_suffix('\n').unwrap_or(text.as_str());
+                    String::from_str(self.alloc, word)?
+                }
+            })?;
         }
+        Ok(written)
     }
-    Ok(String::new(rt.alloc()))
-}
 
-/// What `replay` is to print of a talk.
-fn wanted_of_talk(alloc: Global, talk: &Talk) -> Result<Wanted, AllocError> {
-    let replies = talk.replies(alloc)?;
-    Ok(Wanted {
-        likeness: Likeness::Whole,
-        bytes: replies.into_bytes(),
-    })
-}
-
-/// How the command lines of a row are to end, with this on standard output.
-fn ending_of<'w>(row: &'w Row, out: Option<&'w Wanted>) -> Ending<'w> {
-    Ending {
-        status: row.status.unwrap_or(0),
-        out,
-        err: row.err.as_ref(),
+    /// Runs command lines, up to the first that ends otherwise, and tells what differs.
+    fn run_commands(&self) -> io::Result<String> {
+        for command in &self.row.commands {
+            let ended = self.ended(&self.written(command)?)?;
+            let told = differences(self.alloc, self.row, &ended)?;
+            if !told.is_empty() {
+                return Ok(told);
+            }
+        }
+        Ok(String::new(self.alloc))
     }
-}
 
-/// Runs a row whose files stand there, and tells what differs. A talk ends with its replies, unless the row says what is written.
-fn run_on_files<'f, R: Files<File = File> + Net + Clock + RandomSource + AllocGlobal>(
-    rt: &R,
-    row: &Row,
-) -> Result<String, Stop<'f>> {
-    let Some(talk) = &row.talk else {
-        return run_commands(rt, &row.commands, ending_of(row, row.out.as_ref()));
-    };
-    if row.out.is_some() || row.err.is_some() {
-        return run_talk(rt, talk, ending_of(row, row.out.as_ref()));
+    /// Runs a talk, up to the first place of a cut at which it ends otherwise, and tells what differs.
+    fn run_talk(&self, talk: &Talk) -> io::Result<String> {
+        let places = talk.places(self.alloc)?;
+        if places.is_empty() {
+            return Ok(String::from_str(self.alloc, ": nothing can be cut")?);
+        }
+        for place in &places {
+            let transcript = talk.transcript(self.alloc, *place)?;
+            write_file(self.rt, TRANSCRIPT, transcript.as_bytes())?;
+            let ended = self.ended_on("replay", TRANSCRIPT)?;
+            let told = differences(self.alloc, self.row, &ended)?;
+            match *place {
+                _ if told.is_empty() => {}
+                0 => return Ok(told),
+                place => {
+                    return Ok(format!(in self.alloc; ": cut behind {place} bytes{told}")?);
+                }
+            }
+        }
+        Ok(String::new(self.alloc))
     }
-    let wanted = wanted_of_talk(rt.alloc(), talk)?;
-    run_talk(rt, talk, ending_of(row, Some(&wanted)))
 }
 
 /// Runs a row, and tells what differs: nothing, where all ended as it is to end. Its files are removed behind it.
-pub fn run_row<'f, R: Files<File = File> + Net + Clock + RandomSource + AllocGlobal>(
+pub fn run_row<R: Files<File = File> + Net + Clock + RandomSource + AllocGlobal>(
     rt: &R,
     row: &Row,
-) -> Result<String, Stop<'f>> {
+) -> io::Result<String> {
     let clock = Standing {
         machine: rt,
         now: Duration::from_secs(row.now.unwrap_or(NOW)),
     };
     let world = World { machine: rt, clock };
-    let mut told = write_files(&world, &row.files)?;
+    let runner = Runner {
+        rt: &world,
+        alloc: rt.alloc(),
+        row,
+    };
+    let mut told = runner.write_files()?;
     if told.is_empty() {
-        told = run_on_files(&world, row)?;
+        told = match &row.talk {
+            Some(talk) => runner.run_talk(talk)?,
+            None => runner.run_commands()?,
+        };
     }
     remove_files(&world, &row.files);
     Ok(told)

@@ -4,15 +4,14 @@ use command_line::perform;
 use row_files::world::World;
 use std::alloc::{AllocError, Global};
 use std::cell::Cell;
-use std::fs::{self, File};
 use std::io::{self, ErrorKind, Read, Write};
-use std::net::{Net, OpenStream, Shutdown, TcpStream};
+use std::net::{OpenStream, Shutdown, TcpStream};
 use std::process::Abort;
 use std::random::RandomSource;
-use std::rt::{Clock, Files};
-use std::str;
+use std::rt::Clock;
 use std::test::Fail;
 use std::time::Duration;
+use std::{fs, str};
 
 const REGISTRY: &[u8] =
     br#"{"access_life":300,"refresh_life":86400,"operator":"op-key","owners":["ann-key"],"scopes":["read","write","admin"],"clients":[{"id":"app","secret":"s3cret","redirects":["https://app.example/cb"],"scope":"read write","grants":["authorization_code","refresh_token"]},{"id":"bot","secret":"b0t","redirects":[],"scope":"read","grants":["client_credentials"]}]}"#;
@@ -33,14 +32,14 @@ const LOOKS: u32 = 20;
 
 /// A client that sends a request and no more, and one that stays and sends nothing.
 #[derive(Drop)]
-struct Clients<S> {
-    asking: S,
-    silent: S,
+struct Clients {
+    asking: TcpStream,
+    silent: TcpStream,
     reply: Vec<u8>,
     has_ended: bool,
 }
 
-impl<S: Read> Clients<S> {
+impl Clients {
     /// Reads what has come of the reply, and its end.
     fn listen(&mut self) {
         let mut buffer = [0; 64];
@@ -55,38 +54,17 @@ impl<S: Read> Clients<S> {
 }
 
 /// Where the clients of a server are, once they have come.
-type Seats<R> = Cell<Option<Clients<<R as Net>::Stream>>>;
-
-/// Clients of a server that tells in a line where it listens, of which one sends this request.
-fn clients_of<R: Net + AllocGlobal>(
-    rt: &R,
-    line: &[u8],
-    request: &str,
-) -> io::Result<Clients<R::Stream>> {
-    let line = str::from_utf8(line).unwrap_or("");
-    let address = line.strip_prefix("listening ").unwrap_or("").trim_end();
-    let mut asking = TcpStream::connect(rt, address)?;
-    asking.write_all(request.as_bytes())?;
-    asking.shutdown(Shutdown::Write)?;
-    asking.set_nonblocking(true)?;
-    let silent = TcpStream::connect(rt, address)?;
-    Ok(Clients {
-        asking,
-        silent,
-        reply: Vec::new(rt.alloc()),
-        has_ended: false,
-    })
-}
+type Seats = Cell<Option<Clients>>;
 
 /// A machine's clock, at each look at which the clients listen. It fails once all has come.
 #[derive(Drop)]
-struct Looked<'r, R: Net> {
-    rt: &'r R,
-    seats: &'r Seats<R>,
+struct Looked<'r> {
+    rt: &'r HostRuntime,
+    seats: &'r Seats,
     looks: Cell<u32>,
 }
 
-impl<R: Net> Looked<'_, R> {
+impl Looked<'_> {
     /// The clients listen. Whether all has come, or they have waited for long enough.
     fn is_over(&self) -> bool {
         let looks = self.looks.get().saturating_add(1);
@@ -101,7 +79,7 @@ impl<R: Net> Looked<'_, R> {
     }
 }
 
-impl<R: Net + Clock> Clock for Looked<'_, R> {
+impl Clock for Looked<'_> {
     fn monotonic(&self) -> io::Result<Duration> {
         if self.is_over() {
             return Err(io::Error::from(ErrorKind::Other));
@@ -114,28 +92,6 @@ impl<R: Net + Clock> Clock for Looked<'_, R> {
     }
 }
 
-/// Where a server says that it listens. Clients come as soon as it is said.
-#[derive(Drop)]
-struct Door<'r, R: Net> {
-    rt: &'r R,
-    seats: &'r Seats<R>,
-    request: &'r str,
-    line: Vec<u8>,
-}
-
-impl<'r, R: Net + AllocGlobal> Write for Door<'r, R> {
-    fn write(&mut self, buf: &[u8]) -> io::Result<usize> {
-        self.line.extend_from_slice(buf)?;
-        Ok(buf.len())
-    }
-
-    fn flush(&mut self) -> io::Result<()> {
-        let clients = clients_of(self.rt, &self.line, self.request)?;
-        self.seats.set(Some(clients));
-        Ok(())
-    }
-}
-
 /// What is written to it, with so much room, and whether it can't be brought to its end.
 #[derive(Drop)]
 struct Page {
@@ -145,11 +101,11 @@ struct Page {
 }
 
 impl Page {
-    fn new(alloc: Global, room: usize, is_full: bool) -> Page {
+    fn new(alloc: Global) -> Page {
         Page {
             text: Vec::new(alloc),
-            room,
-            is_full,
+            room: usize::MAX,
+            is_full: false,
         }
     }
 
@@ -174,6 +130,59 @@ impl Write for Page {
     }
 }
 
+/// Where a server says in a line that it listens. Clients come as soon as it is said, of which one sends a request.
+#[derive(Drop)]
+struct Door<'r> {
+    rt: &'r HostRuntime,
+    seats: &'r Seats,
+    request: &'r str,
+    line: Page,
+}
+
+impl Write for Door<'_> {
+    fn write(&mut self, buf: &[u8]) -> io::Result<usize> {
+        self.line.write(buf)
+    }
+
+    fn flush(&mut self) -> io::Result<()> {
+        let line = self.line.text();
+        let address = line.strip_prefix("listening ").unwrap_or("").trim_end();
+        let mut asking = TcpStream::connect(self.rt, address)?;
+        asking.write_all(self.request.as_bytes())?;
+        asking.shutdown(Shutdown::Write)?;
+        asking.set_nonblocking(true)?;
+        self.seats.set(Some(Clients {
+            asking,
+            silent: TcpStream::connect(self.rt, address)?,
+            reply: Vec::new(self.rt.alloc()),
+            has_ended: false,
+        }));
+        Ok(())
+    }
+}
+
+/// What came of a command: its status, and what it wrote and told.
+#[derive(Drop)]
+struct Outcome {
+    status: u8,
+    out: Page,
+    err: Page,
+}
+
+impl Outcome {
+    /// Asserts that a command ended so, and told this.
+    fn assert_ended(&self, rt: &impl Abort, status: u8, err: &str) {
+        assert_eq!(rt; self.status, status);
+        assert_eq!(rt; self.err.text(), err);
+    }
+
+    /// Asserts that a command ended so, and wrote nothing and told this.
+    fn assert_silent(&self, rt: &impl Abort, status: u8, err: &str) {
+        self.assert_ended(rt, status, err);
+        assert_eq!(rt; self.out.text(), "");
+    }
+}
+
 /// Words as the program is called with them.
 fn words_of(alloc: Global, texts: &[&str]) -> Result<Vec<String>, AllocError> {
     let mut words = Vec::new(alloc);
@@ -183,20 +192,29 @@ fn words_of(alloc: Global, texts: &[&str]) -> Result<Vec<String>, AllocError> {
     Ok(words)
 }
 
-/// What came of a service: its status, what it told, and its clients.
-#[derive(Drop)]
-struct Visit<S> {
-    status: u8,
-    err: Page,
-    clients: Clients<S>,
+/// Carries out a command whose output has so much room, and is full at its end or not.
+fn done_with(
+    rt: &HostRuntime,
+    texts: &[&str],
+    room: usize,
+    is_full: bool,
+) -> Result<Outcome, Fail> {
+    let words = words_of(rt.alloc(), texts)?;
+    let mut out = Page::new(rt.alloc());
+    out.room = room;
+    out.is_full = is_full;
+    let mut err = Page::new(rt.alloc());
+    let status = perform(rt, &words, &mut out, &mut err).code();
+    Ok(Outcome { status, out, err })
+}
+
+/// Carries out a command.
+fn done(rt: &HostRuntime, texts: &[&str]) -> Result<Outcome, Fail> {
+    done_with(rt, texts, usize::MAX, false)
 }
 
 /// Serves clients as words say, of which one sends this request.
-fn served<R: Files<File = File> + Net + Clock + RandomSource + AllocGlobal>(
-    rt: &R,
-    texts: &[&str],
-    request: &str,
-) -> Result<Visit<R::Stream>, Fail> {
+fn served(rt: &HostRuntime, texts: &[&str], request: &str) -> Result<(Outcome, Clients), Fail> {
     let words = words_of(rt.alloc(), texts)?;
     let seats = Cell::new(None);
     let clock = Looked {
@@ -209,61 +227,63 @@ fn served<R: Files<File = File> + Net + Clock + RandomSource + AllocGlobal>(
         rt,
         seats: &seats,
         request,
-        line: Vec::new(rt.alloc()),
+        line: Page::new(rt.alloc()),
     };
-    let mut err = Page::new(rt.alloc(), usize::MAX, false);
+    let mut err = Page::new(rt.alloc());
     let status = perform(&visited, &words, &mut door, &mut err).code();
-    match seats.replace(None) {
-        Some(clients) => Ok(Visit {
-            status,
-            err,
-            clients,
-        }),
-        None => Err(Fail::from("nobody came")),
-    }
+    let clients = seats.replace(None).ok_or("nobody came")?;
+    let out = door.line;
+    Ok((Outcome { status, out, err }, clients))
 }
 
 /// The path of a file that nobody else has.
-fn fresh_path<R: RandomSource + AllocGlobal>(rt: &R) -> Result<String, Fail> {
+fn fresh_path(rt: &HostRuntime) -> Result<String, Fail> {
     let mut name = [0; 16];
     rt.fill_bytes(&mut name)?;
     let name = hex::encode(rt.alloc(), name)?;
     Ok(format!(in rt.alloc(); "/tmp/oauthd-{name}")?)
 }
 
-/// The path of a file where the registry stands.
-fn registry_path<R: Files<File = File> + RandomSource + AllocGlobal>(
-    rt: &R,
-) -> Result<String, Fail> {
+/// The path of a file of these bytes.
+fn path_of(rt: &HostRuntime, bytes: &[u8]) -> Result<String, Fail> {
     let path = fresh_path(rt)?;
-    fs::write(rt, &path, REGISTRY)?;
+    fs::write(rt, &path, bytes)?;
     Ok(path)
 }
 
+/// Removes a state file, and the file of its lock.
+fn remove_state(rt: &HostRuntime, path: &str) -> Result<(), Fail> {
+    let lock = format!(in rt.alloc(); "{path}.lock")?;
+    fs::remove_file(rt, path)?;
+    fs::remove_file(rt, &lock)?;
+    Ok(())
+}
+
+/// What a server tells whose clients have heard all: no connection ended by a fault, and no accept failed.
+const STOPPED: &str = "oauthd: stopped: Clock\n";
+
 #[test]
 fn a_client_of_serve_reads_its_reply(rt: HostRuntime) -> Result<(), Fail> {
-    let config = registry_path(&rt)?;
+    let config = path_of(&rt, REGISTRY)?;
     let words = ["serve", "127.0.0.1:0", &config, SEED, "1"];
-    let mut visit = served(&rt, &words, REQUEST)?;
+    let (ended, mut clients) = served(&rt, &words, REQUEST)?;
     fs::remove_file(&rt, &config)?;
-    assert_eq!(rt; visit.status, 0);
-    assert_eq!(rt; visit.err.text(), "");
-    visit.clients.asking.set_nonblocking(false)?;
+    ended.assert_ended(&rt, 0, "");
+    clients.asking.set_nonblocking(false)?;
     for _ in 0..LOOKS {
-        visit.clients.listen();
+        clients.listen();
     }
-    assert!(rt; visit.clients.has_ended);
-    assert!(rt; visit.clients.reply.as_slice() == REPLY.as_bytes());
+    assert!(rt; clients.has_ended);
+    assert!(rt; clients.reply.as_slice() == REPLY.as_bytes());
     Ok(())
 }
 
 #[test]
 fn no_connection_is_served(rt: HostRuntime) -> Result<(), Fail> {
-    let config = registry_path(&rt)?;
+    let config = path_of(&rt, REGISTRY)?;
     let served = done(&rt, &["serve", "127.0.0.1:0", &config, SEED, "0"])?;
     fs::remove_file(&rt, &config)?;
-    assert_eq!(rt; served.status, 0);
-    assert_eq!(rt; served.err.text(), "");
+    served.assert_ended(&rt, 0, "");
     let line = served.out.text();
     assert!(rt;
         line.starts_with("listening 127.0.0.1:") && !line.ends_with(":0\n"),
@@ -274,14 +294,12 @@ fn no_connection_is_served(rt: HostRuntime) -> Result<(), Fail> {
 
 #[test]
 fn a_connection_of_start_comes_is_read_and_written_and_closed(rt: HostRuntime) -> Result<(), Fail> {
-    let config = registry_path(&rt)?;
-    let visit = served(&rt, &["start", "127.0.0.1:0", &config], REQUEST)?;
+    let config = path_of(&rt, REGISTRY)?;
+    let (ended, clients) = served(&rt, &["start", "127.0.0.1:0", &config], REQUEST)?;
     fs::remove_file(&rt, &config)?;
-    assert_eq!(rt; visit.status, 2);
-    // No connection ended by a fault, and no accept failed.
-    assert_eq!(rt; visit.err.text(), "oauthd: stopped: Clock\n");
-    assert!(rt; visit.clients.has_ended);
-    assert!(rt; visit.clients.reply.as_slice() == REPLY.as_bytes());
+    ended.assert_ended(&rt, 2, STOPPED);
+    assert!(rt; clients.has_ended);
+    assert!(rt; clients.reply.as_slice() == REPLY.as_bytes());
     Ok(())
 }
 
@@ -293,71 +311,22 @@ fn token_in(reply: &[u8]) -> &str {
     token
 }
 
-/// What came of a command: its status, and what it wrote and told.
-#[derive(Drop)]
-struct Outcome {
-    status: u8,
-    out: Page,
-    err: Page,
-}
-
-/// Carries out a command whose output has so much room, and is full at its end or not.
-fn done_with<R: Files<File = File> + Net + Clock + RandomSource + AllocGlobal>(
-    rt: &R,
-    texts: &[&str],
-    room: usize,
-    is_full: bool,
-) -> Result<Outcome, Fail> {
-    let words = words_of(rt.alloc(), texts)?;
-    let mut out = Page::new(rt.alloc(), room, is_full);
-    let mut err = Page::new(rt.alloc(), usize::MAX, false);
-    let status = perform(rt, &words, &mut out, &mut err).code();
-    Ok(Outcome { status, out, err })
-}
-
-/// Carries out a command.
-fn done<R: Files<File = File> + Net + Clock + RandomSource + AllocGlobal>(
-    rt: &R,
-    texts: &[&str],
-) -> Result<Outcome, Fail> {
-    done_with(rt, texts, usize::MAX, false)
-}
-
-/// The path of a state file that was just made.
-fn state_path<R: Files<File = File> + Net + Clock + RandomSource + AllocGlobal>(
-    rt: &R,
-) -> Result<String, Fail> {
-    let path = fresh_path(rt)?;
-    let made = done(rt, &["state", "--new", &path])?;
-    if made.status != 0 {
-        return Err(Fail::from("no state file is made"));
-    }
-    Ok(path)
-}
-
-/// Removes a state file, and the file of its lock.
-fn remove_state<R: Files + AllocGlobal>(rt: &R, path: &str) -> Result<(), Fail> {
-    let lock = format!(in rt.alloc(); "{path}.lock")?;
-    fs::remove_file(rt, path)?;
-    fs::remove_file(rt, &lock)?;
-    Ok(())
-}
-
 #[test]
 fn a_token_outlives_its_server(rt: HostRuntime) -> Result<(), Fail> {
     let alloc = rt.alloc();
-    let config = registry_path(&rt)?;
-    let path = state_path(&rt)?;
+    let config = path_of(&rt, REGISTRY)?;
+    let path = fresh_path(&rt)?;
+    done(&rt, &["state", "--new", &path])?.assert_silent(&rt, 0, "");
     let words = ["start", "127.0.0.1:0", &config, "--state", &path];
-    let first = served(&rt, &words, TOKEN)?;
-    let token = token_in(&first.clients.reply);
+    let (first, clients) = served(&rt, &words, TOKEN)?;
+    let token = token_in(&clients.reply);
     let asked = format!(in alloc;
         "POST /introspect HTTP/1.1\r\nAuthorization: Basic Ym90OmIwdA==\r\nContent-Length: 49\r\n\r\ntoken={token}"
     )?;
-    let second = served(&rt, &words, &asked)?;
-    assert_eq!(rt; first.err.text(), "oauthd: stopped: Clock\n");
-    assert_eq!(rt; second.err.text(), "oauthd: stopped: Clock\n");
-    let told = str::from_utf8(&second.clients.reply).unwrap_or("");
+    let (second, clients) = served(&rt, &words, &asked)?;
+    first.assert_ended(&rt, 2, STOPPED);
+    second.assert_ended(&rt, 2, STOPPED);
+    let told = str::from_utf8(&clients.reply).unwrap_or("");
     assert!(rt; told.contains("{\"active\":true,"), "{told}");
     fs::remove_file(&rt, &config)?;
     remove_state(&rt, &path)
@@ -369,16 +338,11 @@ const EMPTY_STATE: &[u8] = b"oauthd state v2\n\0";
 #[test]
 fn a_state_file_is_made_where_nothing_is(rt: HostRuntime) -> Result<(), Fail> {
     let path = fresh_path(&rt)?;
-    let made = done(&rt, &["state", "--new", &path])?;
-    assert_eq!(rt; made.status, 0);
-    assert_eq!(rt; made.out.text(), "");
-    assert_eq!(rt; made.err.text(), "");
-    assert!(rt; fs::read(&rt, &path)?.as_slice() == EMPTY_STATE);
-    let again = done(&rt, &["state", "--new", &path])?;
-    assert_eq!(rt; again.status, 2);
     let told = format!(in rt.alloc(); "oauthd: State Exists: {path}\n")?;
-    assert_eq!(rt; again.err.text(), told.as_str());
-    assert!(rt; fs::read(&rt, &path)?.as_slice() == EMPTY_STATE);
+    for (status, told) in [(0u8, ""), (2, told.as_str())] {
+        done(&rt, &["state", "--new", &path])?.assert_silent(&rt, status, told);
+        assert!(rt; fs::read(&rt, &path)?.as_slice() == EMPTY_STATE);
+    }
     fs::remove_file(&rt, &path)?;
     Ok(())
 }
@@ -391,31 +355,14 @@ const OLD_STATE: &str =
 const NEW_STATE: &str =
     "6f61757468642073746174652076320aff00000035530b0f22d387cd5daacf4b7e1fee85c90000000002000000047265616400000005777269746500000001000000010000000361707000000000000000030000012c0001518000";
 
-/// The path of a file of these bytes.
-fn path_of<R: Files<File = File> + RandomSource + AllocGlobal>(
-    rt: &R,
-    bytes: &[u8],
-) -> Result<String, Fail> {
-    let path = fresh_path(rt)?;
-    fs::write(rt, &path, bytes)?;
-    Ok(path)
-}
-
 #[test]
 fn an_old_state_file_is_brought_over(rt: HostRuntime) -> Result<(), Fail> {
     let alloc = rt.alloc();
-    let Ok(old_bytes) = hex::decode(alloc, OLD_STATE) else {
-        return Err(Fail::from("no hex"));
-    };
+    let old_bytes = hex::decode(alloc, OLD_STATE)?;
     let old = path_of(&rt, &old_bytes)?;
     let new = fresh_path(&rt)?;
-    let made = done(&rt, &["state", "--upgrade", &old, &new])?;
-    assert_eq!(rt; made.status, 0);
-    assert_eq!(rt; made.out.text(), "");
-    assert_eq!(rt;
-        made.err.text(),
-        "oauthd: state: 3 bytes of an unfinished write are left out\n"
-    );
+    let told = "oauthd: state: 3 bytes of an unfinished write are left out\n";
+    done(&rt, &["state", "--upgrade", &old, &new])?.assert_silent(&rt, 0, told);
     assert!(rt; fs::read(&rt, &old)?.as_slice() == old_bytes.as_slice());
     let new_hex = hex::encode(alloc, fs::read(&rt, &new)?)?;
     assert_eq!(rt; new_hex.as_str(), NEW_STATE);
@@ -426,16 +373,14 @@ fn an_old_state_file_is_brought_over(rt: HostRuntime) -> Result<(), Fail> {
 #[test]
 fn what_an_unfinished_write_left_is_put_aside(rt: HostRuntime) -> Result<(), Fail> {
     let alloc = rt.alloc();
-    let config = registry_path(&rt)?;
+    let config = path_of(&rt, REGISTRY)?;
     let path = path_of(&rt, b"oauthd state v2\n\0abc")?;
     // It can't tell where it listens, and so it ends.
     let words = ["start", "127.0.0.1:0", &config, "--state", &path];
-    let begun = done_with(&rt, &words, 0, false)?;
     let told = format!(in alloc;
         "oauthd: state: 3 bytes of an unfinished write are in {path}.torn\noauthd: cannot write\n"
     )?;
-    assert_eq!(rt; begun.status, 2);
-    assert_eq!(rt; begun.err.text(), told.as_str());
+    done_with(&rt, &words, 0, false)?.assert_silent(&rt, 2, &told);
     let torn = format!(in alloc; "{path}.torn")?;
     assert!(rt; fs::read(&rt, &torn)?.as_slice() == b"abc".as_slice());
     let listed = done(&rt, &["state", &path])?;
@@ -447,16 +392,13 @@ fn what_an_unfinished_write_left_is_put_aside(rt: HostRuntime) -> Result<(), Fai
 
 #[test]
 fn a_refused_start_writes_nothing(rt: HostRuntime) -> Result<(), Fail> {
-    let config = registry_path(&rt)?;
+    let config = path_of(&rt, REGISTRY)?;
     // A torn end behind a batch that is none.
-    let Ok(bytes) = hex::decode(rt.alloc(), REFUSED_STATE) else {
-        return Err(Fail::from("no hex"));
-    };
+    let bytes = hex::decode(rt.alloc(), REFUSED_STATE)?;
     let path = path_of(&rt, &bytes)?;
-    let begun = done(&rt, &["start", "127.0.0.1:0", &config, "--state", &path])?;
+    let words = ["start", "127.0.0.1:0", &config, "--state", &path];
     let told = format!(in rt.alloc(); "oauthd: State NoRules: {path}\n")?;
-    assert_eq!(rt; begun.status, 2);
-    assert_eq!(rt; begun.err.text(), told.as_str());
+    done(&rt, &words)?.assert_silent(&rt, 2, &told);
     assert!(rt; fs::read(&rt, &path)?.as_slice() == bytes.as_slice());
     let torn = format!(in rt.alloc(); "{path}.torn")?;
     assert!(rt; fs::read(&rt, &torn).is_err());
@@ -479,12 +421,12 @@ const RECORD: &str =
 fn answers_and_faults_that_cannot_be_written(rt: HostRuntime) -> Result<(), Fail> {
     for (room, is_full) in [(0usize, false), (8, false), (4096, true)] {
         let ran = done_with(&rt, &["run", ALLOW, RECORD], room, is_full)?;
-        assert_eq!(rt; ran.status, 2);
-        assert_eq!(rt; ran.err.text(), "oauthd: cannot write\n");
+        ran.assert_ended(&rt, 2, "oauthd: cannot write\n");
     }
     let words = words_of(rt.alloc(), &["run", "", RECORD])?;
-    let mut out = Page::new(rt.alloc(), usize::MAX, false);
-    let mut err = Page::new(rt.alloc(), 0, false);
+    let mut out = Page::new(rt.alloc());
+    let mut err = Page::new(rt.alloc());
+    err.room = 0;
     assert_eq!(rt; perform(&rt, &words, &mut out, &mut err).code(), 2);
     assert_eq!(rt; out.text(), "");
     Ok(())

@@ -12,6 +12,10 @@ use insn::verify_fault::VerifyFault;
 use std::process::Abort;
 use std::test::Fail;
 
+const REFUSED: VerifyFault = VerifyFault::Memory;
+
+const LONG: AsmFault = AsmFault::TooLong(4097);
+
 /// Asserts that a fault is told in a line behind the program's name.
 fn assert_told<R: Abort + AllocGlobal>(
     rt: &R,
@@ -31,15 +35,9 @@ fn memory_that_was_refused_is_told_alike_and_what_is_too_long(rt: HostRuntime) -
         (HookCommandFault::OutOfMemory, "out of memory"),
         (HookCommandFault::Text(AsmFault::Memory), "out of memory"),
         (HookCommandFault::Insn(InsnFault::Memory), "out of memory"),
-        (
-            HookCommandFault::Verify(VerifyFault::Memory),
-            "out of memory",
-        ),
+        (HookCommandFault::Verify(REFUSED), "out of memory"),
         (HookCommandFault::Insn(InsnFault::TooLong), "Insn TooLong"),
-        (
-            HookCommandFault::Text(AsmFault::TooLong(4097)),
-            "line 4097: TooLong",
-        ),
+        (HookCommandFault::Text(LONG), "line 4097: TooLong"),
     ] {
         assert_told(&rt, CommandFault::HookCommand(fault), text)?;
     }
@@ -63,34 +61,23 @@ fn sockets_that_the_system_refuses(rt: HostRuntime) -> Result<(), Fail> {
 
 #[test]
 fn servers_that_stop(rt: HostRuntime) -> Result<(), Fail> {
-    let full = BatchFault::Failed(SystemFault::StorageFull);
-    for (fault, cause, text) in [
-        (LoopFault::Wait, None, "stopped: Wait"),
-        (LoopFault::Clock, None, "stopped: Clock"),
-        (LoopFault::Keep, None, "stopped: State"),
-        (LoopFault::Rounds, None, "stopped: Rounds"),
-        (
-            LoopFault::Keep,
-            Some(BatchFault::Memory),
-            "stopped: State: Memory",
-        ),
-        (
-            LoopFault::Keep,
-            Some(full),
-            "stopped: State: no storage space",
-        ),
-        (
-            LoopFault::Keep,
-            Some(BatchFault::Full),
-            "stopped: State: Full",
-        ),
-        (
-            LoopFault::Keep,
-            Some(BatchFault::TooLong),
-            "stopped: State: TooLong",
-        ),
+    for (fault, text) in [
+        (LoopFault::Wait, "stopped: Wait"),
+        (LoopFault::Clock, "stopped: Clock"),
+        (LoopFault::Keep, "stopped: State"),
+        (LoopFault::Rounds, "stopped: Rounds"),
     ] {
-        assert_told(&rt, CommandFault::Stopped(fault, cause), text)?;
+        assert_told(&rt, CommandFault::Stopped(fault, None), text)?;
+    }
+    let full = BatchFault::Failed(SystemFault::StorageFull);
+    for (cause, text) in [
+        (BatchFault::Memory, "stopped: State: Memory"),
+        (full, "stopped: State: no storage space"),
+        (BatchFault::Full, "stopped: State: Full"),
+        (BatchFault::TooLong, "stopped: State: TooLong"),
+    ] {
+        let stopped = CommandFault::Stopped(LoopFault::Keep, Some(cause));
+        assert_told(&rt, stopped, text)?;
     }
     Ok(())
 }
