@@ -33,3 +33,5 @@ pub mod PointerLaws
 pub mod StateLaws
 pub mod OutcomeLaws
 pub mod RunLaws
+-- What these files import, passed on.
+pub mod Names

@@ -1,23 +1,16 @@
 -- Results of operations on words fit their width.
-use Rattle.std.proofs.Common.{◌<◌, ◌≤◌, ℕ, ℤ, zero, suc, ◌%◌, ◌^◌, lt_of_le_of_lt, div-le_self, pow_pos, T, leb, arith}
-use Rattle.std.proofs.lemmas.Nat.{and_le_l, mod_below, or_lt, xor_lt}
-use Rattle.std.proofs.Math.Facts.{Fits-of_z, sfits_to_z, sfits_widen}
+use Rattle.std.proofs.Common.{◌≡◌, ◌<◌, ◌≤◌, ℕ, ℤ, zero, suc, ◌%◌, ◌^◌, lt_of_le_of_lt, div-le_self, pow_pos, T, leb, arith}
+use Rattle.insn.specs.Names.{and_le_l, mod_below, or_lt, xor_lt, Fits-of_z, sfits_to_z, sfits_widen, IntWidth, cast_signed, cast_unsigned, int_shr, swap_bytes, int_rem, Width, W32, W64, BinOp, Sub}
+use Rattle.insn.specs.Names.{Div, Sdiv, Or, And, Rsh, Mod, Smod, Xor, Mov, Arsh, UnOp, Neg, Extend, SwapKind, ToLittle, SwapBits, ExtendBits}
 use native.Mathlib.Nat.{mod-le}
-use Rattle.std.specs.Int.{Width as IntWidth, w32, cast_signed, cast_unsigned, int_shr, swap_bytes}
-use Rattle.std.specs.Int.RustNames.{FitsSigned, int_rem}
+use Rattle.std.specs.Int.{w32}
+use Rattle.std.specs.Int.RustNames.{FitsSigned}
 use Rattle.std.specs.Int.Signed.{mag, mag_rem, mag_shr}
 use mir.Val.{bits, hbits}
-use Rattle.insn.specs.declared.operation.Width.{Width}
-use Rattle.insn.specs.declared.operation.Width.TheVariants.{W32, W64}
-use Rattle.insn.specs.declared.operation.BinOp.{BinOp}
-use Rattle.insn.specs.declared.operation.BinOp.TheVariants.{Div, Sdiv, Or, And, Rsh, Mod, Smod, Xor, Mov, Arsh}
-use Rattle.insn.specs.declared.operation.SwapKind.{SwapKind}
-use Rattle.insn.specs.declared.operation.SwapKind.TheVariants.{ToLittle}
-use Rattle.insn.specs.declared.operation.SwapBits.{SwapBits}
+use Rattle.insn.specs.declared.operation.UnOp.TheVariants.{Swap}
 use Rattle.insn.specs.declared.operation.SwapBits.TheVariants as swapped
-use Rattle.insn.specs.declared.operation.ExtendBits.{ExtendBits}
 use Rattle.insn.specs.declared.operation.ExtendBits.TheVariants as extended
-use Rattle.insn.specs.Word.{int_width, wrapped, seen, signed_quotient, signed_remainder, result_in, word_result, word_negated, swap_width, word_swapped, extend_width, word_extended}
+use Rattle.insn.specs.Word.{int_width, wrapped, seen, signed_quotient, signed_remainder, result_in, word_result, word_negated, swap_width, word_swapped, extend_width, word_extended, unary_result}
 
 -- ---- numbers of a width
 
@@ -75,9 +68,10 @@ seen_fits W64 a h = h
 pub word_result_fits : (w : Width) (op : BinOp) (a b : ℕ) → a < 2 ^ 64 → b < 2 ^ 64 → word_result w op a b < 2 ^ bits (int_width w)
 word_result_fits w op a b h k = result_in_fits (int_width w) op (seen w a) (seen w b) (seen_fits w a h) (seen_fits w b k)
 
--- a negated word fits its width
-pub word_negated_fits : (w : Width) (a : ℕ) → word_negated w a < 2 ^ bits (int_width w)
-word_negated_fits w a = wrapped_fits (int_width w) _
+-- a negated word is its difference from 0
+pub negated_is : (w : Width) (a : ℕ) → word_negated w a ≡ word_result w Sub 0 a
+negated_is W32 a = omega arith
+negated_is W64 a = omega arith
 
 swap_bytes_fits : (n : SwapBits) (a : ℕ) → swap_bytes (swap_width n) a < 2 ^ bits (swap_width n)
 swap_bytes_fits swapped.B16 a = omega arith
@@ -88,8 +82,7 @@ pub word_swapped_fits : (kind : SwapKind) (n : SwapBits) (a : ℕ) → word_swap
 word_swapped_fits ToLittle n a = wrapped_fits (swap_width n) a
 word_swapped_fits kind n a = swap_bytes_fits n (wrapped (swap_width n) a)
 
--- so it is a word
-pub word_swapped_is_word : (kind : SwapKind) (n : SwapBits) (a : ℕ) → word_swapped kind n a < 2 ^ 64
+word_swapped_is_word : (kind : SwapKind) (n : SwapBits) (a : ℕ) → word_swapped kind n a < 2 ^ 64
 word_swapped_is_word kind swapped.B16 a = omega (arith, word_swapped_fits kind swapped.B16 a)
 word_swapped_is_word kind n a = omega (arith, word_swapped_fits kind n a)
 
@@ -103,3 +96,9 @@ pub word_extended_fits : (w : Width) (n : ExtendBits) (a : ℕ) → word_extende
 word_extended_fits w n a =
     let small = signed_fits (extend_width n) (wrapped (extend_width n) a) (wrapped_fits (extend_width n) a) in
     bits_fit (int_width w) (cast_signed (extend_width n) (wrapped (extend_width n) a)) (sfits_widen (part_widens w n) small)
+
+-- the result of an operation on one word is a word
+pub image_is_word : (op : UnOp) (w : Width) (a : ℕ) → unary_result op w a < 2 ^ 64
+image_is_word Neg w a = word_in_width w _ (wrapped_fits (int_width w) _)
+image_is_word (Swap kind n) w a = word_swapped_is_word kind n a
+image_is_word (Extend n) w a = word_in_width w _ (word_extended_fits w n a)

@@ -3,12 +3,10 @@
 //! A word is a `u64`. What a call gives is written in `insn`, on whole numbers; no operand is refused.
 #![tactic(auto)]
 
-mod bits32;
-mod bits64;
+mod bits;
 mod conversion;
 mod width;
 
-pub use bits32::{alu32, holds32, neg32};
-pub use bits64::{alu64, holds64, neg64};
+pub use bits::{alu32, alu64, holds32, holds64, neg32, neg64};
 pub use conversion::{extend, swap};
 pub use width::{alu, holds, neg, unary};

@@ -3,8 +3,7 @@
 ghost use Rattle.std.specs.Prelude.{◌≡◌};
 ghost use Rattle.insn.specs.Word.{unary_result, word_holds, word_negated, word_result};
 
-use crate::bits32::{alu32, holds32, neg32};
-use crate::bits64::{alu64, holds64, neg64};
+use crate::bits::{alu32, alu64, holds32, holds64, neg32, neg64};
 use crate::conversion::{extend, swap};
 use insn::operation::{BinOp, Cond, UnOp, Width};
 
