@@ -1,13 +1,6 @@
 pub mod Agreeing
-pub mod Carries
 pub mod Witnesses
-pub mod Bitwise
 pub mod Moving
 pub mod Results
-pub mod Meeting
-pub mod Signs
-pub mod Swaps
-pub mod Shifts
 pub mod Refining
-pub mod Between
 pub mod Names

@@ -1,6 +1,6 @@
 -- The names of other crates that more than one file of these proofs uses.
-pub use Rattle.insn.specs.Word.{word_result, seen, word_holds, word_negated, int_width, extend_width, word_extended, swap_width, word_swapped, wrapped, unary_result}
-pub use Rattle.insn.specs.WordLaws.{word_result_fits, word_extended_fits, word_in_width, word_swapped_fits}
+pub use Rattle.insn.specs.Word.{word_result, seen, word_holds, int_width, extend_width, word_extended, swap_width, word_swapped, wrapped, unary_result}
+pub use Rattle.insn.specs.WordLaws.{negated_is, word_result_fits, word_extended_fits, word_in_width, word_swapped_fits}
 pub use Rattle.insn.specs.declared.operation.BinOp.{BinOp}
 pub use Rattle.insn.specs.declared.operation.BinOp.TheVariants.{Or, And, Xor, Lsh, Rsh, Add, Sub, Mul, Div, Mod, Mov, Arsh}
 pub use Rattle.insn.specs.declared.operation.UnOp.TheVariants.{Neg, Swap, Extend}
@@ -8,9 +8,11 @@ pub use Rattle.insn.specs.declared.operation.Width.{Width}
 pub use Rattle.insn.specs.declared.operation.Width.TheVariants.{W64, W32}
 pub use Rattle.known_bits.specs.Exact.{IsExact, carry, Gives, GivesImage, IsExactImage, is_exact}
 pub use Rattle.known_bits.specs.Members.{Agrees, HasBits}
-pub use Rattle.known_bits.specs.Moves.{MovesBits, is_low, MovesLeft}
+pub use Rattle.known_bits.specs.Moves.{IsWanted, MovesBits, MovesLeft}
 pub use Rattle.known_bits.specs.declared.bits.KnownBits.{KnownBits}
+pub use Rattle.range.proofs.LowHalves.{narrow_low}
 pub use Rattle.range.proofs.Results.{seen_same}
+pub use Rattle.range.specs.Half.{is_told}
 pub use Rattle.range.specs.Domain.{IsSingle, IsSoundResult, IsJoin, IsSoundImage}
 pub use Rattle.std.proofs.Math.Nat.{add-mul, zero-mul, mul-add-div_right, mod-eq_of_lt, mul_comm, div-zero, mod-zero}
 pub use Rattle.std.proofs.lemmas.Bool.{cases_lt, cases_eq, eq-eqb}

@@ -1,7 +1,7 @@
 -- Results in a width, and results of single words.
 use Rattle.std.proofs.Common.{◌≡◌, ℕ, ◌^◌, ◌<◌, ◌⊎◌, refl, sym, ap, ◌∙◌, inl, inr, true, arith}
-use Rattle.known_bits.proofs.Names.{cases_lt, and_mod, or_mod, xor_mod, mul-mod, le_or_l, le_or_r, bit_at-zero, bit_at, Width, W32, W64, BinOp, Add, Sub, Mul, Div, Or, And, Mod, Xor, Mov, Neg, seen}
-use Rattle.known_bits.proofs.Names.{word_result, word_negated, word_result_fits, IsSingle, seen_same, KnownBits, HasBits, is_low, Gives, IsExact, GivesImage, IsExactImage}
+use Rattle.known_bits.proofs.Names.{cases_lt, le_or_l, le_or_r, bit_at-zero, bit_at, Width, W32, W64, BinOp, Sub, Div, Mod, Neg, seen, negated_is, narrow_low, is_told}
+use Rattle.known_bits.proofs.Names.{word_result, word_result_fits, IsSingle, seen_same, KnownBits, HasBits, Gives, IsExact, GivesImage, IsExactImage}
 use Rattle.std.specs.Int.RustNames.{bit_or}
 use Rattle.known_bits.proofs.Agreeing.{bit_at_mod, bit_at_mod_above, member_of_single, no_mask}
 use Rattle.known_bits.proofs.Witnesses.{gives}
@@ -54,16 +54,9 @@ only_exact r n k single set =
 -- ---- results by the kind of operation
 
 -- the low half of a result needs only the low halves of the operands
-pub by_whole : (op : BinOp) → is_low op ≡ true → (w : Width) (x y : ℕ) → x < 2 ^ 64 → y < 2 ^ 64 → word_result w op x y ≡ seen w (word_result W64 op x y)
-by_whole op low W64 x y h k = refl
-by_whole Add low W32 x y h k = omega arith
-by_whole Sub low W32 x y h k = omega arith
-by_whole Mul low W32 x y h k = omega (arith, mul-mod x y (2 ^ 32))
-by_whole Or low W32 x y h k = sym (or_mod x y 32)
-by_whole And low W32 x y h k = sym (and_mod x y 32)
-by_whole Xor low W32 x y h k = sym (xor_mod x y 32)
-by_whole Mov low W32 x y h k = refl
-by_whole op low W32 x y h k = absurd cc
+pub by_whole : (op : BinOp) → is_told op W32 ≡ true → (w : Width) (x y : ℕ) → x < 2 ^ 64 → y < 2 ^ 64 → word_result w op x y ≡ seen w (word_result W64 op x y)
+by_whole op told W32 x y h k = sym (narrow_low op x y told k ∙ seen_same W32 (word_result W32 op x y) (word_result_fits W32 op x y h k))
+by_whole op told W64 x y h k = refl
 
 -- a quotient is that of what the width sees
 pub divided : (op : BinOp) → (op ≡ Div) ⊎ (op ≡ Mod) → (w : Width) (x y : ℕ) → x < 2 ^ 64 → y < 2 ^ 64 → word_result w op x y ≡ seen w (word_result W64 op (seen w x) (seen w y))
@@ -74,15 +67,11 @@ divided op is W32 x y h k = elim is [
 ]
 
 -- a negation is a difference from 0
-pub negated : (w : Width) (x : ℕ) → x < 2 ^ 64 → word_negated w x ≡ seen w (word_result W64 Sub 0 x)
-negated W32 x h = omega arith
-negated W64 x h = omega arith
-
 negated_gives : (w : Width) (z a : KnownBits) (k i : ℕ) → ((x : ℕ) → HasBits z x → x ≡ 0) → Gives Sub w z a k i → GivesImage Neg w a k i
 negated_gives w z a k i zero_left g = record {
   x = g.y;
   member = g.right;
-  is = ap (λ n. bit_at n k) (negated w g.y g.right.word ∙ sym (by_whole Sub refl w 0 g.y (omega arith) g.right.word)) ∙ ap (λ n. bit_at (word_result w Sub n g.y) k) (sym (zero_left g.x g.left)) ∙ g.is;
+  is = ap (λ n. bit_at n k) (negated_is w g.y) ∙ ap (λ n. bit_at (word_result w Sub n g.y) k) (sym (zero_left g.x g.left)) ∙ g.is;
 }
 
 pub negated_exact : (w : Width) (z a c : KnownBits) → ((x : ℕ) → HasBits z x → x ≡ 0) → IsExact Sub w z a c → IsExactImage Neg w a c

@@ -11,7 +11,7 @@ use insn::operation::{BinOp, Width};
 use range::domain::Domain;
 
 /// The carries into the bits of a sum.
-#[tactic(auto, using(crate::proofs::Carries::carries_at))]
+#[tactic(auto, using(crate::proofs::Witnesses::carries_at))]
 fn carries(x: u64, y: u64) -> u64
     ensures { (k : ℕ) → k < 64 → bit_at result k ≡ carry k x y }
 {
@@ -21,7 +21,7 @@ fn carries(x: u64, y: u64) -> u64
 impl KnownBits {
     ghost use Rattle.known_bits.specs.Members.{HasBits, Agrees};
     ghost use Rattle.known_bits.specs.Exact.{IsExact, HasExactBits};
-    ghost use Rattle.known_bits.specs.Moves.{is_low};
+    ghost use Rattle.range.specs.Half.{is_told};
 
     /// The sums of two words.
     pub(crate) fn sum(a: KnownBits, b: KnownBits) -> KnownBits
@@ -52,7 +52,7 @@ impl KnownBits {
     }
 
     /// The words that have the bits of a least one, and none but those of a greatest one.
-    #[tactic(auto, using(crate::proofs::Bitwise::without_apart))]
+    #[tactic(auto, using(crate::proofs::Witnesses::without_apart))]
     fn between(least: u64, greatest: u64) -> KnownBits
         ensures value { result.value ≡ least }
         ensures mask { result.mask ≡ bit_and greatest (bit_not w64 least) }
@@ -123,7 +123,7 @@ impl KnownBits {
     /// The results of an operation on whole words; every word for a shift.
     pub(crate) fn whole(op: BinOp, a: KnownBits, b: KnownBits) -> KnownBits
         ensures sound { IsSoundResult HasBits op Width.W64 a b result }
-        ensures exact { is_low op ≡ true → HasExactBits op Width.W64 a b result }
+        ensures exact { is_told op Width.W32 ≡ true → HasExactBits op Width.W64 a b result }
     {
         match op {
             BinOp::Add => KnownBits::sum(a, b),

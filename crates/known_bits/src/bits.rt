@@ -83,7 +83,7 @@ impl KnownBits {
     }
 
     /// The words that are in both; `None` where there is none.
-    #[tactic(auto, using(crate::proofs::Meeting::meet_apart))]
+    #[tactic(auto, using(crate::proofs::Agreeing::meet_apart))]
     pub fn meet(a: KnownBits, b: KnownBits) -> Option<KnownBits>
         ensures { IsMeet HasBits a b result }
     {

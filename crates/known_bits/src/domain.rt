@@ -9,7 +9,7 @@ ghost use Rattle.insn.specs.Word.{unary_result};
 use crate::bits::KnownBits;
 use insn::operation::{BinOp, Cond, UnOp, Width};
 use range::domain::Domain;
-use word::{alu, extend, swap, unary};
+use word::{alu, unary};
 
 impl Domain for KnownBits {
     ghost use Rattle.known_bits.specs.Members.{HasBits};
@@ -87,8 +87,7 @@ impl Domain for KnownBits {
         match (cond, taken) {
             (Cond::Eq, true) => KnownBits::equal(width, a, b),
             (Cond::Ne, false) => KnownBits::equal(width, a, b),
-            (Cond::Set, true) => KnownBits::touching(width, a, b),
-            (Cond::Set, false) => KnownBits::apart(width, a, b),
+            (Cond::Set, _) => KnownBits::tested(width, a, b, taken),
             _ => Some((a, b)),
         }
     }
@@ -128,11 +127,8 @@ impl KnownBits {
     {
         match op {
             UnOp::Neg => KnownBits::difference(KnownBits::exact(0), a).in_width(width),
-            UnOp::Swap(kind, bits) => {
-                KnownBits::new(swap(kind, bits, a.value), swap(kind, bits, a.mask))
-            }
-            UnOp::Extend(bits) => {
-                KnownBits::new(extend(width, bits, a.value), extend(width, bits, a.mask))
+            UnOp::Swap(..) | UnOp::Extend(_) => {
+                KnownBits::new(unary(op, width, a.value), unary(op, width, a.mask))
             }
         }
     }

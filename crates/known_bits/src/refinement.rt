@@ -1,6 +1,6 @@
 //! What is known of words for which a condition has an answer.
 
-ghost use Rattle.std.specs.Prelude.{◌≡◌, ◌<◌, ◌^◌, ℕ, IsTrue, IfSome, true, false};
+ghost use Rattle.std.specs.Prelude.{◌≡◌, ◌<◌, ◌^◌, ℕ, IsTrue, IfNone, IfSome, true};
 ghost use Rattle.insn.specs.Word.{seen, word_holds};
 ghost use Rattle.range.specs.Domain.{IsRefined};
 ghost use Rattle.range.specs.Sets.{AreWithin};
@@ -14,6 +14,7 @@ const UPPER_HALF: u64 = 0xffff_ffff_0000_0000;
 
 impl KnownBits {
     ghost use Rattle.known_bits.specs.Members.{HasBits};
+    ghost use Rattle.known_bits.specs.Moves.{IsWanted};
     ghost use Rattle.known_bits.specs.Refined.{HasPartner, IsOneBit, IsDecided, IsTight, IsUnanswered};
 
     /// The words of which a width sees the same as of one of these.
@@ -42,35 +43,38 @@ impl KnownBits {
         Some((left, right))
     }
 
-    /// What two words can be with no common bit that a width sees, where the right word is known.
-    pub(crate) fn apart(width: Width, a: KnownBits, b: KnownBits) -> Option<(KnownBits, KnownBits)>
-        ensures kept { IsRefined HasBits Cond.Set width false a b result }
-        ensures within { AreWithin HasBits a b result }
-        ensures settled { (k : ℕ) → IsOneBit width b k → IfSome result (IsDecided Cond.Set width false b) }
+    /// The bits of this word, where it is known, of which a test of a bit in common asks: none, or the only one.
+    fn wanted(self, taken: bool) -> Option<u64>
+        ensures told { IfSome result (IsWanted self taken) }
+        ensures none { IfNone result ((k : ℕ) → self.mask ≡ 0 → self.value ≡ 2 ^ k → ⊥) }
     {
-        let tests = b.in_width(width);
-        if tests.mask != 0 {
-            return Some((a, b));
-        }
-        match KnownBits::meet(a, KnownBits::outside(0, !tests.value)) {
-            Some(left) => Some((left, b)),
-            None => None,
+        if taken {
+            match self.exponent() {
+                Some(_) => Some(self.value),
+                None => None,
+            }
+        } else if self.mask == 0 {
+            Some(0)
+        } else {
+            None
         }
     }
 
-    /// What two words can be with a common bit that a width sees, where the right word is known to have one bit.
-    pub(crate) fn touching(
+    /// What two words can be with a common bit that a width sees, or with none, where the right word is known, and has for
+    /// the one no bit but one.
+    pub(crate) fn tested(
         width: Width,
         a: KnownBits,
         b: KnownBits,
+        taken: bool,
     ) -> Option<(KnownBits, KnownBits)>
-        ensures kept { IsRefined HasBits Cond.Set width true a b result }
+        ensures kept { IsRefined HasBits Cond.Set width taken a b result }
         ensures within { AreWithin HasBits a b result }
-        ensures settled { (k : ℕ) → IsOneBit width b k → IfSome result (IsDecided Cond.Set width true b) }
+        ensures settled { (k : ℕ) → IsOneBit width b k → IfSome result (IsDecided Cond.Set width taken b) }
     {
         let tests = b.in_width(width);
-        match tests.exponent() {
-            Some(_) => match KnownBits::meet(a, KnownBits::outside(tests.value, !tests.value)) {
+        match tests.wanted(taken) {
+            Some(wanted) => match KnownBits::meet(a, KnownBits::new(wanted, !tests.value)) {
                 Some(left) => Some((left, b)),
                 None => None,
             },

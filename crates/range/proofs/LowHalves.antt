@@ -1,9 +1,9 @@
 -- Low halves of words, and of results of operations on words.
-use Rattle.std.proofs.Common.{◌≡◌, ℕ, ℤ, pos, negsuc, zero, suc, lt_of_le_of_lt, ◌+◌, ◌-◌, ◌*◌, ◌%◌, ◌^◌, ◌<◌, ◌≤◌, ◌≤ℤ◌, ◌<ℤ◌, FitsSigned, ◌⊎◌, inl, inr, bit_and, w8, w16, w32, w64, sym, ap, ◌∙◌, refl, arith}
+use Rattle.std.proofs.Common.{◌≡◌, ℕ, ℤ, true, pos, negsuc, zero, suc, lt_of_le_of_lt, ◌+◌, ◌-◌, ◌*◌, ◌%◌, ◌^◌, ◌<◌, ◌≤◌, ◌≤ℤ◌, ◌<ℤ◌, FitsSigned, ◌⊎◌, inl, inr, bit_and, w8, w16, w32, w64, sym, ap, ◌∙◌, refl, arith}
 use Rattle.range.proofs.Names.{IntWidth, cast_signed, cast_unsigned, int_shr, mag_shr, mag_rem, int_div, int_rem, sfits_to_z, sfits_widen, cases_lt, ints, to_z-of_z, of_z-to_z, to_z_pos, and_mod}
 use Rattle.range.proofs.Names.{or_mod, xor_mod, mul-mod, mul-mod_first, and_mask, pow-add, mul_assoc, div-le_self, Width, W32, W64, BinOp, Add, Sub, Mul, Sdiv, Or, And, Lsh, Smod, Xor, Mov, Arsh}
 use Rattle.range.proofs.Names.{ExtendBits, B8, B16, B32, extend_width, int_width, signed_quotient, signed_remainder, unary_result, word_extended, word_result, wrapped, word_extended_fits}
-use Rattle.range.proofs.Names.{word_in_width, word_negated_fits, word_result_fits, word_swapped_is_word, InHalfRange, IsDeterminedImage, IsHalf, IsTold, places_of, same_low, URange, LiesIn}
+use Rattle.range.proofs.Names.{word_in_width, word_result_fits, InHalfRange, IsDeterminedImage, IsHalf, is_told, places_of, same_low, URange, LiesIn}
 use Rattle.range.proofs.Names.{signed_place, InRange}
 use mir.Val.{bits}
 use Rattle.insn.specs.declared.operation.UnOp.{UnOp}
@@ -96,7 +96,7 @@ raised_low : (x k : ℕ) → ((x * k) % 2 ^ 64) % 2 ^ 32 ≡ ((x % 2 ^ 32) * k) 
 raised_low x k = omega (arith, mul-mod_first x k (2 ^ 32))
 
 -- the low half of a result in 64 bits is that of the result in 32 bits
-narrow_low : (op : BinOp) (x y : ℕ) → IsTold op W32 → y < 2 ^ 64 → word_result W64 op x y % 2 ^ 32 ≡ word_result W32 op x y % 2 ^ 32
+pub narrow_low : (op : BinOp) (x y : ℕ) → is_told op W32 ≡ true → y < 2 ^ 64 → word_result W64 op x y % 2 ^ 32 ≡ word_result W32 op x y % 2 ^ 32
 narrow_low Add x y told h = omega arith
 narrow_low Sub x y told h = omega arith
 narrow_low Mul x y told h = omega (arith, mul-mod x y (2 ^ 32))
@@ -104,14 +104,14 @@ narrow_low Or x y told h = omega (arith, or_mod x y 32)
 narrow_low And x y told h = omega (arith, and_mod x y 32)
 narrow_low Xor x y told h = omega (arith, xor_mod x y 32)
 narrow_low Mov x y told h = omega arith
-narrow_low op x y told h = absurd told
+narrow_low op x y told h = absurd cc
 
 -- in 32 bits the operands' upper halves are not read
 pub alike_low : (op : BinOp) (x y m n : ℕ) → m % 2 ^ 32 ≡ x % 2 ^ 32 → n % 2 ^ 32 ≡ y % 2 ^ 32 → word_result W32 op m n ≡ word_result W32 op x y
 alike_low op x y m n p q = rw (p, q) refl
 
 -- the low half of a result, by those of the operands
-pub told_low : (op : BinOp) (w : Width) (x y m n : ℕ) → IsTold op w → y < 2 ^ 64 → n < 2 ^ 64 → m % 2 ^ 32 ≡ x % 2 ^ 32 → n % 2 ^ 32 ≡ y % 2 ^ 32 → word_result w op x y % 2 ^ 32 ≡ word_result W64 op m n % 2 ^ 32
+pub told_low : (op : BinOp) (w : Width) (x y m n : ℕ) → is_told op w ≡ true → y < 2 ^ 64 → n < 2 ^ 64 → m % 2 ^ 32 ≡ x % 2 ^ 32 → n % 2 ^ 32 ≡ y % 2 ^ 32 → word_result w op x y % 2 ^ 32 ≡ word_result W64 op m n % 2 ^ 32
 told_low Lsh W64 x y m n told h k p q = raised_low x (2 ^ (y % 64)) ∙ sym (raised_low m (2 ^ (n % 64)) ∙ rw (p, shift_same y n q) refl)
 told_low op W32 x y m n told h k p q = sym (narrow_low op m n told k ∙ ap (λ r. r % 2 ^ 32) (alike_low op x y m n p q))
 told_low op W64 x y m n told h k p q = narrow_low op x y told h ∙ sym (narrow_low op m n told k ∙ ap (λ r. r % 2 ^ 32) (alike_low op x y m n p q))
@@ -225,8 +225,3 @@ image_low Neg W32 x m told h k e = omega arith
 image_low Neg W64 x m told h k e = omega arith
 image_low (Extend n) w x m told h k e = extended_both w _ _ (extended_fits n x) (ap (cast_signed (extend_width n)) (same_part n x m e))
 image_low (Swap kind n) w x m told h k e = absurd told
-
-pub image_fits : (op : UnOp) (w : Width) (x : ℕ) → unary_result op w x < 2 ^ 64
-image_fits Neg w x = word_in_width w _ (word_negated_fits w x)
-image_fits (Swap kind n) w x = word_swapped_is_word kind n x
-image_fits (Extend n) w x = word_in_width w _ (word_extended_fits w n x)

@@ -1,17 +1,14 @@
 -- The names of other crates that more than one file of these proofs uses.
-pub use Rattle.insn.specs.Word.{extend_width, int_width, signed_quotient, signed_remainder, unary_result, word_extended, word_result, wrapped, seen, result_in}
-pub use Rattle.insn.specs.WordLaws.{word_extended_fits, word_in_width, word_negated_fits, word_result_fits, word_swapped_is_word}
-pub use Rattle.insn.specs.declared.operation.BinOp.{BinOp}
-pub use Rattle.insn.specs.declared.operation.BinOp.TheVariants.{Add, Sub, Mul, Sdiv, Or, And, Lsh, Smod, Xor, Mov, Arsh, Mod}
-pub use Rattle.insn.specs.declared.operation.Cond.TheVariants.{Eq, Ne, Lt, Le, Gt, Ge}
+pub use Rattle.range.specs.Names.{extend_width, int_width, unary_result, word_extended, word_result, seen, result_in, BinOp, Add, Sdiv, Lsh, Smod, Arsh, Mod, Eq, Ne, Lt, Le, Gt, Ge, Width, W32, W64}
+pub use Rattle.insn.specs.Word.{signed_quotient, signed_remainder, wrapped}
+pub use Rattle.insn.specs.WordLaws.{image_is_word, negated_is, word_extended_fits, word_in_width, word_result_fits}
+pub use Rattle.insn.specs.declared.operation.BinOp.TheVariants.{Sub, Mul, Or, And, Xor, Mov}
 pub use Rattle.insn.specs.declared.operation.ExtendBits.{ExtendBits}
 pub use Rattle.insn.specs.declared.operation.ExtendBits.TheVariants.{B8, B16, B32}
-pub use Rattle.insn.specs.declared.operation.Width.{Width}
-pub use Rattle.insn.specs.declared.operation.Width.TheVariants.{W32, W64}
 pub use Rattle.range.specs.Conditions.{HasAnswer, says}
 pub use Rattle.range.specs.ConditionsParts.{IsAnsweredIn, IsOfPlaces}
 pub use Rattle.range.specs.Domain.{IsSingle, IsRefined, Keeps}
-pub use Rattle.range.specs.Half.{InHalfRange, IsDeterminedImage, IsHalf, IsTold, places_of}
+pub use Rattle.range.specs.Half.{InHalfRange, IsDeterminedImage, IsHalf, is_told, places_of}
 pub use Rattle.range.specs.MemberLaws.{same_low}
 pub use Rattle.range.specs.Places.{LiesIn, signed_place, number_at}
 pub use Rattle.range.specs.Sets.{IsLeast, IsLeastPair, IsMeet, AreWithin, IsLeft, IsRight, IsLeastAnswered, IsLeastRefined, IsWithin}

@@ -1,11 +1,8 @@
 -- A law of answers that say that two words are equal.
 use Rattle.std.specs.Prelude.{◌≡◌, ◌==◌, not, ℕ, Bool, true, false, IsTrue}
+use Rattle.range.specs.Names.{Width, Cond, Eq, Ne, seen}
 use Rattle.std.proofs.Common.{arith}
 use Rattle.std.proofs.lemmas.Bool.Decides.{Decides-eqb, nat_tests}
-use Rattle.insn.specs.declared.operation.Width.{Width}
-use Rattle.insn.specs.declared.operation.Cond.{Cond}
-use Rattle.insn.specs.declared.operation.Cond.TheVariants.{Eq, Ne}
-use Rattle.insn.specs.Word.{seen}
 use Rattle.range.specs.Conditions.{HasAnswer, says}
 
 unlike : (x y : ℕ) → not (x == y) ≡ false → x ≡ y

@@ -1,10 +1,6 @@
 -- Beside Conditions: only the contracts of this crate's own parts and their proofs cite this, no public clause.
 use Rattle.std.specs.Prelude.{◌≡◌, ◌↔◌, ℕ, ◌<◌, ◌^◌, Bool, true, false, Option, Some, None, IsTrue}
-use Rattle.insn.specs.declared.operation.Width.{Width}
-use Rattle.insn.specs.declared.operation.Width.TheVariants.{W64}
-use Rattle.insn.specs.declared.operation.Cond.{Cond}
-use Rattle.insn.specs.declared.operation.Cond.TheVariants.{Set}
-use Rattle.insn.specs.Word.{int_width, holds_in, word_holds}
+use Rattle.range.specs.Names.{Width, W64, Cond, Set, int_width, holds_in, word_holds}
 use Rattle.range.specs.Conditions.{says}
 use Rattle.range.specs.Places.{signed_place}
 

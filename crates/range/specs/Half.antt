@@ -1,12 +1,7 @@
 -- The words whose low halves lie between two signed numbers.
-use Rattle.std.specs.Prelude.{◌≡◌, ◌↔◌, ℕ, ◌<◌, ◌%◌, ◌^◌}
-use Rattle.insn.specs.declared.operation.Width.{Width}
-use Rattle.insn.specs.declared.operation.Width.TheVariants.{W32, W64}
-use Rattle.insn.specs.declared.operation.BinOp.{BinOp}
-use Rattle.insn.specs.declared.operation.BinOp.TheVariants.{Div, Sdiv, Lsh, Rsh, Mod, Smod, Arsh}
-use Rattle.insn.specs.declared.operation.UnOp.{UnOp}
+use Rattle.std.specs.Prelude.{◌≡◌, ◌↔◌, ℕ, ◌<◌, ◌%◌, ◌^◌, Bool, true, false}
+use Rattle.range.specs.Names.{Width, W32, W64, BinOp, Div, Sdiv, Lsh, Rsh, Mod, Smod, Arsh, UnOp, unary_result, word_result}
 use Rattle.insn.specs.declared.operation.UnOp.TheVariants.{Neg, Swap, Extend}
-use Rattle.insn.specs.Word.{unary_result, word_result}
 use Rattle.range.specs.Places.{LiesIn, signed_place, number_at}
 use Rattle.range.specs.Signed.{least_of, greatest_of}
 use Rattle.range.specs.declared.unsigned.URange.{URange}
@@ -21,20 +16,20 @@ abbrev pub InHalfRange : HalfRange → ℕ → Type 0
 InHalfRange r x = LiesIn (signed_place W32) (places_of r) x
 
 -- the low half of a result is that of the result in 64 bits of all words that have the operands' low halves
-abbrev pub IsTold : BinOp → Width → Type 0
-IsTold Div w = ⊥
-IsTold Sdiv w = ⊥
-IsTold Lsh W32 = ⊥
-IsTold Rsh w = ⊥
-IsTold Mod w = ⊥
-IsTold Smod w = ⊥
-IsTold Arsh w = ⊥
-IsTold op w = Unit {0}
+abbrev pub is_told : BinOp → Width → Bool
+is_told Div w = false
+is_told Sdiv w = false
+is_told Lsh W32 = false
+is_told Rsh w = false
+is_told Mod w = false
+is_told Smod w = false
+is_told Arsh w = false
+is_told op w = true
 
 -- the low halves of the operands tell that of the result
 abbrev pub IsDetermined : BinOp → Width → Type 0
 IsDetermined op W32 = Unit {0}
-IsDetermined op W64 = IsTold op W64
+IsDetermined op W64 = is_told op W64 ≡ true
 
 abbrev pub IsDeterminedImage : UnOp → Type 0
 IsDeterminedImage Neg = Unit {0}

@@ -1,10 +1,7 @@
 -- Beside Half: only the contracts of this crate's own parts and their proofs cite this, no public clause.
 use Rattle.std.specs.Prelude.{ℕ, ◌<◌, ◌^◌, bit_and}
-use Rattle.insn.specs.declared.operation.Width.{Width}
-use Rattle.insn.specs.declared.operation.Width.TheVariants.{W64}
-use Rattle.insn.specs.declared.operation.BinOp.{BinOp}
+use Rattle.range.specs.Names.{Width, W64, BinOp, word_extended, word_result}
 use Rattle.insn.specs.declared.operation.ExtendBits.TheVariants.{B32}
-use Rattle.insn.specs.Word.{word_extended, word_result}
 use Rattle.range.specs.declared.half.HalfRange.{HalfRange}
 use Rattle.range.specs.Half.{InHalfRange, IsHalf}
 

@@ -15,3 +15,5 @@ pub mod HalfParts
 -- Laws, each proved: a reader may skip them.
 pub mod MemberLaws
 pub mod ConditionLaws
+-- What these files import, passed on.
+pub mod Names

@@ -1,7 +1,6 @@
 -- Words by their places on a line of numbers, and the words whose places lie in a range.
 use Rattle.std.specs.Prelude.{ℕ, ℤ, pos, ◌+◌, ◌%◌, ◌^◌, ◌<◌, ◌≤◌, ◌-ℤ◌}
-use Rattle.insn.specs.declared.operation.Width.{Width}
-use Rattle.insn.specs.declared.operation.Width.TheVariants.{W32, W64}
+use Rattle.range.specs.Names.{Width, W32, W64}
 use Rattle.range.specs.declared.unsigned.URange.{URange}
 
 -- a word of a range: its place is not below the least of them, nor above the greatest

@@ -1,12 +1,9 @@
 -- Beside Unsigned: only the contracts of this crate's own parts and their proofs cite this, no public clause.
-use Rattle.std.specs.Prelude.{◌≡◌, ℕ, ◌+◌, ◌-◌, ◌<◌, ◌≤◌, ◌^◌, Bool, IsTrue, Option, Some, None}
-use Rattle.insn.specs.declared.operation.Width.{Width}
-use Rattle.insn.specs.declared.operation.BinOp.{BinOp}
-use Rattle.insn.specs.Word.{int_width, wrapped, result_in}
+use Rattle.std.specs.Prelude.{◌≡◌, ℕ, ◌+◌, ◌<◌, ◌≤◌, ◌^◌, Bool, IsTrue, Option, Some, None}
+use Rattle.range.specs.Names.{Width, BinOp, int_width, result_in}
 use Rattle.range.specs.Domain.{Keeps}
 use Rattle.range.specs.Places.{LiesIn}
 use Rattle.range.specs.Sets.{AreWithin, IsLeastRefined}
-use Rattle.range.specs.WidthsParts.{modulus}
 use Rattle.range.specs.declared.unsigned.URange.{URange}
 use Rattle.range.specs.Unsigned.{InRange}
 
@@ -18,10 +15,6 @@ pub record EndsAtSums (a b r : URange) : Type 0 where
 -- a result of an operation on numbers of a width has the results of all members
 abbrev pub IsSoundIn : BinOp → Width → URange → URange → URange → Type 0
 IsSoundIn op w a b c = (x y : ℕ) → InRange a x → InRange b y → InRange c (result_in (int_width w) op x y)
-
--- it has the negations of numbers of a width
-abbrev pub IsNegatedIn : Width → URange → URange → Type 0
-IsNegatedIn w a c = (x : ℕ) → InRange a x → InRange c (wrapped (int_width w) (modulus w - x))
 
 -- each number of a range is the place of a word
 abbrev pub IsReached : (ℕ → ℕ) → URange → Type 0

@@ -1,10 +1,9 @@
 -- Beside Widths: only the contracts of this crate's own parts and their proofs cite this, no public clause.
 use Rattle.std.specs.Prelude.{ℕ, ◌^◌}
+use Rattle.range.specs.Names.{Width, int_width, swap_width, extend_width}
 use mir.Val.{bits, hbits}
-use Rattle.insn.specs.declared.operation.Width.{Width}
 use Rattle.insn.specs.declared.operation.SwapBits.{SwapBits}
 use Rattle.insn.specs.declared.operation.ExtendBits.{ExtendBits}
-use Rattle.insn.specs.Word.{int_width, swap_width, extend_width}
 
 -- how many bits a width has
 abbrev pub size : Width → ℕ

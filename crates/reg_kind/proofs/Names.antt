@@ -11,9 +11,11 @@ pub use Rattle.insn.specs.declared.state.Value.TheVariants.{Address, Number as I
 pub use Rattle.insn.specs.declared.verify_fault.WalkFault.{WalkFault}
 pub use Rattle.insn.specs.declared.verify_fault.WalkFault.TheVariants.{UnsetRegister, PointerMisuse, OutOfRegion, FallsOff, PointerRange}
 pub use Rattle.reg_kind.specs.Fits.{IsRight, RegFits, SpanFits, pointer_to, NumberFits, ValueFits, StaysIn}
-pub use Rattle.reg_kind.specs.Spans.{span_raised, AmountFits, IsShifted, first_span, span_between, span_lowered}
+pub use Rattle.reg_kind.specs.Spans.{lowest, highest, move_of, moved_by, span_moved, span_raised, AmountFits, IsShifted, first_span, span_between}
 pub use Rattle.reg_kind.specs.declared.reg.Reg.{Reg}
 pub use Rattle.reg_kind.specs.declared.reg.Reg.TheVariants.{Unset, Number, Record, Stack}
+pub use Rattle.reg_kind.specs.declared.span.Direction.{Direction}
+pub use Rattle.reg_kind.specs.declared.span.Direction.TheVariants.{Up, Down}
 pub use Rattle.reg_kind.specs.declared.span.Span.{Span}
 pub use Rattle.scalar.specs.MemberLaws.{shows_one, InScalar-words}
 pub use Rattle.scalar.specs.Members.{InScalar, ShowsOne}
@@ -21,4 +23,4 @@ pub use Rattle.scalar.specs.declared.scalar.Scalar.{Scalar}
 pub use Rattle.std.proofs.lemmas.Bool.Decides.{nat_tests}
 pub use Rattle.std.proofs.lemmas.Int.{ints, to_z-of_z}
 pub use Rattle.std.specs.Int.{w64, cast_signed}
-pub use Rattle.std.specs.Prelude.{◌≤ℤ◌, ◌+ℤ◌, ◌-ℤ◌}
+pub use Rattle.std.specs.Prelude.{◌≤ℤ◌, ◌+ℤ◌, if◌then◌else◌}

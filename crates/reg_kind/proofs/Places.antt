@@ -1,5 +1,6 @@
 -- Where accesses begin, and which places may be written.
 use Rattle.std.proofs.Common.{◌≡◌, ℕ, ◌+◌, ◌-◌, ◌<◌, ◌≤◌, ℤ, pos, negsuc, Bool, true, false, Option, Some, None, Result, Ok, Err, ◌⊎◌, arith, refl, ap}
+use Rattle.reg_kind.proofs.Names.{Up}
 use Rattle.reg_kind.proofs.Names.{◌≤ℤ◌, ◌+ℤ◌, ints, nat_tests, Layout, Region, InRecord, InStack, Pointer, Address, WalkFault, UnsetRegister, PointerMisuse, OutOfRegion, region_size, access_place}
 use Rattle.reg_kind.proofs.Names.{Value, Span, Reg, Unset, Number, Record, Stack, Scalar, IsRight, RegFits, SpanFits, pointer_to, span_raised}
 use Rattle.std.proofs.lemmas.Bool.{le-leb, lt-leb}
@@ -9,7 +10,7 @@ use Rattle.insn.specs.Memory.{place_of, within, is_writable}
 use Rattle.insn.specs.MemoryLaws.{size_at_most}
 use Rattle.reg_kind.specs.declared.place.Place.{Place}
 use Rattle.reg_kind.specs.Accesses.{IsAccess, IsAt, accessed, is_place_writable, place_at, place_behind, place_in}
-use Rattle.reg_kind.proofs.Shifts.{IsBetween, between_span, between_sums, inside, outside_of, greatest_inside}
+use Rattle.reg_kind.proofs.Shifts.{IsBetween, between_span, moved_between, inside, outside_of, greatest_inside}
 use Rattle.reg_kind.proofs.Results.{has_pointer}
 
 -- ---- writable places
@@ -37,7 +38,7 @@ not_within size n (pos k) few h = let out : size < k + n = (let le = λ (l : k �
 place_begins : (exact : Bool) (layout : Layout) (region : Region) (span t : Span) (offset : ℤ) (size : Size) (p : Pointer) → Some t ≡ span_raised (region_size layout region - size_bytes size) span offset offset → p.region ≡ region → SpanFits exact span p.offset
     → IsRight (IsAt exact) exact (Ok (record { region = region; span = t })) (access_place layout (Address p) offset size)
 place_begins exact layout region span t offset size p e at fits =
-    let i = inside exact (region_size layout region - size_bytes size) _ _ (pos p.offset +ℤ offset) t e (between_sums exact _ _ _ offset offset offset (between_span exact span p.offset fits) (itself exact offset)) in
+    let i = inside exact (region_size layout region - size_bytes size) _ _ (pos p.offset +ℤ offset) t e (moved_between exact Up _ _ _ offset offset offset (between_span exact span p.offset fits) (itself exact offset)) in
     let r = natural (pos p.offset +ℤ offset) i.from in
     let le : r.0 ≤ region_size layout region - size_bytes size = (let to = i.to in let same = r.1 in omega (arith, ints)) in
     let there : within (region_size layout p.region) (place_of p offset) (size_bytes size) ≡ Some r.0 = rw at (within_is (region_size layout region) (size_bytes size) r.0 (pos p.offset +ℤ offset) (few layout region size) r.1 le) in

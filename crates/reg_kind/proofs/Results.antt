@@ -1,8 +1,9 @@
 -- What an operation gives by the kinds of its operands is right for all values that they hold.
 use Rattle.std.proofs.Common.{◌≡◌, ◌≢◌, ◌⊎◌, ℕ, ◌<◌, ◌≤◌, Bool, true, false, Option, Some, None, Result, Ok, Err, refl, arith}
+use Rattle.reg_kind.proofs.Names.{Direction, Up, Down}
 use Rattle.reg_kind.proofs.Names.{nat_tests, Add, Sub, Mov, Layout, Region, InRecord, InStack, Pointer, Value, IsNumber, Address, WalkFault, FallsOff, UnsetRegister, PointerMisuse, PointerRange, at}
 use Rattle.reg_kind.proofs.Names.{region_size, Tested, Passes, and_then, failed, number_held, operation_result, or_fault, Scalar, InScalar, ShowsOne, shows_one, Span, Reg, Unset, Number, Record}
-use Rattle.reg_kind.proofs.Names.{Stack, NumberFits, SpanFits, RegFits, ValueFits, IsRight, StaysIn, pointer_to, AmountFits, IsShifted}
+use Rattle.reg_kind.proofs.Names.{Stack, NumberFits, SpanFits, RegFits, ValueFits, IsRight, StaysIn, pointer_to, AmountFits, IsShifted, move_of}
 use Rattle.insn.specs.declared.operation.Width.{Width}
 use Rattle.insn.specs.declared.operation.Width.TheVariants.{W32, W64}
 use Rattle.insn.specs.declared.operation.UnOp.{UnOp}
@@ -10,7 +11,7 @@ use Rattle.insn.specs.declared.operation.BinOp.{BinOp}
 use Rattle.insn.specs.Word.{unary_result, word_result}
 use Rattle.insn.specs.Arithmetic.{moved_pointer}
 use Rattle.range.specs.Domain.{IsSoundImage, IsSoundResult}
-use Rattle.reg_kind.specs.Operations.{IsKindImage, IsKnownNumber, IsComputed, IsRegSum, IsDifference, IsKindResult, in_region, copy_of}
+use Rattle.reg_kind.specs.Operations.{IsKindImage, IsKnownNumber, IsComputed, IsRegMove, IsKindResult, in_region, copy_of}
 
 -- ---- operands
 
@@ -58,12 +59,6 @@ pointer_fits exact region span o h = grind arith
 
 -- ---- pointers that are moved
 
--- a number is added to a pointer, or taken from it
-abbrev IsMoving : BinOp → Type 0
-IsMoving Add = Unit {0}
-IsMoving Sub = Unit {0}
-IsMoving op = ⊥
-
 -- where a span is moved to, an offset is
 abbrev IsMovedTo : Bool → ℕ → Option Span → ℕ → Type 0
 IsMovedTo exact size (Some t) r = (r ≤ size) × SpanFits exact t r
@@ -79,42 +74,44 @@ moved exact layout region t p r e h = let there = λ (s : Span). pointer_fits ex
 region_stays : (region : Region) (t : Option Span) → StaysIn (in_region region t)
 region_stays region t = grind arith
 
-amount_left : (exact : Bool) (op : BinOp) (by : Scalar) (p : Pointer) (n : ℕ) → IsMoving op → NumberFits exact by n → KeepsAmount exact W64 op (Number by) (Some (Address p)) (Some (IsNumber n)) → AmountFits exact by n
-amount_left exact op by p n moving h k = grind arith
+amount_left : (exact : Bool) (way : Direction) (by : Scalar) (p : Pointer) (n : ℕ) → NumberFits exact by n → KeepsAmount exact W64 (move_of way) (Number by) (Some (Address p)) (Some (IsNumber n)) → AmountFits exact by n
+amount_left exact way by p n h k = grind arith
 
 amount_right : (exact : Bool) (region : Region) (span : Span) (by : Scalar) (p : Pointer) (n : ℕ) → NumberFits exact by n → KeepsAmount exact W64 Add (pointer_to region span) (Some (IsNumber n)) (Some (Address p)) → AmountFits exact by n
 amount_right exact region span by p n h k = grind arith
 
--- a pointer to which a number is added, one that is added to a number, and one from which a number is taken
+-- a left operand that is read from a register
+left_read : (op : BinOp) → op ≢ Mov → (exact : Bool) (a : Reg) (v : Option Value) → LeftFits exact op a v → RegFits exact a v
+left_read op isnt exact a v h = grind arith
+
+-- what comes of a pointer that is moved
+move_is : (layout : Layout) (way : Direction) (p : Pointer) (n : ℕ) → operation_result layout W64 (move_of way) (Some (Address p)) (Some (IsNumber n)) ≡ or_fault (moved_pointer layout p (word_result W64 (move_of way) p.offset n)) PointerRange
+move_is layout Up p n = refl
+move_is layout Down p n = refl
+
+no_copy : (way : Direction) → move_of way ≢ Mov
+no_copy way e = grind arith
+
+-- a pointer to which a number is added, or from which it is taken, and one that is added to a number
 module _ (layout : Layout) (region : Region) (span : Span) (by : Scalar) (t : Option Span) where
-  pointer_sum : IsShifted Add (region_size layout region) span by t → IsResult layout W64 Add (pointer_to region span) (Number by) (in_region region t)
-  pointer_sum h = record {
+  pointer_moved : (way : Direction) → IsShifted (move_of way) (region_size layout region) span by t → IsResult layout W64 (move_of way) (pointer_to region span) (Number by) (in_region region t)
+  pointer_moved way h = record {
     stays = region_stays region t;
     right = λ exact v u o.
-        let p = has_pointer exact region span v o.left in
+        let p = has_pointer exact region span v (left_read (move_of way) (no_copy way) exact (pointer_to region span) v o.left) in
         let n = has_number exact by u o.right in
         let amount = rw (p.1, n.1) at o.amount in
-        rw (p.1, n.1) (moved exact layout region t p.0 _ p.2 (moved_to exact Add (region_size layout region) span by t p.0.offset n.0 h p.3 (amount_left exact Add by p.0 n.0 tt n.2 amount)));
+        rw (p.1, n.1, move_is layout way p.0 n.0) (moved exact layout region t p.0 _ p.2 (moved_to exact (move_of way) (region_size layout region) span by t p.0.offset n.0 h p.3 (amount_left exact way by p.0 n.0 n.2 amount)));
   }
 
-  number_sum : IsShifted Add (region_size layout region) span by t → IsResult layout W64 Add (Number by) (pointer_to region span) (in_region region t)
-  number_sum h = record {
+  number_moved : IsShifted Add (region_size layout region) span by t → IsResult layout W64 Add (Number by) (pointer_to region span) (in_region region t)
+  number_moved h = record {
     stays = region_stays region t;
     right = λ exact v u o.
         let n = has_number exact by v o.left in
         let p = has_pointer exact region span u o.right in
         let amount = rw (n.1, p.1) at o.amount in
         rw (n.1, p.1) (moved exact layout region t p.0 _ p.2 (moved_to exact Add (region_size layout region) span by t p.0.offset n.0 h p.3 (amount_right exact region span by p.0 n.0 n.2 amount)));
-  }
-
-  pointer_difference : IsShifted Sub (region_size layout region) span by t → IsResult layout W64 Sub (pointer_to region span) (Number by) (in_region region t)
-  pointer_difference h = record {
-    stays = region_stays region t;
-    right = λ exact v u o.
-        let p = has_pointer exact region span v o.left in
-        let n = has_number exact by u o.right in
-        let amount = rw (p.1, n.1) at o.amount in
-        rw (p.1, n.1) (moved exact layout region t p.0 _ p.2 (moved_to exact Sub (region_size layout region) span by t p.0.offset n.0 h p.3 (amount_left exact Sub by p.0 n.0 tt n.2 amount)));
   }
 
 -- ---- numbers
@@ -195,47 +192,30 @@ misused : (layout : Layout) (w : Width) (op : BinOp) (a b : Reg) → TakesNumber
 unfolding AreMisused
 misused layout w op a b t x y hx hy mixed = grind arith
 
--- a left operand that is read from a register
-left_read : (op : BinOp) → op ≢ Mov → (exact : Bool) (a : Reg) (v : Option Value) → LeftFits exact op a v → RegFits exact a v
-left_read op isnt exact a v h = grind arith
-
 read_right : (layout : Layout) (w : Width) (op : BinOp) (a b : Reg) (r : Result Reg WalkFault) → op ≢ Mov → IsRead layout w op a b r → IsResult layout w op a b r
 read_right layout w op a b r isnt h = record { stays = h.stays; right = λ exact v u o. h.right exact v u (left_read op isnt exact a v o.left) o.right }
 
 -- ---- sums and differences
 
--- registers of which a number and a pointer have no sum, and no difference
-abbrev AddsNone : Reg → Reg → Type 0
-AddsNone (Record s) (Number b) = ⊥
-AddsNone (Stack s) (Number b) = ⊥
-AddsNone (Number a) (Record t) = ⊥
-AddsNone (Number a) (Stack t) = ⊥
-AddsNone a b = Unit {0}
+-- registers of which a number and a pointer have no sum, or no difference
+abbrev MovesNeither : Direction → Reg → Reg → Type 0
+MovesNeither way (Record s) (Number b) = ⊥
+MovesNeither way (Stack s) (Number b) = ⊥
+MovesNeither Up (Number a) (Record t) = ⊥
+MovesNeither Up (Number a) (Stack t) = ⊥
+MovesNeither way a b = Unit {0}
 
-abbrev TakesNone : Reg → Reg → Type 0
-TakesNone (Record s) (Number b) = ⊥
-TakesNone (Stack s) (Number b) = ⊥
-TakesNone a b = Unit {0}
-
-added : (layout : Layout) (a b : Reg) → AddsNone a b → IsMixedKind a b → AreMisused layout W64 Add a b
+not_moved : (layout : Layout) (way : Direction) (a b : Reg) → MovesNeither way a b → IsMixedKind a b → AreMisused layout W64 (move_of way) a b
 unfolding AreMisused
-added layout a b none kinds x y hx hy mixed = grind arith
+not_moved layout way a b none kinds x y hx hy mixed = grind arith
 
-taken : (layout : Layout) (a b : Reg) → TakesNone a b → IsMixedKind a b → AreMisused layout W64 Sub a b
-unfolding AreMisused
-taken layout a b none kinds x y hx hy mixed = grind arith
-
-sum_right : (layout : Layout) (a b : Reg) (r : Result Reg WalkFault) → IsRegSum layout a b r → IsResult layout W64 Add a b r
-sum_right layout (Record s) (Number b) r h = rw h.result (pointer_sum layout InRecord s b _ h.right)
-sum_right layout (Stack s) (Number b) r h = rw h.result (pointer_sum layout InStack s b _ h.right)
-sum_right layout (Number a) (Record t) r h = rw h.result (number_sum layout InRecord t a _ h.right)
-sum_right layout (Number a) (Stack t) r h = rw h.result (number_sum layout InStack t a _ h.right)
-sum_right layout a b r h = read_right layout W64 Add a b r (λ e. cc) (computed_read layout W64 Add a b r (added layout a b tt) h)
-
-difference_right : (layout : Layout) (a b : Reg) (r : Result Reg WalkFault) → IsDifference layout a b r → IsResult layout W64 Sub a b r
-difference_right layout (Record s) (Number b) r h = rw h.result (pointer_difference layout InRecord s b _ h.right)
-difference_right layout (Stack s) (Number b) r h = rw h.result (pointer_difference layout InStack s b _ h.right)
-difference_right layout a b r h = read_right layout W64 Sub a b r (λ e. cc) (computed_read layout W64 Sub a b r (taken layout a b tt) h)
+move_right : (layout : Layout) (way : Direction) (a b : Reg) (r : Result Reg WalkFault) → IsRegMove way layout a b r → IsResult layout W64 (move_of way) a b r
+move_right layout way (Record s) (Number b) r h = rw h.result (pointer_moved layout InRecord s b _ way h.right)
+move_right layout way (Stack s) (Number b) r h = rw h.result (pointer_moved layout InStack s b _ way h.right)
+move_right layout Up (Number a) (Record t) r h = rw h.result (number_moved layout InRecord t a _ h.right)
+move_right layout Up (Number a) (Stack t) r h = rw h.result (number_moved layout InStack t a _ h.right)
+move_right layout Up a b r h = read_right layout W64 Add a b r (no_copy Up) (computed_read layout W64 Add a b r (not_moved layout Up a b tt) h)
+move_right layout Down a b r h = read_right layout W64 Sub a b r (no_copy Down) (computed_read layout W64 Sub a b r (not_moved layout Down a b tt) h)
 
 -- ---- moves
 
@@ -264,8 +244,8 @@ low_copy_kinds layout w op a b zero r e f shows h = rw (e, f) (zero, shows, rw (
 pub kinds_right : (layout : Layout) (w : Width) (op : BinOp) (a b : Reg) (r : Result Reg WalkFault) → IsKindResult layout w op a b r → IsResult layout w op a b r
 kinds_right layout W64 Mov a b r h = copy_right layout a b r h
 kinds_right layout W32 Mov a b r h = low_copy_right layout a b h.0 r h.1 h.2
-kinds_right layout W64 Add a b r h = sum_right layout a b r h
-kinds_right layout W64 Sub a b r h = difference_right layout a b r h
+kinds_right layout W64 Add a b r h = move_right layout Up a b r h
+kinds_right layout W64 Sub a b r h = move_right layout Down a b r h
 kinds_right layout w op a b r h = read_right layout w op a b r (λ e. absurd (cc)) (computed_read layout w op a b r (λ k. misused layout w op a b tt) h)
 
 -- ---- one operand

@@ -1,9 +1,10 @@
 -- Spans moved by a number.
 use Rattle.std.proofs.Common.{◌≡◌, ℕ, ◌+◌, ◌-◌, ◌%◌, ◌^◌, ◌<◌, ◌≤◌, ℤ, pos, Bool, true, Option, Some, None, inl, inr, arith, refl, ap, ◌∙◌, FitsSigned, to_z, of_z}
-use Rattle.reg_kind.proofs.Names.{◌≤ℤ◌, ◌+ℤ◌, ◌-ℤ◌, w64, cast_signed, ints, to_z-of_z, nat_tests, Add, Sub, Scalar, InScalar, ShowsOne, InScalar-words, shows_one, Span, SpanFits, AmountFits}
-use Rattle.reg_kind.proofs.Names.{IsShifted, first_span, span_between, span_raised, span_lowered}
+use Rattle.reg_kind.proofs.Names.{Direction, lowest, highest}
+use Rattle.reg_kind.proofs.Names.{◌≤ℤ◌, if◌then◌else◌, w64, cast_signed, ints, to_z-of_z, nat_tests, Scalar, InScalar, ShowsOne, InScalar-words, shows_one, Span, SpanFits, AmountFits}
+use Rattle.reg_kind.proofs.Names.{IsShifted, first_span, move_of, moved_by, span_between, span_moved}
 use Rattle.std.specs.Int.{Width}
-use Rattle.reg_kind.proofs.Readings.{IsReading, sum_read, difference_read, sum_fits, difference_fits}
+use Rattle.reg_kind.proofs.Readings.{IsReading, moved_read, moved_fits}
 
 -- a number between two; a shape's is both of them
 pub record IsBetween (exact : Bool) (least z greatest : ℤ) : Type 0 where
@@ -18,11 +19,9 @@ between_span exact span o h = grind (arith, ints)
 pub amount_word : (exact : Bool) (by : Scalar) (n : ℕ) → AmountFits exact by n → n < 2 ^ 64
 amount_word exact by n h = let word = InScalar-words by n in let one = shows_one by n in grind (arith, word, one)
 
-pub between_sums : (exact : Bool) (a b c x y z : ℤ) → IsBetween exact a b c → IsBetween exact x y z → IsBetween exact (a +ℤ x) (b +ℤ y) (c +ℤ z)
-between_sums exact a b c x y z h k = grind (arith, ints)
-
-pub between_differences : (exact : Bool) (a b c x y z : ℤ) → IsBetween exact a b c → IsBetween exact x y z → IsBetween exact (a -ℤ z) (b -ℤ y) (c -ℤ x)
-between_differences exact a b c x y z h k = grind (arith, ints)
+pub moved_between : (exact : Bool) (way : Direction) (a b c x y z : ℤ) → IsBetween exact a b c → IsBetween exact x y z
+    → IsBetween exact (moved_by way a (lowest way x z)) (moved_by way b y) (moved_by way c (highest way x z))
+moved_between exact way a b c x y z h k = grind (arith, ints)
 
 -- the ends of a span in a region
 span_ends : (size : ℕ) (l g : ℤ) (t : Span) → Some t ≡ span_between size l g → (l ≡ pos t.least) × (g ≡ pos t.greatest) × (t.least ≤ size) × (t.greatest ≤ size)
@@ -73,58 +72,30 @@ first_none o p r e f = grind arith
 pub plain : (w : Width) (x a : ℤ) → x ≡ a → FitsSigned w x → to_z w (of_z w x) ≡ a
 plain w x a e fits = to_z-of_z w x fits ∙ e
 
--- ---- sums
+-- ---- moves
 
--- a span moved up by each of the numbers of a scalar
-pub sum_moved : (size : ℕ) (span t : Span) (by : Scalar) (reading : ℕ → ℤ) (lo hi : ℤ) → size ≤ 512 → span.greatest < 2 ^ 16 → HasEnds by reading lo hi → Some t ≡ span_raised size span lo hi → IsShifted Add size span by (Some t)
-sum_moved size span t by reading lo hi le small ends e exact o n ho hn =
+-- a span moved by each of the numbers of a scalar
+pub shifts : (way : Direction) (size : ℕ) (span t : Span) (by : Scalar) (reading : ℕ → ℤ) (lo hi : ℤ) → size ≤ 512 → span.greatest < 2 ^ 16 → HasEnds by reading lo hi → Some t ≡ span_moved way size span lo hi → IsShifted (move_of way) size span by (Some t)
+shifts way size span t by reading lo hi le small ends e exact o n ho hn =
     let oh = between_span exact span o ho in
     let bound = oh.below in
-    let i = inside exact size _ _ (pos o +ℤ reading n) t e (between_sums exact _ _ _ _ _ _ oh (ends.between exact n hn)) in
-    let same : pos ((o + n) % 2 ^ 64) ≡ pos o +ℤ reading n = sum_read o n size (reading n) (ends.reads n) (omega (arith, ints)) le (amount_word exact by n hn) i.from i.to in
+    let i = inside exact size _ _ (moved_by way (pos o) (reading n)) t e (moved_between exact way _ _ _ _ _ _ oh (ends.between exact n hn)) in
+    let same = moved_read way o n size (reading n) (ends.reads n) (omega (arith, ints)) le (amount_word exact by n hn) i.from i.to in
     let to = i.to in
     (omega (arith, ints), i.fits _ same)
 
-pub sum_not_moved : (size : ℕ) (span : Span) (by : Scalar) (lo hi : ℕ) (lo2 hi2 : ℤ) → size ≤ 512 → span.greatest < 2 ^ 16 → HasEnds by pos (pos lo) (pos hi) → HasEnds by (cast_signed w64) lo2 hi2 → None ≡ span_raised size span (pos lo) (pos hi) → None ≡ span_raised size span lo2 hi2 → IsShifted Add size span by None
-sum_not_moved size span by lo hi lo2 hi2 le small words numbers e f o n ho hn =
+not_moved : (way : Direction) (size : ℕ) (span : Span) (by : Scalar) (lo hi : ℕ) (lo2 hi2 : ℤ) → size ≤ 512 → span.greatest < 2 ^ 16 → HasEnds by pos (pos lo) (pos hi) → HasEnds by (cast_signed w64) lo2 hi2 → None ≡ span_moved way size span (pos lo) (pos hi) → None ≡ span_moved way size span lo2 hi2 → IsShifted (move_of way) size span by None
+not_moved way size span by lo hi lo2 hi2 le small words numbers e f o n ho hn =
     let oh = between_span true span o ho in
     let bound = oh.below in
-    let word = amount_word true by n hn in
-    let unsigned_ends = (between_sums true _ _ _ _ _ _ oh (words.between true n hn)).alone refl in
-    let signed_ends = (between_sums true _ _ _ _ _ _ oh (numbers.between true n hn)).alone refl in
-    let unsigned_out = outside_of size _ _ (pos o +ℤ pos n) unsigned_ends.0 unsigned_ends.1 e in
-    let signed_out = outside_of size _ _ (pos o +ℤ cast_signed w64 n) signed_ends.0 signed_ends.1 f in
-    let fits = sum_fits o n size (omega (arith, ints)) le word in
-    grind (arith, ints, unsigned_out, signed_out, fits)
+    let unsigned_ends = (moved_between true way _ _ _ _ _ _ oh (words.between true n hn)).alone refl in
+    let signed_ends = (moved_between true way _ _ _ _ _ _ oh (numbers.between true n hn)).alone refl in
+    let unsigned_out = outside_of size _ _ (moved_by way (pos o) (pos n)) unsigned_ends.0 unsigned_ends.1 e in
+    let signed_out = outside_of size _ _ (moved_by way (pos o) (cast_signed w64 n)) signed_ends.0 signed_ends.1 f in
+    let fits = moved_fits way o n size (omega (arith, ints)) le (amount_word true by n hn) in
+    grind (arith, unsigned_out, signed_out, fits)
 
 -- whether or not the second reading gives a span
-pub sum_moved_signed : (size : ℕ) (span : Span) (by : Scalar) (lo hi : ℕ) (lo2 hi2 : ℤ) (r : Option Span) → size ≤ 512 → span.greatest < 2 ^ 16 → HasEnds by pos (pos lo) (pos hi) → HasEnds by (cast_signed w64) lo2 hi2 → None ≡ span_raised size span (pos lo) (pos hi) → r ≡ span_raised size span lo2 hi2 → IsShifted Add size span by r
-sum_moved_signed size span by lo hi lo2 hi2 None le small words numbers e f = sum_not_moved size span by lo hi lo2 hi2 le small words numbers e f
-sum_moved_signed size span by lo hi lo2 hi2 (Some t) le small words numbers e f = sum_moved size span t by (cast_signed w64) lo2 hi2 le small numbers f
-
--- ---- differences
-
--- a span moved down by each of the numbers of a scalar
-pub difference_moved : (size : ℕ) (span t : Span) (by : Scalar) (reading : ℕ → ℤ) (lo hi : ℤ) → size ≤ 512 → span.greatest < 2 ^ 16 → HasEnds by reading lo hi → Some t ≡ span_lowered size span lo hi → IsShifted Sub size span by (Some t)
-difference_moved size span t by reading lo hi le small ends e exact o n ho hn =
-    let oh = between_span exact span o ho in
-    let bound = oh.below in
-    let i = inside exact size _ _ (pos o -ℤ reading n) t e (between_differences exact _ _ _ _ _ _ oh (ends.between exact n hn)) in
-    let same : pos ((o + (2 ^ 64 - n)) % 2 ^ 64) ≡ pos o -ℤ reading n = difference_read o n size (reading n) (ends.reads n) (omega (arith, ints)) le (amount_word exact by n hn) i.from i.to in
-    let to = i.to in
-    (omega (arith, ints), i.fits _ same)
-
-pub difference_not_moved : (size : ℕ) (span : Span) (by : Scalar) (lo hi : ℕ) (lo2 hi2 : ℤ) → size ≤ 512 → span.greatest < 2 ^ 16 → HasEnds by pos (pos lo) (pos hi) → HasEnds by (cast_signed w64) lo2 hi2 → None ≡ span_lowered size span (pos lo) (pos hi) → None ≡ span_lowered size span lo2 hi2 → IsShifted Sub size span by None
-difference_not_moved size span by lo hi lo2 hi2 le small words numbers e f o n ho hn =
-    let oh = between_span true span o ho in
-    let bound = oh.below in
-    let word = amount_word true by n hn in
-    let signed_ends = (between_differences true _ _ _ _ _ _ oh (numbers.between true n hn)).alone refl in
-    let signed_out = outside_of size _ _ (pos o -ℤ cast_signed w64 n) signed_ends.0 signed_ends.1 f in
-    let fits = difference_fits o n size (omega (arith, ints)) le word in
-    grind (arith, ints, signed_out, fits)
-
--- whether or not the second reading gives a span
-pub difference_moved_signed : (size : ℕ) (span : Span) (by : Scalar) (lo hi : ℕ) (lo2 hi2 : ℤ) (r : Option Span) → size ≤ 512 → span.greatest < 2 ^ 16 → HasEnds by pos (pos lo) (pos hi) → HasEnds by (cast_signed w64) lo2 hi2 → None ≡ span_lowered size span (pos lo) (pos hi) → r ≡ span_lowered size span lo2 hi2 → IsShifted Sub size span by r
-difference_moved_signed size span by lo hi lo2 hi2 None le small words numbers e f = difference_not_moved size span by lo hi lo2 hi2 le small words numbers e f
-difference_moved_signed size span by lo hi lo2 hi2 (Some t) le small words numbers e f = difference_moved size span t by (cast_signed w64) lo2 hi2 le small numbers f
+pub moved_signed : (way : Direction) (size : ℕ) (span : Span) (by : Scalar) (lo hi : ℕ) (lo2 hi2 : ℤ) (r : Option Span) → size ≤ 512 → span.greatest < 2 ^ 16 → HasEnds by pos (pos lo) (pos hi) → HasEnds by (cast_signed w64) lo2 hi2 → None ≡ span_moved way size span (pos lo) (pos hi) → r ≡ span_moved way size span lo2 hi2 → IsShifted (move_of way) size span by r
+moved_signed way size span by lo hi lo2 hi2 None le small words numbers e f = not_moved way size span by lo hi lo2 hi2 le small words numbers e f
+moved_signed way size span by lo hi lo2 hi2 (Some t) le small words numbers e f = shifts way size span t by (cast_signed w64) lo2 hi2 le small numbers f

@@ -16,10 +16,12 @@ use Rattle.insn.specs.Values.{region_size}
 use Rattle.range.specs.Domain.{IsSoundResult, IsSoundImage, IsSingleResult, IsSingleImage}
 use Rattle.scalar.specs.declared.scalar.Scalar.{Scalar}
 use Rattle.scalar.specs.Members.{InScalar, ShowsOne}
+use Rattle.reg_kind.specs.declared.span.Direction.{Direction}
+use Rattle.reg_kind.specs.declared.span.Direction.TheVariants.{Up, Down}
 use Rattle.reg_kind.specs.declared.span.Span.{Span}
 use Rattle.reg_kind.specs.declared.reg.Reg.{Reg}
 use Rattle.reg_kind.specs.declared.reg.Reg.TheVariants.{Unset, Number, Record, Stack}
-use Rattle.reg_kind.specs.Spans.{IsShifted, span_difference, span_sum}
+use Rattle.reg_kind.specs.Spans.{IsShifted, move_of, span_shifted}
 use Rattle.reg_kind.specs.Fits.{pointer_to}
 
 -- a number that is known alone
@@ -32,16 +34,10 @@ abbrev pub in_region : Region → Option Span → Result Reg WalkFault
 in_region region None = Err PointerRange
 in_region region (Some span) = Ok (pointer_to region span)
 
--- a pointer moved by a number: to a span that has all offsets that it may then have, or refused where there is none
-pub record IsMove (op : BinOp) (layout : Layout) (region : Region) (span : Span) (by : Scalar) (moved : Option Span) (r : Result Reg WalkFault) : Type 0 where
-  pub result : r ≡ in_region region moved
-  pub right : IsShifted op (region_size layout region) span by moved
-
-abbrev pub IsPointerSum : Layout → Region → Span → Scalar → Result Reg WalkFault → Type 0
-IsPointerSum layout region span by r = IsMove Add layout region span by (span_sum (region_size layout region) span by) r
-
-abbrev pub IsPointerDifference : Layout → Region → Span → Scalar → Result Reg WalkFault → Type 0
-IsPointerDifference layout region span by r = IsMove Sub layout region span by (span_difference (region_size layout region) span by) r
+-- a pointer moved up or down by a number: to a span that has all offsets that it may then have, or refused where there is none
+pub record IsMove (direction : Direction) (layout : Layout) (region : Region) (span : Span) (by : Scalar) (r : Result Reg WalkFault) : Type 0 where
+  pub result : r ≡ in_region region (span_shifted direction (region_size layout region) span by)
+  pub right : IsShifted (move_of direction) (region_size layout region) span by (span_shifted direction (region_size layout region) span by)
 
 -- a copy of what a register holds
 abbrev pub copy_of : Reg → Result Reg WalkFault
@@ -61,32 +57,23 @@ IsComputed w op a Unset r = r ≡ Err UnsetRegister
 IsComputed w op (Number a) (Number b) r = IsNumberResult w op a b r
 IsComputed w op a b r = r ≡ Err PointerMisuse
 
--- what a sum gives
-abbrev pub IsRegSum : Layout → Reg → Reg → Result Reg WalkFault → Type 0
-IsRegSum layout Unset b r = r ≡ Err UnsetRegister
-IsRegSum layout a Unset r = r ≡ Err UnsetRegister
-IsRegSum layout (Number a) (Number b) r = IsNumberResult W64 Add a b r
-IsRegSum layout (Record span) (Number by) r = IsPointerSum layout InRecord span by r
-IsRegSum layout (Stack span) (Number by) r = IsPointerSum layout InStack span by r
-IsRegSum layout (Number by) (Record span) r = IsPointerSum layout InRecord span by r
-IsRegSum layout (Number by) (Stack span) r = IsPointerSum layout InStack span by r
-IsRegSum layout a b r = r ≡ Err PointerMisuse
-
--- what a difference gives
-abbrev pub IsDifference : Layout → Reg → Reg → Result Reg WalkFault → Type 0
-IsDifference layout Unset b r = r ≡ Err UnsetRegister
-IsDifference layout a Unset r = r ≡ Err UnsetRegister
-IsDifference layout (Number a) (Number b) r = IsNumberResult W64 Sub a b r
-IsDifference layout (Record span) (Number by) r = IsPointerDifference layout InRecord span by r
-IsDifference layout (Stack span) (Number by) r = IsPointerDifference layout InStack span by r
-IsDifference layout a b r = r ≡ Err PointerMisuse
+-- what a sum gives, and what a difference
+abbrev pub IsRegMove : Direction → Layout → Reg → Reg → Result Reg WalkFault → Type 0
+IsRegMove direction layout Unset b r = r ≡ Err UnsetRegister
+IsRegMove direction layout a Unset r = r ≡ Err UnsetRegister
+IsRegMove direction layout (Number a) (Number b) r = IsNumberResult W64 (move_of direction) a b r
+IsRegMove direction layout (Record span) (Number by) r = IsMove direction layout InRecord span by r
+IsRegMove direction layout (Stack span) (Number by) r = IsMove direction layout InStack span by r
+IsRegMove Up layout (Number by) (Record span) r = IsMove Up layout InRecord span by r
+IsRegMove Up layout (Number by) (Stack span) r = IsMove Up layout InStack span by r
+IsRegMove direction layout a b r = r ≡ Err PointerMisuse
 
 -- what an operation gives; a move has 0 for its left operand
 abbrev pub IsKindResult : Layout → Width → BinOp → Reg → Reg → Result Reg WalkFault → Type 0
 IsKindResult layout W64 Mov a b r = r ≡ copy_of b
 IsKindResult layout W32 Mov a b r = (zero : Scalar) × ShowsOne zero 0 × IsComputed W32 Mov (Number zero) b r
-IsKindResult layout W64 Add a b r = IsRegSum layout a b r
-IsKindResult layout W64 Sub a b r = IsDifference layout a b r
+IsKindResult layout W64 Add a b r = IsRegMove Up layout a b r
+IsKindResult layout W64 Sub a b r = IsRegMove Down layout a b r
 IsKindResult layout w op a b r = IsComputed w op a b r
 
 -- ---- one operand

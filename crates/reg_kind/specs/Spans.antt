@@ -2,11 +2,14 @@
 use Rattle.std.specs.Prelude.{ℕ, ◌<◌, ◌≤◌, nat_le, ◌&&◌, ℤ, pos, negsuc, ◌+ℤ◌, ◌-ℤ◌, Bool, true, false, Option, Some, None}
 use Rattle.insn.specs.declared.operation.Width.TheVariants.{W64}
 use Rattle.insn.specs.declared.operation.BinOp.{BinOp}
+use Rattle.insn.specs.declared.operation.BinOp.TheVariants.{Add, Sub}
 use Rattle.insn.specs.Word.{word_result}
 use Rattle.insn.specs.Values.{only_if}
 use Rattle.scalar.specs.declared.scalar.Scalar.{Scalar}
 use Rattle.scalar.specs.Members.{InScalar, ShowsOne}
 use Rattle.scalar.specs.Bounds.{least_word, greatest_word, least_number, greatest_number}
+use Rattle.reg_kind.specs.declared.span.Direction.{Direction}
+use Rattle.reg_kind.specs.declared.span.Direction.TheVariants.{Up, Down}
 use Rattle.reg_kind.specs.declared.span.Span.{Span}
 use Rattle.reg_kind.specs.Fits.{SpanFits}
 
@@ -24,12 +27,31 @@ span_between size (pos least) (pos greatest) = only_if (nat_le least size && nat
 span_between size (pos least) (negsuc _) = None
 span_between size (negsuc _) greatest = None
 
--- where numbers between two lead from the offsets of a span, when they are added to these, and when they are taken from them
-abbrev pub span_raised : ℕ → Span → ℤ → ℤ → Option Span
-span_raised size span least greatest = span_between size (pos span.least +ℤ least) (pos span.greatest +ℤ greatest)
+-- where a number leads from an offset, when it is added to it, and when it is taken from it
+abbrev pub moved_by : Direction → ℤ → ℤ → ℤ
+moved_by Up o z = o +ℤ z
+moved_by Down o z = o -ℤ z
 
-abbrev pub span_lowered : ℕ → Span → ℤ → ℤ → Option Span
-span_lowered size span least greatest = span_between size (pos span.least -ℤ greatest) (pos span.greatest -ℤ least)
+abbrev pub move_of : Direction → BinOp
+move_of Up = Add
+move_of Down = Sub
+
+-- of two numbers, the least and the greatest, the one that leads lowest, and the one that leads highest
+abbrev pub lowest : Direction → ℤ → ℤ → ℤ
+lowest Up least greatest = least
+lowest Down least greatest = greatest
+
+abbrev pub highest : Direction → ℤ → ℤ → ℤ
+highest Up least greatest = greatest
+highest Down least greatest = least
+
+-- where numbers between two lead from the offsets of a span
+abbrev pub span_moved : Direction → ℕ → Span → ℤ → ℤ → Option Span
+span_moved direction size span least greatest =
+    span_between size (moved_by direction (pos span.least) (lowest direction least greatest)) (moved_by direction (pos span.greatest) (highest direction least greatest))
+
+abbrev pub span_raised : ℕ → Span → ℤ → ℤ → Option Span
+span_raised size span least greatest = span_moved Up size span least greatest
 
 -- the first of two spans, where there is one, and else the second
 abbrev pub first_span : Option Span → Option Span → Option Span
@@ -37,13 +59,9 @@ first_span None other = other
 first_span (Some span) other = Some span
 
 -- a span moved up or down by the numbers of a scalar: by what it lies between as a word, or else as a signed number
-abbrev pub span_sum : ℕ → Span → Scalar → Option Span
-span_sum size span by =
-    first_span (span_raised size span (pos (least_word by)) (pos (greatest_word by))) (span_raised size span (least_number by) (greatest_number by))
-
-abbrev pub span_difference : ℕ → Span → Scalar → Option Span
-span_difference size span by =
-    first_span (span_lowered size span (pos (least_word by)) (pos (greatest_word by))) (span_lowered size span (least_number by) (greatest_number by))
+abbrev pub span_shifted : Direction → ℕ → Span → Scalar → Option Span
+span_shifted direction size span by =
+    first_span (span_moved direction size span (pos (least_word by)) (pos (greatest_word by))) (span_moved direction size span (least_number by) (greatest_number by))
 
 -- each offset of a span, moved by each of some numbers, lies in the region and in another span; none: the only ones don't
 abbrev pub IsShifted : BinOp → ℕ → Span → Scalar → Option Span → Type 0

@@ -7,4 +7,4 @@ pub mod span;
 
 pub use place::Place;
 pub use reg::Reg;
-pub use span::Span;
+pub use span::{Direction, Span};

@@ -3,14 +3,13 @@
 ghost use Rattle.std.specs.Prelude.{◌≡◌, Some, IfSome, IsTrue};
 ghost use Rattle.insn.specs.declared.state.Value.TheVariants.{Number as IsNumber};
 ghost use Rattle.reg_kind.specs.Fits.{IsKindCover, IsRegJoin, IsKindJoin, IsKindRefined, IsRegRefined};
-ghost use Rattle.reg_kind.specs.Operations.{copy_of, in_region, IsComputed, IsDifference, IsKindResult, IsKnownNumber, IsPointerDifference, IsPointerSum, IsRegSum, IsKindImage};
+ghost use Rattle.reg_kind.specs.Operations.{copy_of, in_region, IsComputed, IsKindResult, IsKnownNumber, IsMove, IsRegMove, IsKindImage};
+ghost use Rattle.reg_kind.specs.declared.span.Direction.TheVariants.{Up, Down};
 ghost use Rattle.reg_kind.specs.Accesses.{IsAccess, place_behind};
 ghost use Rattle.insn.specs.Instruction.{size_bytes};
-ghost use Rattle.insn.specs.declared.operation.BinOp.TheVariants.{Add, Sub};
-ghost use Rattle.insn.specs.declared.operation.Width.TheVariants.{W64};
 
 use crate::place::Place;
-use crate::span::Span;
+use crate::span::{Direction, Span};
 use insn::layout::Layout;
 use insn::operation::{BinOp, Cond, Size, UnOp, Width};
 use insn::state::Region;
@@ -66,8 +65,8 @@ impl Reg {
         }
     }
 
-    /// A pointer moved to a span, where there is one.
-    fn moved(region: Region, span: Option<Span>) -> Result<Reg, WalkFault>
+    /// A pointer to a span, where there is one.
+    fn pointer(region: Region, span: Option<Span>) -> Result<Reg, WalkFault>
         ensures { result ≡ in_region region span }
     {
         match (region, span) {
@@ -77,32 +76,33 @@ impl Reg {
         }
     }
 
-    /// A pointer to which a number is added.
-    fn raised(layout: Layout, region: Region, span: Span, by: Scalar) -> Result<Reg, WalkFault>
-        ensures { IsPointerSum layout region span by result }
+    /// A pointer moved up or down by a number.
+    fn moved(
+        layout: Layout,
+        direction: Direction,
+        region: Region,
+        span: Span,
+        by: Scalar,
+    ) -> Result<Reg, WalkFault>
+        ensures { IsMove direction layout region span by result }
     {
-        Reg::moved(region, span.moved_up(region.size(layout), by))
-    }
-
-    /// A pointer from which a number is taken.
-    fn lowered(layout: Layout, region: Region, span: Span, by: Scalar) -> Result<Reg, WalkFault>
-        ensures { IsPointerDifference layout region span by result }
-    {
-        Reg::moved(region, span.moved_down(region.size(layout), by))
+        Reg::pointer(region, span.moved(direction, region.size(layout), by))
     }
 
     /// The sum of two values.
     pub fn add(layout: Layout, a: Reg, b: Reg) -> Result<Reg, WalkFault>
-        ensures { IsRegSum layout a b result }
+        ensures { IsRegMove Up layout a b result }
     {
         match (a, b) {
             (Reg::Number(x), Reg::Number(y)) => {
                 Ok(Reg::Number(Scalar::apply(BinOp::Add, Width::W64, x, y)))
             }
-            (Reg::Record(span), Reg::Number(by)) => Reg::raised(layout, Region::Record, span, by),
-            (Reg::Stack(span), Reg::Number(by)) => Reg::raised(layout, Region::Stack, span, by),
-            (Reg::Number(by), Reg::Record(span)) => Reg::raised(layout, Region::Record, span, by),
-            (Reg::Number(by), Reg::Stack(span)) => Reg::raised(layout, Region::Stack, span, by),
+            (Reg::Record(span), Reg::Number(by)) | (Reg::Number(by), Reg::Record(span)) => {
+                Reg::moved(layout, Direction::Up, Region::Record, span, by)
+            }
+            (Reg::Stack(span), Reg::Number(by)) | (Reg::Number(by), Reg::Stack(span)) => {
+                Reg::moved(layout, Direction::Up, Region::Stack, span, by)
+            }
             (Reg::Unset, _) | (_, Reg::Unset) => Err(WalkFault::UnsetRegister),
             _ => Err(WalkFault::PointerMisuse),
         }
@@ -110,14 +110,18 @@ impl Reg {
 
     /// The difference of two values.
     pub fn sub(layout: Layout, a: Reg, b: Reg) -> Result<Reg, WalkFault>
-        ensures { IsDifference layout a b result }
+        ensures { IsRegMove Down layout a b result }
     {
         match (a, b) {
             (Reg::Number(x), Reg::Number(y)) => {
                 Ok(Reg::Number(Scalar::apply(BinOp::Sub, Width::W64, x, y)))
             }
-            (Reg::Record(span), Reg::Number(by)) => Reg::lowered(layout, Region::Record, span, by),
-            (Reg::Stack(span), Reg::Number(by)) => Reg::lowered(layout, Region::Stack, span, by),
+            (Reg::Record(span), Reg::Number(by)) => {
+                Reg::moved(layout, Direction::Down, Region::Record, span, by)
+            }
+            (Reg::Stack(span), Reg::Number(by)) => {
+                Reg::moved(layout, Direction::Down, Region::Stack, span, by)
+            }
             (Reg::Unset, _) | (_, Reg::Unset) => Err(WalkFault::UnsetRegister),
             _ => Err(WalkFault::PointerMisuse),
         }

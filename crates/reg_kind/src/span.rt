@@ -1,10 +1,9 @@
 //! Offsets in a region.
 
 ghost use Rattle.std.specs.Prelude.{◌≡◌, ◌≤◌, ◌↔◌, ◌^◌, ◌-◌, IfSome, max, min, None, IsTrue};
-ghost use Rattle.insn.specs.declared.operation.BinOp.TheVariants.{Add, Sub};
 ghost use Rattle.std.specs.Int.Signed.{mag};
 ghost use Rattle.reg_kind.specs.Fits.{has_span};
-ghost use Rattle.reg_kind.specs.Spans.{IsShifted, span_between, span_difference, span_lowered, span_raised, span_sum};
+ghost use Rattle.reg_kind.specs.Spans.{IsShifted, move_of, span_between, span_moved, span_raised, span_shifted};
 
 use scalar::Scalar;
 
@@ -13,6 +12,13 @@ use scalar::Scalar;
 pub struct Span {
     pub least: u16,
     pub greatest: u16,
+}
+
+/// How a number moves an offset: up where it is added to it, down where it is taken from it.
+#[derive(Clone, Copy, Debug, PartialEq, Eq)]
+pub enum Direction {
+    Up,
+    Down,
 }
 
 impl Span {
@@ -73,60 +79,43 @@ impl Span {
         }
     }
 
-    /// The span that numbers between two, added to its offsets, lead to.
-    fn raised(self, size: usize, least: i128, greatest: i128) -> Option<Span>
+    /// The span that numbers between two lead to from its offsets, up or down.
+    fn moved_between(
+        self,
+        direction: Direction,
+        size: usize,
+        least: i128,
+        greatest: i128,
+    ) -> Option<Span>
         requires region { size ≤ 512 }
         requires least { mag least ≤ 2 ^ 64 }
         requires greatest { mag greatest ≤ 2 ^ 64 }
-        ensures { result ≡ span_raised size self least greatest }
+        ensures { result ≡ span_moved direction size self least greatest }
     {
-        Span::between(
-            size,
-            i128::from(self.least) + least,
-            i128::from(self.greatest) + greatest,
-        )
+        let (from, to) = (i128::from(self.least), i128::from(self.greatest));
+        match direction {
+            Direction::Up => Span::between(size, from + least, to + greatest),
+            Direction::Down => Span::between(size, from - greatest, to - least),
+        }
     }
 
-    /// The span that such numbers, taken from its offsets, lead to.
-    fn lowered(self, size: usize, least: i128, greatest: i128) -> Option<Span>
-        requires region { size ≤ 512 }
-        requires least { mag least ≤ 2 ^ 64 }
-        requires greatest { mag greatest ≤ 2 ^ 64 }
-        ensures { result ≡ span_lowered size self least greatest }
-    {
-        Span::between(
-            size,
-            i128::from(self.least) - greatest,
-            i128::from(self.greatest) - least,
-        )
-    }
-
-    /// The offsets moved up by each of some numbers, read as unsigned ones, or else as signed ones.
-    pub(crate) fn moved_up(self, size: usize, by: Scalar) -> Option<Span>
+    /// The offsets moved up or down by each of some numbers, read as unsigned ones, or else as signed ones.
+    pub(crate) fn moved(self, direction: Direction, size: usize, by: Scalar) -> Option<Span>
         requires { size ≤ 512 }
-        ensures value { result ≡ span_sum size self by }
-        ensures right { IsShifted Add size self by result }
+        ensures value { result ≡ span_shifted direction size self by }
+        ensures right { IsShifted (move_of direction) size self by result }
     {
         let (least, greatest) = by.bounds();
-        if let Some(span) = self.raised(size, i128::from(least), i128::from(greatest)) {
+        if let Some(span) = self.moved_between(
+            direction,
+            size,
+            i128::from(least),
+            i128::from(greatest),
+        ) {
             return Some(span);
         }
         let (least, greatest) = by.signed_bounds();
-        self.raised(size, i128::from(least), i128::from(greatest))
-    }
-
-    /// The offsets moved down by each of some numbers, read as unsigned ones, or else as signed ones.
-    pub(crate) fn moved_down(self, size: usize, by: Scalar) -> Option<Span>
-        requires { size ≤ 512 }
-        ensures value { result ≡ span_difference size self by }
-        ensures right { IsShifted Sub size self by result }
-    {
-        let (least, greatest) = by.bounds();
-        if let Some(span) = self.lowered(size, i128::from(least), i128::from(greatest)) {
-            return Some(span);
-        }
-        let (least, greatest) = by.signed_bounds();
-        self.lowered(size, i128::from(least), i128::from(greatest))
+        self.moved_between(direction, size, i128::from(least), i128::from(greatest))
     }
 
     /// Where some bytes so far behind the offsets begin, where all lie in a region of a size.
@@ -136,6 +125,6 @@ impl Span {
         ensures { result ≡ span_raised (size - count) self offset offset }
     {
         let offset = i128::from(offset);
-        self.raised(size - count, offset, offset)
+        self.moved_between(Direction::Up, size - count, offset, offset)
     }
 }

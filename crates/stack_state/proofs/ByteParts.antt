@@ -1,13 +1,14 @@
 -- The bytes of words.
-use Rattle.std.proofs.Common.{◌≡◌, ℕ, zero, suc, ◌+◌, ◌-◌, ◌*◌, ◌/◌, ◌%◌, ◌^◌, ◌<◌, ◌≤◌, List, [], ◌∷◌, length, get_or, map, Some, refl, sym, ap, ◌∙◌, subst, arith, mod-eq_of_lt}
+use Rattle.std.proofs.Common.{◌≡◌, ◌↔◌, Bool, true, false, ℕ, zero, suc, ◌+◌, ◌-◌, ◌*◌, ◌/◌, ◌%◌, ◌^◌, ◌<◌, ◌≤◌, List, [], ◌∷◌, length, get_or, map, Some, refl, sym, ap, ◌∙◌, subst, arith, mod-eq_of_lt}
 use Rattle.stack_state.proofs.Names.{and-not, and_comm, and_mask, field_of, mod-pow-add, mod_low, mod_below, mul-add-lt, pow-add, pow_pos, shl_whole, shr-shr, shr_below, shr_high, shr_split, Cell}
-use Rattle.stack_state.proofs.Names.{low_bytes, number_spelled, Scalar, ShowsOne, InScalar-words, shows_one, byte_of, word_with}
+use Rattle.stack_state.proofs.Names.{low_bytes, number_spelled, Scalar, InScalar, ShowsOne, AmountFits, Add, And, byte_of, word_with}
 use Rattle.std.specs.Int.Bits.{bit_and}
 use Rattle.std.specs.Option.{option_map}
 use Rattle.std.proofs.lemmas.Nat.Bits.{and_high}
 use Rattle.std.proofs.Math.Pow.{pow_mono}
 use Rattle.insn.specs.declared.state.Cell.TheVariants.{Unset, Byte}
-use Rattle.insn.specs.declared.operation.BinOp.TheVariants.{Add, And}
+use Rattle.insn.specs.declared.operation.BinOp.{BinOp}
+use Rattle.range.specs.Domain.{IsSingleResult, IsSoundResult}
 use Rattle.insn.specs.declared.operation.Width.TheVariants.{W64}
 use Rattle.insn.specs.Word.{word_result}
 
@@ -106,8 +107,18 @@ none_taken w count e = rw e (omega arith)
 pub all_taken : (w count k : ℕ) → count ≡ k → w < 2 ^ (8 * k) → w % 2 ^ (8 * count) ≡ w
 all_taken w count k e lt = rw e (mod-eq_of_lt lt)
 
-pub one_small : (s : Scalar) (w : ℕ) → ShowsOne s w → w < 2 ^ 64
-one_small s w h = InScalar-words s w ((shows_one s w h w).1 refl)
+-- what an operation gives of one amount and another, and of one and a number that is known
+pub applied : (exact : Bool) (op : BinOp) (a b c : Scalar) (x y : ℕ) → IsSoundResult InScalar op W64 a b c → IsSingleResult ShowsOne op W64 a b c → AmountFits exact a x → AmountFits exact b y → AmountFits exact c (word_result W64 op x y)
+applied true op a b c x y sound single h k = single x y h k
+applied false op a b c x y sound single h k = sound x y h k
+
+pub known : (exact : Bool) (b : Scalar) (n : ℕ) → ((x : ℕ) → InScalar b x ↔ (x ≡ n)) → ShowsOne b n → AmountFits exact b n
+known true b n alone single = single
+known false b n alone single = (alone n).1 refl
+
+pub applied_to : (exact : Bool) (op : BinOp) (a b c : Scalar) (x n : ℕ) → IsSoundResult InScalar op W64 a b c → IsSingleResult ShowsOne op W64 a b c → ((y : ℕ) → InScalar b y ↔ (y ≡ n)) → ShowsOne b n → AmountFits exact a x
+    → AmountFits exact c (word_result W64 op x n)
+applied_to exact op a b c x n sound single alone one h = applied exact op a b c x n sound single h (known exact b n alone one)
 
 -- a word without some of its bytes, and their place filled
 module _ (at count w x m : ℕ) (inside : at + count ≤ 8) (small : w < 2 ^ 64) (mask : m + 1 ≡ 2 ^ (8 * count)) where

@@ -1,10 +1,11 @@
 -- The names of other crates that more than one file of these proofs uses.
 pub use Rattle.insn.specs.Instruction.{size_bytes}
 pub use Rattle.insn.specs.Memory.{low_bytes, number_spelled, value_in, parts_of, written, are_parts, is_unset, may_hold}
-pub use Rattle.insn.specs.MemoryLaws.{unset_holds, length-low_bytes}
+pub use Rattle.insn.specs.MemoryLaws.{unset_holds, length-low_bytes, length-written}
 pub use Rattle.insn.specs.Outcomes.{failed, value_at, stored_state, Tested, all_set, and_then, or_fault}
 pub use Rattle.insn.specs.Values.{State, at}
 pub use Rattle.insn.specs.declared.layout.Layout.{Layout}
+pub use Rattle.insn.specs.declared.operation.BinOp.TheVariants.{Add, And, Lsh, Rsh}
 pub use Rattle.insn.specs.declared.operation.Size.{Size}
 pub use Rattle.insn.specs.declared.state.Cell.{Cell}
 pub use Rattle.insn.specs.declared.state.Pointer.{Pointer}
@@ -14,6 +15,8 @@ pub use Rattle.insn.specs.declared.state.Value.TheVariants.{Address}
 pub use Rattle.insn.specs.declared.verify_fault.WalkFault.{WalkFault}
 pub use Rattle.insn.specs.declared.verify_fault.WalkFault.TheVariants.{FallsOff, UnsetByte, PointerMisuse}
 pub use Rattle.reg_kind.specs.Fits.{IsRight, SpanFits, ValueFits, RegFits, StaysIn}
+pub use Rattle.reg_kind.proofs.Shifts.{amount_word}
+pub use Rattle.reg_kind.specs.Spans.{AmountFits}
 pub use Rattle.reg_kind.specs.declared.reg.Reg.{Reg}
 pub use Rattle.reg_kind.specs.declared.span.Span.{Span}
 pub use Rattle.scalar.specs.MemberLaws.{InScalar-words, shows_one}

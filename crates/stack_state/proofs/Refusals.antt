@@ -1,6 +1,6 @@
 -- What is refused is refused by the machine too: in some cells that are what is known, at some place of the span, with the fault that is named.
 use Rattle.std.proofs.Common.{◌≡◌, ◌≢◌, ℕ, suc, ◌+◌, ◌-◌, ◌*◌, ◌/◌, ◌%◌, ◌<◌, ◌≤◌, false, List, [], ◌∷◌, length, min, take, drop, get_or, Some, refl, ap, ◌∙◌, arith, inl, inr}
-use Rattle.stack_state.proofs.Names.{cases_eq, cases_lt, Layout, Size, Pointer, InStack, Value, Address, Cell, WalkFault, UnsetByte, PointerMisuse, size_bytes, State, at, written, failed}
+use Rattle.stack_state.proofs.Names.{length-written, cases_eq, cases_lt, Layout, Size, Pointer, InStack, Value, Address, Cell, WalkFault, UnsetByte, PointerMisuse, size_bytes, State, at, written, failed}
 use Rattle.stack_state.proofs.Names.{stored_state, value_at, Span, Reg, SpanFits, ValueFits, Block, Stack, BlockFits, MarkFits, StackFits, WordFits, block_at, block_mark, block_cells, mark_at}
 use Rattle.stack_state.proofs.Names.{value_mark, IsNotWhole, HoldsNone, IsLoadFault, IsTouched, IsWholePlace}
 use Rattle.insn.specs.declared.state.Value.TheVariants.{Number}
@@ -8,7 +8,7 @@ use Rattle.insn.specs.declared.state.Cell.TheVariants as cell
 use Rattle.reg_kind.specs.Spans.{span_from}
 use Rattle.stack_state.specs.declared.mark.Mark.TheVariants.{Unset, Byte, Part}
 use Rattle.stack_state.specs.declared.block.Block.TheVariants as block
-use Rattle.stack_state.proofs.Written.{length-written, part_item, part_kept, written_in, written_else}
+use Rattle.stack_state.proofs.Written.{part_item, part_kept, written_in, written_else}
 use Rattle.stack_state.proofs.Spelled.{NoPointer}
 use Rattle.stack_state.proofs.Marks.{apart_fits, mark_fits, mark_in_block, word_fits}
 use Rattle.stack_state.proofs.Loads.{only_eight, size_some, torn_read, unset_read}

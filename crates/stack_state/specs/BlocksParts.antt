@@ -1,8 +1,9 @@
 -- Beside Blocks: only the contracts of this crate's own parts and their proofs cite this, no public clause.
-use Rattle.std.specs.Prelude.{◌≡◌, ◌⊎◌, ℕ, ◌-◌, ◌*◌, ◌/◌, ◌^◌, ◌<◌, ◌≤◌, List, slice_index_or}
+use Rattle.std.specs.Prelude.{◌≡◌, ◌⊎◌, ℕ, ◌-◌, ◌*◌, ◌/◌, ◌^◌, ◌<◌, ◌≤◌, Bool, List, slice_index_or}
 use Rattle.reg_kind.specs.declared.span.Span.{Span}
 use Rattle.scalar.specs.declared.scalar.Scalar.{Scalar}
 use Rattle.scalar.specs.Members.{InScalar, ShowsOne}
+use Rattle.reg_kind.specs.Spans.{AmountFits}
 use Rattle.stack_state.specs.declared.mark.Mark.{Mark}
 use Rattle.stack_state.specs.declared.mark.Mark.TheVariants.{Unset as NoMark}
 use Rattle.stack_state.specs.declared.block.Block.{Block}
@@ -34,8 +35,7 @@ pub record IsWordPut (put : BlockPut) (x old new : ℕ) : Type 0 where
 
 -- the numbers that a store puts so many bytes behind its first: at a certain place what is left there of a value, and else any
 pub record IsValueAt (span : Span) (value : Scalar) (behind : ℕ) (v : Scalar) : Type 0 where
-  pub certain : span.least ≡ span.greatest → behind < 8 → (x : ℕ) → InScalar value x → InScalar v (x / 2 ^ (8 * behind))
-  pub one : span.least ≡ span.greatest → behind < 8 → (x : ℕ) → ShowsOne value x → ShowsOne v (x / 2 ^ (8 * behind))
+  pub certain : span.least ≡ span.greatest → behind < 8 → (exact : Bool) (x : ℕ) → AmountFits exact value x → AmountFits exact v (x / 2 ^ (8 * behind))
   pub uncertain : ¬ (span.least ≡ span.greatest) → (x : ℕ) → x < 2 ^ 64 → InScalar v x
 
 -- those bytes are known as a store leaves them, and for each word and each number stored the word is known that it leaves; of

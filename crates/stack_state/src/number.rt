@@ -1,7 +1,7 @@
 //! Some bytes of the words of numbers.
 
-ghost use Rattle.std.specs.Prelude.{◌≡◌, ◌+◌, ◌≤◌, ◌<◌, ◌^◌, ◌*◌, ◌/◌, ◌%◌, ℕ};
-ghost use Rattle.scalar.specs.Members.{InScalar, ShowsOne};
+ghost use Rattle.std.specs.Prelude.{◌≡◌, ◌+◌, ◌≤◌, ◌<◌, ◌^◌, ◌*◌, ◌/◌, ◌%◌, ℕ, Bool};
+ghost use Rattle.reg_kind.specs.Spans.{AmountFits};
 ghost use Rattle.stack_state.specs.Words.{bytes_from, word_with};
 
 use insn::operation::{BinOp, Width};
@@ -23,8 +23,7 @@ fn greatest_of_bytes(count: usize) -> u64
 /// Numbers without so many of their low bytes.
 pub(crate) fn without_low(number: Scalar, count: usize) -> Scalar
     requires { count < 8 }
-    ensures all { (w : ℕ) → InScalar number w → InScalar result (w / 2 ^ (8 * count)) }
-    ensures one { (w : ℕ) → ShowsOne number w → ShowsOne result (w / 2 ^ (8 * count)) }
+    ensures { (exact : Bool) (w : ℕ) → AmountFits exact number w → AmountFits exact result (w / 2 ^ (8 * count)) }
 {
     if count == 0 {
         return number;
@@ -36,8 +35,7 @@ pub(crate) fn without_low(number: Scalar, count: usize) -> Scalar
 /// So many low bytes of numbers.
 fn low(number: Scalar, count: usize) -> Scalar
     requires { count ≤ 8 }
-    ensures all { (w : ℕ) → InScalar number w → InScalar result (w % 2 ^ (8 * count)) }
-    ensures one { (w : ℕ) → ShowsOne number w → ShowsOne result (w % 2 ^ (8 * count)) }
+    ensures { (exact : Bool) (w : ℕ) → AmountFits exact number w → AmountFits exact result (w % 2 ^ (8 * count)) }
 {
     if count == 8 {
         return number;
@@ -50,8 +48,7 @@ fn low(number: Scalar, count: usize) -> Scalar
 pub(crate) fn part(number: Scalar, at: usize, count: usize) -> Scalar
     requires from { at < 8 }
     requires few { count ≤ 8 }
-    ensures all { (w : ℕ) → InScalar number w → InScalar result (bytes_from at count w) }
-    ensures one { (w : ℕ) → ShowsOne number w → ShowsOne result (bytes_from at count w) }
+    ensures { (exact : Bool) (w : ℕ) → AmountFits exact number w → AmountFits exact result (bytes_from at count w) }
 {
     low(without_low(number, at), count)
 }
@@ -59,8 +56,7 @@ pub(crate) fn part(number: Scalar, at: usize, count: usize) -> Scalar
 /// Numbers with so many 0 bytes below theirs.
 fn raised(number: Scalar, count: usize) -> Scalar
     requires { count < 8 }
-    ensures all { (w : ℕ) → InScalar number w → InScalar result (w * 2 ^ (8 * count) % 2 ^ 64) }
-    ensures one { (w : ℕ) → ShowsOne number w → ShowsOne result (w * 2 ^ (8 * count) % 2 ^ 64) }
+    ensures { (exact : Bool) (w : ℕ) → AmountFits exact number w → AmountFits exact result (w * 2 ^ (8 * count) % 2 ^ 64) }
 {
     if count == 0 {
         return number;
@@ -73,8 +69,7 @@ fn raised(number: Scalar, count: usize) -> Scalar
 pub(crate) fn with_part(number: Scalar, at: usize, count: usize, value: Scalar) -> Scalar
     requires from { at < 8 }
     requires inside { at + count ≤ 8 }
-    ensures all { (w x : ℕ) → InScalar number w → InScalar value x → InScalar result (word_with at count w x) }
-    ensures one { (w x : ℕ) → ShowsOne number w → ShowsOne value x → ShowsOne result (word_with at count w x) }
+    ensures { (exact : Bool) (w x : ℕ) → AmountFits exact number w → AmountFits exact value x → AmountFits exact result (word_with at count w x) }
 {
     if count == 8 {
         return value;

@@ -14,12 +14,12 @@ use crate::unsigned::URange;
 use insn::operation::{BinOp, Cond, UnOp, Width};
 
 impl HalfRange {
-    ghost use Rattle.range.specs.Half.{InHalfRange, IsSingleHalf, IsSingleHalfImage, IsTold};
+    ghost use Rattle.range.specs.Half.{InHalfRange, IsSingleHalf, IsSingleHalfImage, is_told};
     ghost use Rattle.range.specs.HalfParts.{HasResults, by_extended, shifted_by};
 
     /// Whether the low halves of the operands tell that of the result, as they do in 64 bits.
     fn is_told(op: BinOp, width: Width) -> bool
-        ensures { (result ≡ true) ↔ IsTold op width }
+        ensures { result ≡ is_told op width }
     {
         match (op, width) {
             (BinOp::Lsh, Width::W32) => false,

@@ -1,9 +1,7 @@
 //! Sums, differences, shifts and sign extensions of signed words between bounds.
 
-ghost use Rattle.std.specs.Prelude.{◌≡◌, ◌≤ℤ◌, ℕ, pos};
+ghost use Rattle.std.specs.Prelude.{◌≤ℤ◌};
 ghost use Rattle.range.specs.Domain.{IsSoundImage, IsSoundResult};
-ghost use Rattle.range.specs.WidthsParts.{extended_half};
-ghost use Rattle.insn.specs.Word.{unary_result};
 
 use crate::domain::Domain;
 use crate::signed::SRange;
@@ -145,18 +143,6 @@ impl SRange {
             SRange::new(low >> amount, high >> amount)
         } else {
             SRange::new(low.min(0), high.max(-1))
-        }
-    }
-
-    /// The numbers that added to the words of a range give 0 in 64 bits.
-    pub(crate) fn negated(self) -> SRange
-        ensures { IsSoundImage InSignedRange UnOp.Neg Width.W64 self result }
-    {
-        let least = self.least();
-        if least == i64::MIN {
-            self.image_by_words(UnOp::Neg, Width::W64)
-        } else {
-            SRange::new(-self.greatest(), -least)
         }
     }
 

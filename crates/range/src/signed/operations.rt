@@ -1,10 +1,9 @@
 //! The operations of a machine on signed words between bounds.
 
-ghost use Rattle.std.specs.Prelude.{◌≡◌, ◌<◌, ◌^◌, ◌↔◌, ℕ, IfSome, IsTrue, Some};
+ghost use Rattle.std.specs.Prelude.{◌≡◌, ◌<◌, ℕ, IfSome, IsTrue, Some};
 ghost use Rattle.range.specs.Conditions.{says};
-ghost use Rattle.range.specs.Domain.{IsSoundResult, IsSoundImage, IsSingle, IsSingleResult, IsSingleImage, IsJoin, IsRefined};
+ghost use Rattle.range.specs.Domain.{IsSoundResult, IsSoundImage, IsSingle, IsJoin, IsRefined};
 ghost use Rattle.range.specs.Sets.{AreWithin, IsLeastAnswered, IsLeastJoin};
-ghost use Rattle.insn.specs.Word.{unary_result};
 
 use crate::domain::Domain;
 use crate::place::place_of;
@@ -51,7 +50,7 @@ impl SRange {
         ensures { IsSoundImage InSignedRange op width self result }
     {
         match (op, width) {
-            (UnOp::Neg, Width::W64) => self.negated(),
+            (UnOp::Neg, Width::W64) => SRange::difference(SRange::exact(0), self),
             (UnOp::Extend(bits), Width::W64) => self.extended(bits),
             _ => self.image_by_words(op, width),
         }

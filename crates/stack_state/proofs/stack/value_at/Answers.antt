@@ -5,7 +5,6 @@ use Rattle.stack_state.proofs.stack.value_at.Goals as goal
 pub returns-else-span : goal.returns-else-span
 returns-else-span c = record {
   certain = λ e lt. absurd (no e lt);
-  one = λ e lt. absurd (no e lt);
   uncertain = λ apart. c.any.ensures;
 } where
   no : c.args.span.least ≡ c.args.span.greatest → c.args.behind < 8 → ⊥

@@ -1,7 +1,6 @@
 use Rattle.std.proofs.Common.{◌≡◌, ap}
 use Rattle.known_bits.proofs.Names.{eq-eqb, Decides-eqb}
-use Rattle.known_bits.proofs.Agreeing.{admitted, agrees_self}
-use Rattle.known_bits.proofs.Meeting.{covered_has, own_mask}
+use Rattle.known_bits.proofs.Agreeing.{admitted, agrees_self, covered_has, own_mask}
 use Rattle.known_bits.proofs.bits.KnownBits.covers.Goals as goal
 
 pub returns-then-other-self-eq0-clause-members : goal.returns-then-other-self-eq0-clause-members

@@ -1,4 +1,4 @@
-use Rattle.known_bits.proofs.Meeting.{no_member_of_both, meet_has}
+use Rattle.known_bits.proofs.Agreeing.{no_member_of_both, meet_has}
 use Rattle.known_bits.proofs.bits.KnownBits.meet.Goals as goal
 
 pub returns-then-differs-eq0 : goal.returns-then-differs-eq0

@@ -1,18 +1,18 @@
 use Rattle.std.proofs.Common.{◌≡◌, true, arith}
-use Rattle.known_bits.proofs.Names.{seen, word_result_fits, is_low}
+use Rattle.known_bits.proofs.Names.{seen, word_result_fits, W32, is_told}
 use Rattle.known_bits.proofs.Results.{by_whole, cut_has, cut_exact, divided}
-use Rattle.known_bits.proofs.Shifts.{is_shift, shift_moves, known_amount}
+use Rattle.known_bits.proofs.Moving.{is_shift, shift_moves, known_amount}
 use Rattle.known_bits.proofs.bits.KnownBits.result.Goals as goal
 
 pub returns-in-Add-clause-sound : goal.returns-in-Add-clause-sound
 returns-in-Add-clause-sound c x y hx hy =
-    let low : is_low c.args.op ≡ true = grind arith in
+    let low : is_told c.args.op W32 ≡ true = grind arith in
     rw (by_whole c.args.op low c.args.width x y hx.word hy.word)
     (cut_has c.args.width c.whole.result c.in_width.result _ c.in_width.ensures.value c.in_width.ensures.mask (c.whole.ensures.sound x y hx hy))
 
 pub returns-in-Add-clause-exact : goal.returns-in-Add-clause-exact
 returns-in-Add-clause-exact c exact =
-    let low : is_low c.args.op ≡ true = grind arith in
+    let low : is_told c.args.op W32 ≡ true = grind arith in
     cut_exact c.args.op c.args.width c.args.a c.args.b c.whole.result c.in_width.result c.in_width.ensures.mask
     (by_whole c.args.op low c.args.width) (c.whole.ensures.exact low exact)
 

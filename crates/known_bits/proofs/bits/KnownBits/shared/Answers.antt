@@ -1,5 +1,5 @@
 use Rattle.std.proofs.Common.{sym, ◌∙◌}
-use Rattle.known_bits.proofs.Between.{shared_between}
+use Rattle.known_bits.proofs.Agreeing.{shared_between}
 use Rattle.known_bits.proofs.bits.KnownBits.shared.Goals as goal
 
 pub returns-clause-members : goal.returns-clause-members

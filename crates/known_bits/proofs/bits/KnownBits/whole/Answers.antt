@@ -1,6 +1,5 @@
 use Rattle.known_bits.proofs.Names.{W64, word_result_fits, And, Or}
-use Rattle.known_bits.proofs.Bitwise.{and_grows, or_grows, grown_sound, grown_exact, xor_sound, xor_exact}
-use Rattle.known_bits.proofs.Witnesses.{right_exact}
+use Rattle.known_bits.proofs.Witnesses.{and_grows, or_grows, grown_sound, grown_exact, xor_sound, xor_exact, right_exact}
 use Rattle.known_bits.proofs.bits.KnownBits.whole.Goals as goal
 
 pub returns-in-Sdiv-clause-sound : goal.returns-in-Sdiv-clause-sound

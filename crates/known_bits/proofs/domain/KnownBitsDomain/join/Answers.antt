@@ -1,4 +1,4 @@
-use Rattle.known_bits.proofs.Meeting.{joined_has, joined_least}
+use Rattle.known_bits.proofs.Agreeing.{joined_has, joined_least}
 use Rattle.known_bits.proofs.domain.KnownBitsDomain.join.Goals as goal
 
 pub returns-clause-both : goal.returns-clause-both

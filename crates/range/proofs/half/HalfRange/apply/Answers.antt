@@ -5,7 +5,7 @@ use Rattle.range.proofs.half.HalfRange.apply.Goals as goal
 
 pub returns-then-is_told : goal.returns-then-is_told
 returns-then-is_told c =
-    let told = c.is_told.ensures.0 c.if-is_told.true in
+    let told = sym c.is_told.ensures ∙ c.if-is_told.true in
     let all = by_low c.args.op c.args.width c.args.a c.args.b c.by_words.result _ c.by_words.ensures (λ x y hy.
     told_low c.args.op c.args.width x y (word_extended W64 B32 x) (word_extended W64 B32 y) told hy (word_extended_fits W64 B32 y) (extended_low x) (extended_low y)) in
     record { sound = all.has; single = λ determined. all.single }
@@ -31,5 +31,4 @@ returns-in-W64-clause-sound c x y hx hy =
 
 pub returns-in-W64-clause-single : goal.returns-in-W64-clause-single
 returns-in-W64-clause-single c determined x y hx hy ha hb =
-    let told = c.is_told.ensures.1 (rw c.in-W64.is (rw c.in-W64.is at determined)) in
-    absurd (true≢false (sym told ∙ c.if-is_told.false))
+    absurd (true≢false (sym (rw c.in-W64.is at determined) ∙ sym (rw c.in-W64.is at c.is_told.ensures) ∙ c.if-is_told.false))

@@ -1,4 +1,4 @@
-use Rattle.std.proofs.Common.{◌≡◌, ◌∙◌, ℕ, ◌<◌, get_or, ap, sym, refl, subst}
+use Rattle.std.proofs.Common.{◌≡◌, false, ◌∙◌, ℕ, ◌<◌, get_or, ap, sym, refl, subst}
 use Rattle.stack_state.proofs.Names.{InScalar, Block, HasWord, block_mark, IsBlockJoin, common_mark}
 use Rattle.stack_state.specs.declared.bytes.Bytes.{Bytes}
 use Rattle.stack_state.specs.declared.block.Block.TheVariants as block
@@ -18,7 +18,7 @@ pub returns-then-covers_marks-clause-common : goal.returns-then-covers_marks-cla
 returns-then-covers_marks-clause-common c = λ yes.
     covered c.args.self.now c.args.other.now c.in-Cells-default.bytes c.in-Cells-default.is-0
     (λ j lt. c.covers_marks.ensures.common c.if-covers_marks.true j lt ∙ ap (common_mark (get_or c.in-Cells-default.bytes.marks j Unset)) (c.marks.ensures j lt))
-    (λ w h. c.covers-then-covers_marks.ensures.members yes w (c.number.ensures.all w h))
+    (λ w h. c.covers-then-covers_marks.ensures.members yes w (c.number.ensures.words false w h))
 
 pub returns-then-covers_marks-clause-itself : goal.returns-then-covers_marks-clause-itself
 returns-then-covers_marks-clause-itself c = λ same set. c.covers-then-covers_marks.ensures.itself (c.number.ensures.cells c.in-Cells-default.bytes (same ∙ c.in-Cells-default.is-0))

@@ -1,6 +1,9 @@
-use Rattle.std.proofs.Common.{ℕ, subst}
-use Rattle.stack_state.proofs.Names.{Block, HasWord}
+use Rattle.std.proofs.Common.{◌≡◌, subst}
+use Rattle.stack_state.proofs.Names.{AmountFits, Block, WordIn}
+use Rattle.stack_state.proofs.ByteParts.{known}
 use Rattle.stack_state.proofs.block.Block.number.Goals as goal
 
-pub returns-in-Unset-clause-all : goal.returns-in-Unset-clause-all
-returns-in-Unset-clause-all c = λ (w : ℕ) h. (c.exact.ensures.alone w).1 (subst (λ (b : Block). HasWord b w) c.in-Unset.is h)
+pub returns-in-Unset-clause-words : goal.returns-in-Unset-clause-words
+returns-in-Unset-clause-words c exact w h =
+    let none : w ≡ 0 = subst (λ (b : Block). WordIn (AmountFits exact) b w) c.in-Unset.is h in
+    rw none (known exact c.exact.result 0 c.exact.ensures.alone c.exact.ensures.single)

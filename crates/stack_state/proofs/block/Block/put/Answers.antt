@@ -1,6 +1,6 @@
-use Rattle.std.proofs.Common.{◌∙◌, ◌-◌, ap, sym, arith}
+use Rattle.std.proofs.Common.{true, false, ◌∙◌, ◌-◌, ap, sym, arith}
 use Rattle.stack_state.proofs.Names.{touched, BlockPut, word_with}
-use Rattle.stack_state.proofs.Steps.{no_part, word_put}
+use Rattle.stack_state.proofs.Stores.{no_part, word_put}
 use Rattle.stack_state.proofs.block.Block.put.Goals as goal
 
 pub returns : goal.returns
@@ -13,8 +13,8 @@ returns c =
       torn = (c.args.from, omega arith, λ e. no_part c.args.span _ (sym (c.touched_marks.ensures.there c.args.from (omega arith) some) ∙ e));
       words = λ w x z hw hx h. record {
         word = word_with c.args.from (c.args.to - c.args.from) w x;
-        has = c.with_part.ensures.all w x (c.number.ensures.all w hw) hx;
+        has = c.with_part.ensures false w x (c.number.ensures.words false w hw) hx;
         same = λ j lt e. word_put put x w z some h j lt;
       };
-      one = λ certain w x hw hx. c.with_part.ensures.one w x (c.number.ensures.one w hw) hx;
+      one = λ certain w x hw hx. c.with_part.ensures true w x (c.number.ensures.words true w hw) hx;
     }
