@@ -1,9 +1,9 @@
 -- One instruction, passed in the cases that wait at its slot; and what is known at the slot that a walk has come to.
 use Rattle.std.proofs.Common.{FitsSigned, w32, ◌≡◌, ◌≢◌, ℕ, ℤ, pos, suc, ◌+◌, ◌<◌, ◌≤◌, ◌++◌, ◌||◌, Bool, true, false, List, [], ◌∷◌, Option, Some, None, Ok, refl, sym, ap, ◌∙◌, arith, get_or, length, map, inl, inr, ◌⊎◌, zero, ◌-◌, take, drop, set, subst}
-use Rattle.verifier.proofs.Names.{option_map, option_to_list, box_value, ints, append-nil, append_assoc, get_or-set_other, get_or-set_same, length-set, cases_eq, cases_lt, All, All-push, SLOT_LIMIT}
+use Rattle.verifier.proofs.Names.{AllOf, option_to_list, box_value, ints, append-nil, append_assoc, get_or-set_other, get_or-set_same, length-set, cases_eq, cases_lt, All, All-push, SLOT_LIMIT}
 use Rattle.verifier.proofs.Names.{slot_count, Insn, Layout, WalkFault, slots_of, walk_fault_at, look_verdict, Known, Test, LeavesKnown, AreBothPushed, BranchGoesOn, IsTestSettled, EachGoesOn, GoesOn}
-use Rattle.verifier.proofs.Names.{IsPassed, IsPushed, IsRefusedAt, IsRefusedHere, IsTaken, IsVisited, PassesEach, TestGoesOn, either, nowhere, IsBegun, IsCopy, IsFar, IsLastPassage, IsPassage}
-use Rattle.verifier.proofs.Names.{IsNoted, IsVisit, exit_ends, Reaches, step, steps, ◌>>=◌, Config, IsRecord, start, StateFits, AreToldOnward, IsAcceptance, IsExplained, IsKnownAt, NoneComesTo}
+use Rattle.verifier.proofs.Names.{IsPassed, IsPushed, IsRefusedAt, IsRefusedHere, IsTaken, IsVisited, PassesEach, either, nowhere, IsBegun, IsCopy, IsFar, IsLastPassage, IsPassage}
+use Rattle.verifier.proofs.Names.{IsNoted, IsVisit, exit_ends, Reaches, step, steps, Config, IsRecord, start, StateFits, AreToldOnward, IsAcceptance, IsExplained, IsKnownAt, NoneComesTo}
 use Rattle.std.proofs.Math.Bool.{or_assoc}
 use Rattle.verifier.specs.declared.walk.Onward.{Onward}
 use Rattle.verifier.specs.declared.walk.Passage.{Passage}
@@ -12,6 +12,7 @@ use Rattle.std.specs.Prelude.{Contains}
 use Rattle.verifier.specs.declared.known.Flow.TheVariants.{Branch, Exit}
 use Rattle.verifier.specs.declared.explain.Refusal.{Refusal}
 use Rattle.verifier.specs.declared.walk.Upshot.TheVariants.{Passed, Refused}
+use Rattle.verifier.proofs.ShapeLaws.{bind_some}
 use Rattle.verifier.proofs.Waits.{has_first, has_later, has_none, middle_or_around}
 use Rattle.verifier.proofs.Ways.{later, same_reached, behind_it}
 use Rattle.verifier.specs.declared.walk.Passage.TheVariants as passage
@@ -75,8 +76,7 @@ module _ (layout : Layout) (i : Insn) (slot : ℕ) (old : List (List Known)) (le
     long = passes_long layout i slot known now now' p.0 ∙ v.long;
   } where
     keeps : (rest : List Known) (copy : Option Known) → IsCopy known rest copy → kept' ≡ kept ++ option_to_list copy → (rest ≡ []) ⊎ (kept' ≡ v.before ++ known ∷ [])
-    keeps [] copy c k = inl refl
-    keeps (x ∷ xs) copy c k = inr (k ∙ ap (λ (o : Option Known). kept ++ option_to_list o) c ∙ ap (λ (l : List Known). l ++ known ∷ []) copies)
+    keeps rest copy h1 h2 = grind (arith)
 
   -- one is refused
   pub one_refused : (before : Known) (fault : WalkFault) (others : List Known) → IsRefusedAt layout i slot known (length now) fault × (before ≡ known) → others ≡ kept ++ rest
@@ -118,8 +118,7 @@ pub settled_near : (d : ℤ) (test : Test) (behind : ℕ) (known : Known) (old n
 settled_near d test behind known old now near p = inl (near, p)
 
 pub settled_far : (d : ℤ) (test : Test) (behind to slots : ℕ) (known : Known) (old now : List (List Known)) → (far : IsFar (Some d) behind slots) → d ≢ pos 0 → ((k : ℕ) → d ≡ pos k → to ≡ behind + k) → AreBothPushed old behind to test known now → IsTestSettled d test behind known old now
-settled_far d test behind to slots known old now far other leads p =
-    inr (far.0, far.1, (λ zero. other (far.1 ∙ ap (λ (n : ℕ). pos n) zero)), rw (leads far.0 far.1) at p)
+settled_far d test behind to slots known old now far h1 h2 h3 = grind (arith)
 
 -- what a test leaves is where a passage goes on
 pub passed_test : (layout : Layout) (i : Insn) (slot : ℕ) (known after : Known) (d : ℤ) (test : Test) (onward : Onward) (old now : List (List Known)) → LeavesKnown layout i known after (Ok (Branch d test)) → slot + slots_of i < length old → IsTestSettled d test (slot + slots_of i) after old now → BranchGoesOn d test after onward
@@ -140,24 +139,21 @@ fits_far o d behind slots e far short = by (rw e at far) where
 pub record Arrives (layout : Layout) (w : List (List Known)) (c : Config) : Type 0 where
   pub known : Known
   pub waits : Contains (get_or w c.slot []) known
-  pub fits : StateFits false layout known c.state
+  pub fits : StateFits (AllOf false) layout known c.state
 
 module _ (layout : Layout) (program : List Insn) (bytes : List ℕ) where
   -- behind a place without a step there is none
   none_behind : (n m : ℕ) (c d : Config) → Reaches layout program bytes n c → step layout program c ≡ None → n < m → Reaches layout program bytes m d → ⊥
   none_behind n zero c d at ends lt there = absurd (omega arith)
-  none_behind n (suc m) c d at ends lt there = by (λ mid less q. none_behind n m c mid at ends less q) (steps layout program m (start bytes)) refl there where
-    by : ((mid : Config) → n < m → Reaches layout program bytes m mid → ⊥) → (o : Option Config) → steps layout program m (start bytes) ≡ o → (o >>= step layout program) ≡ Some d → ⊥
-    by before None q one = absurd cc
-    by before (Some mid) q one =
-        elim (cases_lt n m) [
-          | inl less ↦ before mid less q
-          | inr ge ↦
-              let e : n ≡ m = omega arith in
-              let is : c ≡ mid = same_reached layout program bytes m c mid (rw e at at) q in
-              let none : step layout program mid ≡ None = rw (← is) ends in
-              let both : None ≡ Some d = sym none ∙ one in absurd cc
-        ]
+  none_behind n (suc m) c d at ends lt there =
+      let mid = bind_some (steps layout program m (start bytes)) (step layout program) d there in
+      elim (cases_lt n m) [
+        | inl less ↦ none_behind n m c mid.0 at ends less mid.1
+        | inr ge ↦
+            let e : n ≡ m = omega arith in
+            let is : c ≡ mid.0 = same_reached layout program bytes m c mid.0 (rw e at at) mid.1 in
+            let both : None ≡ Some d = sym (rw is at ends) ∙ mid.2 in absurd cc
+      ]
 
   pub arrives : (slot : ℕ) (rest : List Insn) (w : List (List Known)) (m : ℕ) (c : Config) → Walked layout program slot rest w → IsRecord layout bytes → Reaches layout program bytes m c → c.slot ≡ slot → Arrives layout w c
   arrives slot rest w m c walked is there at = by (walked.runs bytes is) where

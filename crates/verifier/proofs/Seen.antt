@@ -1,17 +1,16 @@
 -- What the table refuses is refused by the machine: in some state that is what is known, with the fault that is named.
-use Rattle.std.proofs.Common.{◌≡◌, ◌≢◌, ◌⊎◌, ℕ, ◌+◌, ◌-◌, ◌<◌, ◌≤◌, ◌&&◌, ℤ, pos, negsuc, Bool, true, false, List, Option, Some, None, Result, Ok, Err, get_or, set, refl, sym, ap, ◌∙◌, subst, arith, inl, inr, IfErr}
-use Rattle.verifier.proofs.Names.{◌+ℤ◌, nat_le, cases_eq, cases_lt, le-leb, lt-leb, ints, get_or-set_other, get_or-set_same, length-set, Layout, RegNo, Operand, Reg, Imm, Size, One, Two, Four, Eight}
+use Rattle.std.proofs.Common.{◌≡◌, ◌≢◌, ◌⊎◌, ℕ, ◌+◌, ◌-◌, ◌<◌, ◌≤◌, ◌&&◌, ℤ, pos, negsuc, Bool, true, false, List, Option, Some, None, Result, Ok, Err, get_or, set, refl, sym, ap, ◌∙◌, subst, arith, inl, inr}
+use Rattle.reg_kind.specs.declared.span.Direction.TheVariants.{Up, Down}
+use Rattle.verifier.proofs.Names.{AllOf, ◌+ℤ◌, nat_le, cases_eq, cases_lt, le-leb, lt-leb, ints, get_or-set_other, get_or-set_same, length-set, Layout, RegNo, Operand, Reg, Imm, Size}
 use Rattle.verifier.proofs.Names.{ExtendBits, UnOp, Extend, Width, W64, W32, Region, Pointer, Value, Number, Address, Cell, WalkFault, OutOfRegion, PointerMisuse, ReadOnlyField, UnsetRegister}
 use Rattle.verifier.proofs.Names.{ExitsWithPointer, PointerRange, reg_number, size_bytes, State, at, region_size, value_of, writable_from, writable_to, is_writable, within, Effect, Falls}
-use Rattle.verifier.proofs.Names.{operand_value, Exits, Jumps, Tested, Passes, Fails, access_place, action_outcome, and_then, comparison, extended, failed, number_held, stored_state}
-use Rattle.verifier.proofs.Names.{operation_result, put, LoadFrom, StoreAt, Operate, Convert, LoadWord, Go, End, Scalar, Kind, Span, Place, IsRight, RegFits, SpanFits, ValueFits, pointer_to}
-use Rattle.verifier.proofs.Names.{is_span_writable, place_at, place_behind, place_in, IsKindImage, number_in_reg, IsComputed, IsDifference, IsKindResult, IsRegSum, in_region, StackFits, IsGiven}
-use Rattle.verifier.proofs.Names.{IsStored, Known, Next, StateFits, IsOperand, comparison_of, reg_of, Extends, GivenAt, LeavesRow, StoredAt, StoredOf, StoredWhere, flow_where, kept_in_record, put_at}
+use Rattle.verifier.proofs.Names.{operand_value, Exits, Jumps, Tested, Passes, access_place, action_outcome, and_then, comparison, extended, failed, number_held, stored_state}
+use Rattle.verifier.proofs.Names.{operation_result, put, LoadFrom, StoreAt, Operate, Convert, LoadWord, Go, End, Scalar, Kind, Span, IsRight, RegFits, SpanFits, ValueFits, pointer_to}
+use Rattle.verifier.proofs.Names.{is_span_writable, place_at, place_behind, place_in, IsKindImage, number_in_reg, IsComputed, IsKindResult, IsRegMove, in_region, StackFits, IsGiven}
+use Rattle.verifier.proofs.Names.{IsStored, Known, Next, StateFits, IsOperand, comparison_of, reg_of, Extends, GivenAt, LeavesRow, StoredOf, StoredWhere, flow_where, kept_in_record, put_at}
 use Rattle.verifier.proofs.Names.{CanFail, R0, Insn, Action, BinOp, Add, Sub, Mov, action_of, unary_result, word_holds, defined_result, left_operand, Flow}
 use Rattle.std.specs.Prelude.{if◌then◌else◌}
-use Rattle.insn.specs.Outcomes.{WritesR10}
 use Rattle.insn.specs.declared.action.Action.TheVariants.{Branch}
-use Rattle.insn.specs.declared.layout.Layout.TheVariants.{V1, V2}
 use Rattle.reg_kind.specs.Spans.{span_between, span_from, span_raised}
 use Rattle.stack_state.proofs.Refusals.{FailsLoad, FailsStore, load_seen, store_seen}
 use Rattle.verifier.proofs.Steps.{no_value, unset_compared, of_err, of_ok, set_holds, unset_or_not, Gives, fails_then, given_by, loaded_by, loaded_right, operand_fits, converts_put, loads_put, both_named}
@@ -30,19 +29,7 @@ within_at size n k le = let t = le-leb (k + n) size le in rw t refl
 
 -- where a span has no place, an end of it has none
 out_of : (size n : ℕ) (x y : ℤ) → n ≤ size → span_between (size - n) x y ≡ None → (within size x n ≡ None) ⊎ (within size y n ≡ None)
-out_of size n (negsuc a) y few e = inl refl
-out_of size n (pos a) (negsuc b) few e = inr refl
-out_of size n (pos a) (pos b) few e =
-    elim (cases_lt size (a + n)) [
-      | inl lt ↦ inl (past size n a lt)
-      | inr le ↦ elim (cases_lt size (b + n)) [
-        | inl lt ↦ inr (past size n b lt)
-        | inr le' ↦
-            let one = le-leb a (size - n) (omega arith) in
-            let two = le-leb b (size - n) (omega arith) in
-            absurd (let g = rw (one, two) at e in cc)
-      ]
-    ]
+out_of size n x y h1 h2 = grind (arith)
 
 -- and where it has one, both ends have
 record HasEnds (size n : ℕ) (x y : ℤ) (t : Span) : Type 0 where
@@ -83,17 +70,14 @@ comes_to span t offset k l g fits =
     record { from = span.least + (k - t.least); inside = (omega arith, omega (arith, ints)); comes = omega (arith, ints) }
 
 few_bytes : (layout : Layout) (r : Region) (size : Size) → size_bytes size ≤ region_size layout r
-few_bytes V1 region.Record One = omega arith
-few_bytes V2 region.Record One = omega arith
-few_bytes layout region.Stack One = omega arith
-few_bytes layout r size = omega arith
+few_bytes layout r size = grind (arith)
 
 -- ---- states of which a register is changed
 
 -- the first test that fails in some state that is what is known
 pub record Sees {A : Type 0} (layout : Layout) (old : Known) (tests : State → Tested A) (fault : WalkFault) : Type 0 where
   pub state : State
-  pub fits : StateFits false layout old state
+  pub fits : StateFits (AllOf false) layout old state
   pub fails : failed (tests state) ≡ Some fault
 
 -- what fails is not gone on from
@@ -103,11 +87,11 @@ sees_then layout old tests whole k fault same x = record { state = x.state; fits
 abbrev pub changed : State → RegNo → Option Value → List Cell → State
 changed s r o cells = record s { registers = set s.registers (reg_number r) o; stack = cells }
 
-module _ (layout : Layout) (old : Known) (s : State) (f : StateFits false layout old s) where
+module _ (layout : Layout) (old : Known) (s : State) (f : StateFits (AllOf false) layout old s) where
   pub there : (r : RegNo) (o : Option Value) → get_or (set s.registers (reg_number r) o) (reg_number r) None ≡ o
   there r o = get_or-set_same s.registers (reg_number r) o None (let l = f.long in let b = reg_below r in omega arith)
 
-  changed_fits : (r : RegNo) (o : Option Value) (cells : List Cell) → IsNoNumber o → RegFits false (reg_of old r) o → StackFits false old.stack cells → StateFits false layout old (changed s r o cells)
+  changed_fits : (r : RegNo) (o : Option Value) (cells : List Cell) → IsNoNumber o → RegFits false (reg_of old r) o → StackFits false old.stack cells → StateFits (AllOf false) layout old (changed s r o cells)
   changed_fits r o cells none h stack = record {
     links = changed_holds old.links s.registers (reg_number r) o (let l = f.long in let b = reg_below r in omega arith) none f.links;
     long = length-set s.registers (reg_number r) o ∙ f.long;
@@ -121,26 +105,25 @@ module _ (layout : Layout) (old : Known) (s : State) (f : StateFits false layout
   }
 
   -- a register of which nothing is known may be unset
-  pub unset_there : (r : RegNo) → reg_of old r ≡ kind.Unset → StateFits false layout old (changed s r None s.stack)
+  pub unset_there : (r : RegNo) → reg_of old r ≡ kind.Unset → StateFits (AllOf false) layout old (changed s r None s.stack)
   unset_there r e = changed_fits r None s.stack tt (subst (λ (k : Kind). RegFits false k None) (sym e) tt) f.stack
 
   -- one that is a pointer may be at each of its offsets
   pointer_fits : (g : Region) (span : Span) (o : ℕ) → SpanFits false span o → RegFits false (pointer_to g span) (Some (Address (at g o)))
-  pointer_fits region.Record span o h = (refl, h)
-  pointer_fits g span o h = (refl, h)
+  pointer_fits g span o h1 = grind (arith)
 
-  pointer_there : (r : RegNo) (g : Region) (span : Span) (o : ℕ) (cells : List Cell) → reg_of old r ≡ pointer_to g span → SpanFits false span o → StackFits false old.stack cells → StateFits false layout old (changed s r (Some (Address (at g o))) cells)
+  pointer_there : (r : RegNo) (g : Region) (span : Span) (o : ℕ) (cells : List Cell) → reg_of old r ≡ pointer_to g span → SpanFits false span o → StackFits false old.stack cells → StateFits (AllOf false) layout old (changed s r (Some (Address (at g o))) cells)
   pointer_there r g span o cells e h stack = changed_fits r (Some (Address (at g o))) cells tt (subst (λ (k : Kind). RegFits false k (Some (Address (at g o)))) (sym e) (pointer_fits g span o h)) stack
 
   -- what registers hold
   is_number : (r : RegNo) (a : Scalar) → reg_of old r ≡ kind.Number a → (n : ℕ) × (value_of s.registers r ≡ Some (Number n))
-  is_number r a e = by (value_of s.registers r) (subst (λ (k : Kind). RegFits false k (value_of s.registers r)) e (reg_fits false layout old s r f)) where
+  is_number r a e = by (value_of s.registers r) (subst (λ (k : Kind). RegFits false k (value_of s.registers r)) e (reg_fits (AllOf false) layout old s r f)) where
     by : (o : Option Value) → RegFits false (kind.Number a) o → (n : ℕ) × (o ≡ Some (Number n))
     by (Some (Number n)) h = (n, refl)
     by o h = absurd h
 
   is_pointer : (r : RegNo) (g : Region) (span : Span) → reg_of old r ≡ pointer_to g span → (p : Pointer) × (value_of s.registers r ≡ Some (Address p)) × SpanFits false span p.offset
-  is_pointer r g span e = by g (value_of s.registers r) (subst (λ (k : Kind). RegFits false k (value_of s.registers r)) e (reg_fits false layout old s r f)) where
+  is_pointer r g span e = by g (value_of s.registers r) (subst (λ (k : Kind). RegFits false k (value_of s.registers r)) e (reg_fits (AllOf false) layout old s r f)) where
     by : (g : Region) (o : Option Value) → RegFits false (pointer_to g span) o → (p : Pointer) × (o ≡ Some (Address p)) × SpanFits false span p.offset
     by region.Record (Some (Address p)) h = (p, refl, h.1)
     by region.Stack (Some (Address p)) h = (p, refl, h.1)
@@ -163,9 +146,7 @@ module _ (layout : Layout) (old : Known) (s : State) (f : StateFits false layout
     by (kind.Stack span) e h = let is : name ≡ fault = cc in let p = is_pointer r region.Stack span e in record { state = s; fits = f; fails = rw p.1 (ap Some is) }
 
   pub image_refused : (op : UnOp) (w : Width) (a : Kind) (fault : WalkFault) → IsKindImage op w a (Err fault) → number_in_reg a PointerMisuse ≡ Err fault
-  image_refused op w kind.Unset fault h = let is : UnsetRegister ≡ fault = cc in ap Err is
-  image_refused op w (kind.Number a) fault h = let e = h.1 in absurd cc
-  image_refused op w a fault h = let is : PointerMisuse ≡ fault = cc in ap Err is
+  image_refused op w a fault h1 = grind (arith)
 
   -- ---- loads
 
@@ -216,11 +197,7 @@ module _ (layout : Layout) (old : Known) (s : State) (f : StateFits false layout
 
   -- a pointer is not extended
   extend_fails : (bits : ExtendBits) (number : Kind) (fault : WalkFault) (t : Tested Value) → IsKindImage (Extend bits) W64 number (Err fault) → IsRight (ValueFits false) false (Ok number) t → failed (and_then t (extended (Some bits))) ≡ Some fault
-  extend_fails bits kind.Unset fault (Passes v) h right = absurd right
-  extend_fails bits (kind.Number a) fault (Passes v) h right = let e = h.1 in absurd cc
-  extend_fails bits (kind.Record span) fault (Passes (Address p)) h right = let same : PointerMisuse ≡ fault = cc in ap Some same
-  extend_fails bits (kind.Stack span) fault (Passes (Address p)) h right = let same : PointerMisuse ≡ fault = cc in ap Some same
-  extend_fails bits number fault t h right = absurd right
+  extend_fails bits number fault t h1 h2 = grind (arith)
 
   pub extended_seen : (size : Size) (extension : Option ExtendBits) (dst src : RegNo) (offset : ℤ) (fault : WalkFault) → Gives layout old (LoadFrom size extension dst src offset) (Err fault) → Sees layout old (given_by layout (LoadFrom size extension dst src offset)) fault
   extended_seen size extension dst src offset fault h = by extension h.0 h.1 h.2 where
@@ -234,7 +211,7 @@ module _ (layout : Layout) (old : Known) (s : State) (f : StateFits false layout
       same (Some bits) x = cc
     by None (Ok number) g x = absurd cc
     by (Some bits) (Ok number) g x =
-        record { state = s; fits = f; fails = extend_fails bits number fault (loaded_by layout s src offset size) x ((loaded_right layout old size src offset (Ok number) g).right false s f) }
+        record { state = s; fits = f; fails = extend_fails bits number fault (loaded_by layout s src offset size) x ((loaded_right layout old size src offset (Ok number) g).right (AllOf false) s f) }
 
   -- ---- stores
 
@@ -255,27 +232,11 @@ module _ (layout : Layout) (old : Known) (s : State) (f : StateFits false layout
         and_false false b e = refl
 
   writable_first : (t : Span) (n : ℕ) → t.least ≤ t.greatest → is_span_writable layout region.Record t n ≡ true → is_writable layout region.Record t.least n ≡ true
-  writable_first t n ord e =
-      elim (cases_lt t.least (writable_from layout)) [
-        | inl lt ↦ let no = lt-leb (writable_from layout) t.least lt in absurd (let g = rw no at e in cc)
-        | inr le ↦ elim (cases_lt (writable_to layout) (t.greatest + n)) [
-          | inl lt ↦
-              let one = le-leb (writable_from layout) t.least le in
-              let no = lt-leb (t.greatest + n) (writable_to layout) lt in
-              absurd (let g = rw (one, no) at e in cc)
-          | inr le' ↦
-              let one = le-leb (writable_from layout) t.least le in
-              let two = le-leb (t.least + n) (writable_to layout) (omega arith) in
-              rw (one, two) refl
-        ]
-      ]
+  writable_first t n h1 h2 = grind (arith)
 
   -- a pointer is no number of the record
   record_misuse : (size : Size) (k : ℕ) (value : Kind) (v : Value) (fault : WalkFault) (t : State) → value ≢ kind.Unset → is_writable layout region.Record k (size_bytes size) ≡ true → Err fault ≡ kept_in_record value → ValueFits false value v → failed (stored_state layout t (at region.Record k) size v) ≡ Some fault
-  record_misuse size k kind.Unset v fault t set w e h = absurd (set refl)
-  record_misuse size k (kind.Number a) v fault t set w e h = absurd cc
-  record_misuse size k value (Number n) fault t set w e h = absurd h
-  record_misuse size k value (Address p) fault t set w e h = let is : PointerMisuse ≡ fault = cc in rw w (ap Some is)
+  record_misuse size k value v fault t h1 h2 h3 h4 = grind (arith)
 
   module _ (size : Size) (dst : RegNo) (offset : ℤ) (operand : Operand) where
     abbrev write_at : State → Tested Effect
@@ -283,8 +244,8 @@ module _ (layout : Layout) (old : Known) (s : State) (f : StateFits false layout
 
     module _ (value : Kind) (is : IsOperand old operand value) (set : value ≢ kind.Unset) where
       -- a value that is known not to be unset is there in each state that fits
-      value_there : (t : State) → StateFits false layout old t → (v : Value) × (operand_value t operand ≡ Some v) × ValueFits false value v
-      value_there t g = set_holds false value (operand_value t operand) set (operand_fits false layout old t operand value g is)
+      value_there : (t : State) → StateFits (AllOf false) layout old t → (v : Value) × (operand_value t operand ≡ Some v) × ValueFits false value v
+      value_there t g = set_holds false value (operand_value t operand) set (operand_fits (AllOf false) layout old t operand value g is)
 
       store_outside : (g : Region) (span : Span) (o : ℕ) → reg_of old dst ≡ pointer_to g span → SpanFits false span o → within (region_size layout g) (pos o +ℤ offset) (size_bytes size) ≡ None → Sees layout old write_at OutOfRegion
       store_outside g span o e h out =
@@ -397,37 +358,19 @@ module _ (layout : Layout) (old : Known) (s : State) (f : StateFits false layout
           record { state = changed s dst None s.stack; fits = unset_there dst q; fails = rw (there dst None) (ap Some same) }
       by (inr set) (inl r) = let same = right_named (reg_of old dst) right r e in rw (← same) (unset_operand operand right is r)
       by (inr set) (inr other) =
-          let v = set_holds false (reg_of old dst) (value_of s.registers dst) set (reg_fits false layout old s dst f) in
-          let u = set_holds false right (operand_value s operand) other (operand_fits false layout old s operand right f is) in
+          let v = set_holds false (reg_of old dst) (value_of s.registers dst) set (reg_fits (AllOf false) layout old s dst f) in
+          let u = set_holds false right (operand_value s operand) other (operand_fits (AllOf false) layout old s operand right f is) in
           record { state = s; fits = f; fails = rw (v.1, u.1) (both_named false (reg_of old dst) right v.0 u.0 fault v.2 u.2 e) }
 
 -- ==== operations, and each row
 
 -- ---- operations by kinds
 
-computed_right : (w : Width) (op : BinOp) (a : Kind) (fault : WalkFault) → IsComputed w op a kind.Unset (Err fault) → UnsetRegister ≡ fault
-computed_right w op kind.Unset fault h = cc
-computed_right w op a fault h = cc
-
-sum_right : (layout : Layout) (a : Kind) (fault : WalkFault) → IsRegSum layout a kind.Unset (Err fault) → UnsetRegister ≡ fault
-sum_right layout kind.Unset fault h = cc
-sum_right layout a fault h = cc
-
-difference_right : (layout : Layout) (a : Kind) (fault : WalkFault) → IsDifference layout a kind.Unset (Err fault) → UnsetRegister ≡ fault
-difference_right layout kind.Unset fault h = cc
-difference_right layout a fault h = cc
-
 right_named : (layout : Layout) (w : Width) (op : BinOp) (a : Kind) (fault : WalkFault) → IsKindResult layout w op a kind.Unset (Err fault) → UnsetRegister ≡ fault
-right_named layout W64 Mov a fault h = cc
-right_named layout W32 Mov a fault h = let e = h.2 in cc
-right_named layout W64 Add a fault h = sum_right layout a fault h
-right_named layout W64 Sub a fault h = difference_right layout a fault h
-right_named layout w op a fault h = computed_right w op a fault h
+right_named layout w op a fault h1 = grind (arith)
 
 left_named : (layout : Layout) (w : Width) (op : BinOp) (b : Kind) (fault : WalkFault) → op ≢ Mov → IsKindResult layout w op kind.Unset b (Err fault) → UnsetRegister ≡ fault
-left_named layout w Mov b fault other h = absurd (other refl)
-left_named layout W32 op b fault other h = cc
-left_named layout W64 op b fault other h = cc
+left_named layout w op b fault h1 h2 = grind (arith)
 
 -- operations that are defined on numbers alone
 abbrev IsPlain : Width → BinOp → Type 0
@@ -435,37 +378,16 @@ IsPlain W64 Add = ⊥
 IsPlain W64 Sub = ⊥
 IsPlain w op = op ≢ Mov
 
-no_left : (layout : Layout) (w : Width) (op : BinOp) → IsPlain w op → (p : Pointer) (u : Value) → defined_result layout w op (Address p) u ≡ None
-no_left layout W64 Add plain p u = absurd plain
-no_left layout W64 Sub plain p u = absurd plain
-no_left layout w Mov plain p u = absurd (plain refl)
-no_left layout w op plain p (Number n) = refl
-no_left layout w op plain p (Address q) = refl
-
-no_right : (layout : Layout) (w : Width) (op : BinOp) → IsPlain w op → (n : ℕ) (q : Pointer) → defined_result layout w op (Number n) (Address q) ≡ None
-no_right layout W64 Add plain n q = absurd plain
-no_right layout W64 Sub plain n q = absurd plain
-no_right layout w Mov plain n q = absurd (plain refl)
-no_right layout w op plain n q = refl
-
 computed_both : (layout : Layout) (w : Width) (op : BinOp) (a b : Kind) (v u : Value) (fault : WalkFault) → IsPlain w op → ValueFits false a v → ValueFits false b u → IsComputed w op a b (Err fault)
     → failed (operation_result layout w op (Some v) (Some u)) ≡ Some fault
-computed_both layout w op kind.Unset b v u fault plain x y h = absurd x
-computed_both layout w op a kind.Unset v u fault plain x y h = absurd y
-computed_both layout w op (kind.Number a) (kind.Number b) v u fault plain x y h = let e = h.1 in absurd cc
-computed_both layout w op (kind.Number a) b (Address p) u fault plain x y h = absurd x
-computed_both layout w op (kind.Number a) b (Number n) (Number m) fault plain x y h = absurd y
-computed_both layout w op (kind.Number a) b (Number n) (Address q) fault plain x y h = let same : PointerMisuse ≡ fault = cc in rw (no_right layout w op plain n q) (ap Some same)
-computed_both layout w op a b (Number n) u fault plain x y h = absurd x
-computed_both layout w op a b (Address p) u fault plain x y h = let same : PointerMisuse ≡ fault = cc in rw (no_left layout w op plain p u) (ap Some same)
+computed_both layout w op a b v u fault h1 h2 h3 h4 = grind (arith)
 
 -- a move of a pointer is refused for its range alone
 moved_range : (fault : WalkFault) (g : Region) (o : Option Span) → fault ≢ PointerRange → Err fault ≡ in_region g o → ⊥
-moved_range fault g None range e = range cc
-moved_range fault g (Some span) range e = cc
+moved_range fault g o h1 h2 = grind (arith)
 
 -- two pointers are not added, and none is taken from anything
-sum_both : (layout : Layout) (a b : Kind) (v u : Value) (fault : WalkFault) → fault ≢ PointerRange → ValueFits false a v → ValueFits false b u → IsRegSum layout a b (Err fault)
+sum_both : (layout : Layout) (a b : Kind) (v u : Value) (fault : WalkFault) → fault ≢ PointerRange → ValueFits false a v → ValueFits false b u → IsRegMove Up layout a b (Err fault)
     → failed (operation_result layout W64 Add (Some v) (Some u)) ≡ Some fault
 sum_both layout kind.Unset b v u fault range x y h = absurd x
 sum_both layout a kind.Unset v u fault range x y h = absurd y
@@ -479,10 +401,9 @@ sum_both layout a b (Address p) (Number n) fault range x y h = absurd y
 sum_both layout a b (Address p) (Address q) fault range x y h = let same : PointerMisuse ≡ fault = cc in ap Some same
 
 taken_pointer : (layout : Layout) (v : Value) (q : Pointer) → defined_result layout W64 Sub v (Address q) ≡ None
-taken_pointer layout (Number n) q = refl
-taken_pointer layout (Address p) q = refl
+taken_pointer layout v q = grind (arith)
 
-difference_both : (layout : Layout) (a b : Kind) (v u : Value) (fault : WalkFault) → fault ≢ PointerRange → ValueFits false a v → ValueFits false b u → IsDifference layout a b (Err fault)
+difference_both : (layout : Layout) (a b : Kind) (v u : Value) (fault : WalkFault) → fault ≢ PointerRange → ValueFits false a v → ValueFits false b u → IsRegMove Down layout a b (Err fault)
     → failed (operation_result layout W64 Sub (Some v) (Some u)) ≡ Some fault
 difference_both layout kind.Unset b v u fault range x y h = absurd x
 difference_both layout a kind.Unset v u fault range x y h = absurd y
@@ -502,25 +423,18 @@ both_set layout W64 op a b v u fault other range x y h = computed_both layout W6
 
 -- a move to a register doesn't look at it
 move_set : (layout : Layout) (w : Width) (a b : Kind) (u : Value) (fault : WalkFault) → ValueFits false b u → IsKindResult layout w Mov a b (Err fault) → failed (operation_result layout w Mov (Some (Number 0)) (Some u)) ≡ Some fault
-move_set layout w a kind.Unset u fault y h = absurd y
-move_set layout W64 a b u fault y h = absurd cc
-move_set layout W32 a (kind.Number b) u fault y h = let e = h.2.1 in absurd cc
-move_set layout W32 a b (Number n) fault y h = absurd y
-move_set layout W32 a b (Address q) fault y h = let e = h.2 in let same : PointerMisuse ≡ fault = cc in ap Some same
+move_set layout w a b u fault h1 h2 = grind (arith)
 
 left_is : (op : BinOp) (t : State) (r : RegNo) → op ≢ Mov → left_operand op t r ≡ value_of t.registers r
-left_is Mov t r other = absurd (other refl)
-left_is op t r other = refl
+left_is op t r h1 = grind (arith)
 
 mov_or_not : (op : BinOp) → (op ≡ Mov) ⊎ (op ≢ Mov)
-mov_or_not Mov = inl refl
-mov_or_not op = inr (λ e. cc)
+mov_or_not op = grind (arith)
 
 unset_right : (layout : Layout) (w : Width) (op : BinOp) (o : Option Value) → failed (operation_result layout w op o None) ≡ Some UnsetRegister
-unset_right layout w op None = refl
-unset_right layout w op (Some v) = refl
+unset_right layout w op o = grind (arith)
 
-module _ (layout : Layout) (old : Known) (s : State) (f : StateFits false layout old s) (w : Width) (op : BinOp) (dst : RegNo) where
+module _ (layout : Layout) (old : Known) (s : State) (f : StateFits (AllOf false) layout old s) (w : Width) (op : BinOp) (dst : RegNo) where
   abbrev operate_at : Operand → State → Tested Value
   operate_at operand t = given_by layout (Operate w op dst operand) t
 
@@ -531,14 +445,14 @@ module _ (layout : Layout) (old : Known) (s : State) (f : StateFits false layout
   operate_seen : (operand : Operand) (fault : WalkFault) → fault ≢ PointerRange → Gives layout old (Operate w op dst operand) (Err fault) → Sees layout old (operate_at operand) fault
   operate_seen operand fault range h = by (unset_or_not h.0) where
     value : h.0 ≢ kind.Unset → (u : Value) × (operand_value s operand ≡ Some u) × ValueFits false h.0 u
-    value set = set_holds false h.0 (operand_value s operand) set (operand_fits false layout old s operand h.0 f h.1)
+    value set = set_holds false h.0 (operand_value s operand) set (operand_fits (AllOf false) layout old s operand h.0 f h.1)
 
     other_left : h.0 ≢ kind.Unset → op ≢ Mov → (reg_of old dst ≡ kind.Unset) ⊎ (reg_of old dst ≢ kind.Unset) → Sees layout old (operate_at operand) fault
     other_left set other (inl e) =
         let same = left_named layout w op h.0 fault other (rw e at h.2) in
         record { state = changed s dst None s.stack; fits = unset_there layout old s f dst e; fails = rw (left_is op (changed s dst None s.stack) dst other, there layout old s f dst None) (ap Some same) }
     other_left set other (inr left) =
-        let v = set_holds false (reg_of old dst) (value_of s.registers dst) left (reg_fits false layout old s dst f) in
+        let v = set_holds false (reg_of old dst) (value_of s.registers dst) left (reg_fits (AllOf false) layout old s dst f) in
         let u = value set in
         record { state = s; fits = f; fails = rw (left_is op s dst other, v.1, u.1) (both_set layout w op (reg_of old dst) h.0 v.0 u.0 fault other range v.2 u.2 h.2) }
 
@@ -555,10 +469,9 @@ module _ (layout : Layout) (old : Known) (s : State) (f : StateFits false layout
 -- ---- each row
 
 flow_refused : {A : Type 0} (x : Result A WalkFault) (flow : Flow) (fault : WalkFault) → Err fault ≡ flow_where x flow → x ≡ Err fault
-flow_refused (Ok a) flow fault e = absurd cc
-flow_refused (Err wrong) flow fault e = let same : wrong ≡ fault = cc in ap Err same
+flow_refused x flow fault h1 = grind (arith)
 
-module _ (layout : Layout) (old new : Known) (fault : WalkFault) (s : State) (f : StateFits false layout old s) where
+module _ (layout : Layout) (old new : Known) (fault : WalkFault) (s : State) (f : StateFits (AllOf false) layout old s) where
   received : (action : Action) (dst : RegNo) → ((t : State) → action_outcome layout action t ≡ and_then (given_by layout action t) (put t dst)) → Sees layout old (given_by layout action) fault → Sees layout old (action_outcome layout action) fault
   received action dst puts x = sees_then layout old (given_by layout action) (action_outcome layout action) (λ t. put t dst) fault puts x
 

@@ -1,19 +1,21 @@
 -- Where the ways of an instruction lead, and which programs have typings.
-use Rattle.std.proofs.Common.{◌≡◌, ℕ, zero, suc, ◌+◌, ◌<◌, ◌≤◌, pos, negsuc, Bool, true, false, List, [], ◌∷◌, Option, Some, None, length, refl, sym, ◌∙◌, arith, inl, inr, ◌-◌, ℤ, ap, subst, get_or, ◌*◌, Result, Ok, Err, replicate, ◌⊎◌, ◌++◌, map}
-use Rattle.verifier.proofs.Names.{is_some, slice_get, nat_lt, slice_index_or, cases_lt, cases_eq, eq-eqb, eqb-true, option_map, option_or, filter_map, cons_option, get_or-map, length-drop}
+use Rattle.std.proofs.Common.{◌≡◌, ◌≢◌, ℕ, zero, suc, ◌+◌, ◌<◌, ◌≤◌, pos, negsuc, Bool, true, false, List, [], ◌∷◌, Option, Some, None, length, refl, sym, ◌∙◌, arith, inl, inr, ◌-◌, ℤ, ap, subst, get_or, ◌*◌, Result, Ok, Err, replicate, ◌⊎◌, ◌++◌, map}
+use Rattle.verifier.proofs.Names.{slice_get, nat_lt, cases_lt, cases_eq, option_map, option_or, filter_map, cons_option, get_or-map, length-drop}
 use Rattle.verifier.proofs.Names.{Contains-append_cases, Contains-append_left, Contains-append_right, Insn, Layout, effect, fault_at, slots_of, begins_at, places, slot_count, slots_of_bounds}
-use Rattle.verifier.proofs.Names.{length-places, nothing_inside, ◌>>=◌, only_if, Config, start, State, STACK_SIZE, entry, record_size, Effect, Falls, Jumps, Exits, Reaches, lead, step, steps}
+use Rattle.verifier.proofs.Names.{length-places, nothing_inside, ◌>>=◌, Config, start, State, STACK_SIZE, entry, record_size, Effect, Falls, Jumps, Reaches, lead, step, steps}
 use Rattle.verifier.proofs.Names.{look_fault_at, look_verdict, distance_fault, distance_of, jump_fault, look_fault, write_fault, written_by, first_found, StandsAt, begins_along, begins_here}
 use Rattle.verifier.proofs.Names.{stands_behind, effects, shape_config, ways, shape_of, blank_cell, OnWay, Uniform, ways_from, WritesNoR10, FlowOf, FlowTo, IsJoined, goes_behind, IsEntry, Known}
-use Rattle.verifier.proofs.Names.{Test, Flow, Next, Jump, IsLearnt, KeepsAnswered, IsAdded, IsPushed, IsSettled, IsTestSettled, MayPush, IsRefusedAt, Value, WalkFault, FallsOff, UnsetRegister}
-use Rattle.verifier.proofs.Names.{UnsetByte, OutOfRegion, ReadOnlyField, PointerMisuse, ExitsWithPointer, PointerRange, Kind, RegFits, StateFits, LeavesKnown, RegShows, StateShows, GoesTyped}
+use Rattle.verifier.proofs.Names.{Test, Flow, Next, Jump, IsLearnt, KeepsAnswered, IsAdded, IsPushed, IsSettled, IsTestSettled, MayPush, IsRefusedAt, Value, WalkFault, FallsOff}
+use Rattle.verifier.proofs.Names.{Kind, RegFits, StateFits, LeavesKnown, AllOf, SetOf, RegIs, GoesTyped}
 use Rattle.verifier.proofs.Names.{IsTyping, MayCome, HasTyping, IsNeverStuck, IsNoMoreThan, UniformIsTyped, stuck_is_named}
 use Rattle.std.specs.Prelude.{if◌then◌else◌, ◌==◌}
 use Rattle.std.specs.List.{Contains}
 use Rattle.insn.specs.declared.verify_fault.LookFault.{LookFault}
 use Rattle.insn.specs.declared.verify_fault.LookFault.TheVariants.{JumpIntoWide, JumpOut, WritesR10}
 use Rattle.verifier.proofs.Waits.{AddedCase, Stays, Comes, Meets, Merges, added_cases, first_or_later, has_first, has_later, has_none}
-use Rattle.verifier.proofs.Shown.{IsShownBy, outcome_shown}
+use Rattle.verifier.proofs.ShapeLaws.{bind_some}
+use Rattle.verifier.proofs.Linked.{chosen, not_chosen}
+use Rattle.verifier.proofs.Rows.{IsShownBy, outcome_shown}
 use Rattle.verifier.proofs.States.{shows_less}
 use Rattle.insn.specs.Program.{joined}
 use Rattle.verifier.specs.declared.known.Flow.TheVariants.{Branch, Exit}
@@ -29,22 +31,13 @@ begins_inside program k j e = let h = places_inside (places program) k j e in le
   places_inside (x ∷ xs) (suc k) j e = let h = places_inside xs k j e in omega arith
 
 pub lead_forward : (program : List Insn) (behind : ℕ) (e : Effect) (c : Config) → lead program behind e ≡ Some c → behind ≤ c.slot
-lead_forward program behind (Falls s) c h = let same : record { slot = behind; state = s } ≡ c = cc in rw (← same) (omega arith)
-lead_forward program behind (Jumps (pos n) s) c h = by (is_some (begins_at program (behind + n))) h where
-  by : (b : Bool) → (only_if b (Some (behind + n)) >>= λ to. Some (record { slot = to; state = s })) ≡ Some c → behind ≤ c.slot
-  by false q = absurd cc
-  by true q = let same : record { slot = behind + n; state = s } ≡ c = cc in rw (← same) (omega arith)
-lead_forward program behind e c h = absurd cc
+lead_forward program behind e c h = grind arith
 
 step_forward : (layout : Layout) (program : List Insn) (c d : Config) → step layout program c ≡ Some d → c.slot < d.slot
-step_forward layout program c d h = by (begins_at program c.slot) h where
-  go : (i : Insn) (o : Option Effect) → (o >>= lead program (c.slot + slots_of i)) ≡ Some d → c.slot < d.slot
-  go i None q = absurd cc
-  go i (Some e) q = let f = lead_forward program (c.slot + slots_of i) e d q in omega (arith, slots_of_bounds i)
-
-  by : (o : Option Insn) → (o >>= λ i. effect layout i c.state >>= lead program (c.slot + slots_of i)) ≡ Some d → c.slot < d.slot
-  by None q = absurd cc
-  by (Some i) q = go i (effect layout i c.state) q
+step_forward layout program c d h =
+    let i = bind_some (begins_at program c.slot) (λ i. effect layout i c.state >>= lead program (c.slot + slots_of i)) d h in
+    let e = bind_some (effect layout i.0 c.state) (lead program (c.slot + slots_of i.0)) d i.2 in
+    let f = lead_forward program (c.slot + slots_of i.0) e.0 d e.2 in omega (arith, slots_of_bounds i.0)
 
 module _ (layout : Layout) (program : List Insn) (bytes : List ℕ) where
   pub same_reached : (n : ℕ) (c d : Config) → Reaches layout program bytes n c → Reaches layout program bytes n d → c ≡ d
@@ -52,18 +45,13 @@ module _ (layout : Layout) (program : List Insn) (bytes : List ℕ) where
 
   pub later : (n m : ℕ) (c d : Config) → n < m → Reaches layout program bytes n c → Reaches layout program bytes m d → c.slot < d.slot
   later n zero c d lt h k = absurd (omega arith)
-  later n (suc m) c d lt h k = by (λ mid less q. later n m c mid less h q) (steps layout program m (start bytes)) refl k where
-    go : ((mid : Config) → n < m → Reaches layout program bytes m mid → c.slot < mid.slot) → (mid : Config) → Reaches layout program bytes m mid → step layout program mid ≡ Some d → c.slot < d.slot
-    go before mid q one =
-        let f = step_forward layout program mid d one in
-        elim (cases_lt n m) [
-          | inl less ↦ let g = before mid less q in omega arith
-          | inr ge ↦ let e : n ≡ m = omega arith in let is : c ≡ mid = same_reached m c mid (rw e at h) q in rw is f
-        ]
-
-    by : ((mid : Config) → n < m → Reaches layout program bytes m mid → c.slot < mid.slot) → (o : Option Config) → steps layout program m (start bytes) ≡ o → (o >>= step layout program) ≡ Some d → c.slot < d.slot
-    by before None q one = absurd cc
-    by before (Some mid) q one = go before mid q one
+  later n (suc m) c d lt h k =
+      let mid = bind_some (steps layout program m (start bytes)) (step layout program) d k in
+      let f = step_forward layout program mid.0 d mid.2 in
+      elim (cases_lt n m) [
+        | inl less ↦ let g = later n m c mid.0 less h mid.1 in omega arith
+        | inr ge ↦ let e : n ≡ m = omega arith in let is : c ≡ mid.0 = same_reached m c mid.0 (rw e at h) mid.1 in rw is f
+      ]
 
 -- ==== the ways of a shape, and the first look
 
@@ -125,8 +113,7 @@ none_first slot None later e = (refl, e)
 none_first slot (Some fault) later e = absurd cc
 
 pub none_verdict : (o : Option (LookFault × ℕ)) → option_map (λ f. look_fault_at f.0 f.1) o ≡ None → o ≡ None
-none_verdict None e = refl
-none_verdict (Some f) e = absurd cc
+none_verdict o h1 = grind (arith)
 
 -- an instruction in which the first look finds nothing doesn't write R10
 pub writes_low : (program : List Insn) (behind : ℕ) (i : Insn) → look_fault program behind i ≡ None → WritesNoR10 i
@@ -145,9 +132,7 @@ flow_distance (Branch d test) = Some d
 flow_distance Exit = None
 
 pub own_distance : (i : Insn) (flow : Flow) (d : ℤ) → FlowOf i flow → flow_distance flow ≡ Some d → distance_of i ≡ Some d
-own_distance i (Jump x) d own e = own ∙ e
-own_distance i (Branch x test) d own e = own ∙ e
-own_distance i flow d own e = absurd cc
+own_distance i flow d h1 h2 = grind (arith)
 
 -- ---- where ways lead
 
@@ -231,9 +216,8 @@ module _ (Q : ℕ → Known → Type 0) (meets : (k : ℕ) (a b c : Known) → I
 
 -- ---- the entry
 
-reg_shows : (r : Kind) (o : Option Value) → RegFits true r o → RegShows r o
-reg_shows r None h = tt
-reg_shows r (Some v) h = h
+reg_shows : (r : Kind) (o : Option Value) → RegFits true r o → RegIs SetOf r o
+reg_shows r o h1 = grind (arith)
 
 pub unset_cell : (n k : ℕ) → get_or (replicate n cell.Unset) k cell.Unset ≡ cell.Unset
 unset_cell zero k = refl
@@ -247,9 +231,9 @@ entry_cell : (layout : Layout) (k : ℕ) → get_or (entry_shape layout).stack k
 entry_cell layout k = get_or-map blank_cell (entry (replicate (record_size layout) 0)).stack k cell.Unset ∙ ap blank_cell (unset_cell STACK_SIZE k)
 
 -- what is known at entry shows the entry's shape
-entry_shows : (layout : Layout) (first : Known) → IsEntry first → StateShows layout first (entry_shape layout)
+entry_shows : (layout : Layout) (first : Known) → IsEntry first → StateFits SetOf layout first (entry_shape layout)
 entry_shows layout first is =
-    let f : StateFits true layout first (entry_shape layout) = is.shape layout in
+    let f : StateFits (AllOf true) layout first (entry_shape layout) = is.shape layout in
     record {
       long = f.long;
       record_fits = f.record_fits;
@@ -260,6 +244,7 @@ entry_shows layout first is =
         parts = λ k j p lt e. absurd (let both : cell.Unset ≡ cell.Part p j = sym (entry_cell layout k) ∙ e in cc);
         whole = λ b p lt all. absurd (let both : cell.Unset ≡ cell.Part p 0 = sym (entry_cell layout (8 * b + 0)) ∙ all 0 (omega arith) in cc);
       };
+      links = tt;
     }
 
 -- ---- what waits
@@ -269,10 +254,10 @@ module _ (layout : Layout) (typing : ℕ → Option State) where
   pub record IsShownAt (k : ℕ) (a : Known) : Type 0 where
     pub shape : State
     pub is : typing k ≡ Some shape
-    pub shows : StateShows layout a shape
+    pub shows : StateFits SetOf layout a shape
 
   -- what a way brings to a slot shows the slot's shape
-  brought : (k : ℕ) (a : Known) (s : State) → MayCome typing k s → StateShows layout a s → IsShownAt k a
+  brought : (k : ℕ) (a : Known) (s : State) → MayCome typing k s → StateFits SetOf layout a s → IsShownAt k a
   brought k a s t h = record { shape = t.shape; is = t.is; shows = shows_less layout a t.shape s t.below h }
 
   -- two ways that meet at a slot
@@ -280,7 +265,7 @@ module _ (layout : Layout) (typing : ℕ → Option State) where
   meet_shown k a b c join x y =
       let both : Some x.shape ≡ Some y.shape = sym x.is ∙ y.is in
       let same : y.shape ≡ x.shape = cc in
-      record { shape = x.shape; is = x.is; shows = join.shown layout x.shape x.shows (subst (λ (s : State). StateShows layout b s) same y.shows) }
+      record { shape = x.shape; is = x.is; shows = join.same SetOf refl layout x.shape x.shows (subst (λ (s : State). StateFits SetOf layout b s) same y.shows) }
 
 -- the entry
 pub entry_shown : (layout : Layout) (program : List Insn) (typing : ℕ → Option State) (first : Known) → IsTyping layout program typing → IsEntry first → IsShownAt layout typing 0 first
@@ -299,20 +284,20 @@ module _ (layout : Layout) (program : List Insn) (typing : ℕ → Option State)
   goes = typed.each at i mine.is here
 
   left : (next : Known) (r : Result Flow WalkFault) → LeavesKnown layout i known next r → IsShownBy layout next r (effects layout i mine.shape)
-  left next r row = outcome_shown layout known mine.shape mine.shows next r i row other goes.still goes.passes
+  left next r row = outcome_shown layout known mine.shape mine.shows i other goes.still goes.passes next r row
 
   -- a way stays inside the program, and what it brings shows the shape there
-  arrives : (next : Known) (to : ℕ) → LeadsTo (StateShows layout) program behind next (effects layout i mine.shape) to → (to < slot_count program) × IsShownAt layout typing to next
+  arrives : (next : Known) (to : ℕ) → LeadsTo (StateFits SetOf layout) program behind next (effects layout i mine.shape) to → (to < slot_count program) × IsShownAt layout typing to next
   arrives next to l =
       let way : Contains (ways layout program at) l.to = subst (λ (xs : List Config). Contains xs l.to) (sym (ways_are layout program slot i here at (effects layout i mine.shape) refl refl)) l.has in
       let there : (l.to.slot < slot_count program) × IsShownAt layout typing l.to.slot next = (goes.inside l.to way, brought layout typing l.to.slot next l.to.state (goes.leads l.to way) l.holds) in
       rw l.place at there
 
   pub shown_behind : (next : Known) (flow : Flow) → LeavesKnown layout i known next (Ok flow) → goes_behind flow ≡ true → (behind < slot_count program) × IsShownAt layout typing behind next
-  shown_behind next flow row g = arrives next behind (behind_leads (StateShows layout) program behind next flow (effects layout i mine.shape) g (left next (Ok flow) row))
+  shown_behind next flow row g = arrives next behind (behind_leads (StateFits SetOf layout) program behind next flow (effects layout i mine.shape) g (left next (Ok flow) row))
 
   pub shown_ahead : (next : Known) (flow : Flow) (k : ℕ) (j : Insn) → begins_at program (behind + k) ≡ Some j → LeavesKnown layout i known next (Ok flow) → flow_distance flow ≡ Some (pos k) → IsShownAt layout typing (behind + k) next
-  shown_ahead next flow k j there row e = (arrives next (behind + k) (ahead_leads (StateShows layout) program behind next k j there flow (effects layout i mine.shape) e (left next (Ok flow) row))).1
+  shown_ahead next flow k j there row e = (arrives next (behind + k) (ahead_leads (StateFits SetOf layout) program behind next k j there flow (effects layout i mine.shape) e (left next (Ok flow) row))).1
 
   -- no instruction is refused
   pub never_refused : (fault : WalkFault) → IsRefusedAt layout i slot known (slot_count program) fault → ⊥
@@ -328,26 +313,30 @@ abbrev found : ℕ → List Config → Option State
 found slot [] = None
 found slot (c ∷ cs) = if c.slot == slot then Some c.state else found slot cs
 
-record IsFound (slot : ℕ) (cs : List Config) (s : State) : Type 0 where
-  at : Config
-  among : Contains cs at
-  place : at.slot ≡ slot
-  state : at.state ≡ s
+same_config : (c d : Config) → c.slot ≡ d.slot → c.state ≡ d.state → c ≡ d
+same_config c d p q = rw (p, q) refl
 
-found_is : (slot : ℕ) (cs : List Config) (s : State) → found slot cs ≡ Some s → IsFound slot cs s
-found_is slot [] s e = absurd cc
-found_is slot (c ∷ cs) s e = by (λ q. found_is slot cs s q) (c.slot == slot) refl e where
-  by : (found slot cs ≡ Some s → IsFound slot cs s) → (b : Bool) → (c.slot == slot) ≡ b → (if b then Some c.state else found slot cs) ≡ Some s → IsFound slot (c ∷ cs) s
-  by later true q e = record { at = c; among = has_first c cs; place = eqb-true c.slot slot q; state = cc }
-  by later false q e = let h = later e in record { at = h.at; among = has_later c h.at cs h.among; place = h.place; state = h.state }
+-- what is found is there
+found_there : (cs : List Config) (c : Config) → found c.slot cs ≡ Some c.state → Contains cs c
+found_there [] c e = absurd cc
+found_there (x ∷ cs) c e = elim (cases_eq x.slot c.slot) [
+  | inl q ↦
+      let state : Some x.state ≡ Some c.state = sym (chosen x.slot c.slot (Some x.state) (found c.slot cs) q) ∙ e in
+      let same : x ≡ c = same_config x c q cc in
+      rw same (has_first c cs)
+  | inr ne ↦ has_later x c cs (found_there cs c (sym (not_chosen x.slot c.slot (Some x.state) (found c.slot cs) ne) ∙ e))
+]
 
-found_some : (cs : List Config) (c : Config) → Contains cs c → (s : State) × (found c.slot cs ≡ Some s)
-found_some [] c h = absurd (has_none c h)
-found_some (x ∷ cs) c h = by (λ a. found_some cs c a) (x.slot == c.slot) refl (first_or_later x c cs h) where
-  by : (Contains cs c → (s : State) × (found c.slot cs ≡ Some s)) → (b : Bool) → (x.slot == c.slot) ≡ b → (x ≡ c) ⊎ Contains cs c → (s : State) × ((if b then Some x.state else found c.slot cs) ≡ Some s)
-  by later true q h = (x.state, refl)
-  by later false q (inl e) = absurd (let yes = eq-eqb x.slot c.slot (ap (λ (d : Config). d.slot) e) in let both : true ≡ false = sym yes ∙ q in cc)
-  by later false q (inr h) = later h
+-- and what is there alone at its slot is found
+found_alone : (cs : List Config) (c : Config) → Contains cs c → ((d : Config) → Contains cs d → d.slot ≡ c.slot → d ≡ c) → found c.slot cs ≡ Some c.state
+found_alone [] c h alone = absurd (has_none c h)
+found_alone (x ∷ cs) c h alone = elim (cases_eq x.slot c.slot) [
+  | inl q ↦ chosen x.slot c.slot (Some x.state) (found c.slot cs) q ∙ ap (λ (d : Config). Some d.state) (alone x (has_first x cs) q)
+  | inr ne ↦ not_chosen x.slot c.slot (Some x.state) (found c.slot cs) ne ∙ found_alone cs c (later (first_or_later x c cs h) ne) (λ d g. alone d (has_later x d cs g))
+] where
+  later : (x ≡ c) ⊎ Contains cs c → x.slot ≢ c.slot → Contains cs c
+  later (inl e) ne = absurd (ne (ap (λ (d : Config). d.slot) e))
+  later (inr h) ne = h
 
 no_more : (s : State) → IsNoMoreThan s s
 no_more s = record { registers_long = refl; registers = λ k. inr refl; bytes = refl; stack_long = refl; stack = λ k. inr refl }
@@ -397,10 +386,10 @@ module _ (layout : Layout) (program : List Insn) where
   ways_of [] = []
   ways_of (c ∷ cs) = ways layout program c ++ ways_of cs
 
-  -- all shapes to which so many ways lead
-  abbrev all_at : ℕ → List Config
-  all_at zero = first ∷ []
-  all_at (suc n) = ways_of (all_at n)
+  -- all shapes to which at most so many ways lead
+  abbrev all_by : ℕ → List Config
+  all_by zero = first ∷ []
+  all_by (suc n) = first ∷ ways_of (all_by n)
 
   way_in : (cs : List Config) (from c : Config) → Contains cs from → Contains (ways layout program from) c → Contains (ways_of cs) c
   way_in [] from c h w = absurd (has_none from h)
@@ -417,49 +406,18 @@ module _ (layout : Layout) (program : List Insn) where
     | inr later ↦ (let o = way_out cs c later in (o.0, has_later x o.0 cs o.1, o.2))
   ]
 
-  all_ways : (n : ℕ) (c : Config) → OnWay layout program n c → Contains (all_at n) c
-  all_ways zero c e = rw e (has_first first [])
-  all_ways (suc n) c on = way_in (all_at n) on.0 c (all_ways n on.0 on.1) on.2
+  all_ways : (n m : ℕ) (c : Config) → m ≤ n → OnWay layout program m c → Contains (all_by n) c
+  all_ways zero zero c le e = rw e (has_first first [])
+  all_ways (suc n) zero c le e = rw e (has_first first (ways_of (all_by n)))
+  all_ways zero (suc m) c le on = absurd (omega arith)
+  all_ways (suc n) (suc m) c le on = has_later first c (ways_of (all_by n)) (way_in (all_by n) on.0 c (all_ways n m on.0 (omega arith) on.1) on.2)
 
-  on_ways : (n : ℕ) (c : Config) → Contains (all_at n) c → OnWay layout program n c
-  on_ways zero c h = elim (first_or_later first c [] h) [ inl e ↦ sym e | inr none ↦ absurd (has_none c none) ]
-  on_ways (suc n) c h = let o = way_out (all_at n) c h in (o.0, on_ways n o.0 o.1, o.2)
-
-  -- the shape that at most so many ways bring to a slot
-  abbrev shape_by : ℕ → ℕ → Option State
-  shape_by zero slot = found slot (all_at zero)
-  shape_by (suc n) slot = option_or (found slot (all_at (suc n))) (shape_by n slot)
-
-  record IsBrought (slot : ℕ) (s : State) : Type 0 where
-    n : ℕ
-    at : Config
-    on : OnWay layout program n at
-    place : at.slot ≡ slot
-    state : at.state ≡ s
-
-  found_brought : (n slot : ℕ) (s : State) → found slot (all_at n) ≡ Some s → IsBrought slot s
-  found_brought n slot s e = let h = found_is slot (all_at n) s e in record { n = n; at = h.at; on = on_ways n h.at h.among; place = h.place; state = h.state }
-
-  by_brought : (n slot : ℕ) (s : State) → shape_by n slot ≡ Some s → IsBrought slot s
-  by_brought zero slot s e = found_brought zero slot s e
-  by_brought (suc n) slot s e = by (λ q. by_brought n slot s q) (found slot (all_at (suc n))) refl e where
-    by : (shape_by n slot ≡ Some s → IsBrought slot s) → (o : Option State) → found slot (all_at (suc n)) ≡ o → option_or o (shape_by n slot) ≡ Some s → IsBrought slot s
-    by before None q e = before e
-    by before (Some t) q e = found_brought (suc n) slot s (q ∙ e)
-
-  by_some : (n m : ℕ) (c : Config) → m ≤ n → OnWay layout program m c → (s : State) × (shape_by n c.slot ≡ Some s)
-  by_some zero zero c le on = found_some (all_at zero) c (all_ways zero c on)
-  by_some zero (suc m) c le on = absurd (omega arith)
-  by_some (suc n) m c le on = elim (cases_eq m (suc n)) [
-    | inl q ↦ here (found_some (all_at (suc n)) c (all_ways (suc n) c (rw q at on)))
-    | inr ne ↦ later (found c.slot (all_at (suc n))) (by_some n m c (omega arith) on)
-  ] where
-    here : (s : State) × (found c.slot (all_at (suc n)) ≡ Some s) → (s : State) × (shape_by (suc n) c.slot ≡ Some s)
-    here s = (s.0, rw s.1 refl)
-
-    later : (o : Option State) → (s : State) × (shape_by n c.slot ≡ Some s) → (s : State) × (option_or o (shape_by n c.slot) ≡ Some s)
-    later None s = s
-    later (Some t) s = (t, refl)
+  on_ways : (n : ℕ) (c : Config) → Contains (all_by n) c → (m : ℕ) × OnWay layout program m c
+  on_ways zero c h = elim (first_or_later first c [] h) [ inl e ↦ (0, sym e) | inr none ↦ absurd (has_none c none) ]
+  on_ways (suc n) c h = elim (first_or_later first c (ways_of (all_by n)) h) [
+    | inl e ↦ (0, sym e)
+    | inr later ↦ (let o = way_out (all_by n) c later in let m = on_ways n o.0 o.1 in (suc m.0, (o.0, m.1, o.2)))
+  ]
 
   -- so many ways lead at least so far
   far : (n : ℕ) (c : Config) → OnWay layout program n c → n ≤ c.slot
@@ -467,15 +425,11 @@ module _ (layout : Layout) (program : List Insn) where
   far (suc n) c on = let le = far n on.0 on.1 in let lt = way_forward layout program on.0 c on.2 in omega arith
 
   abbrev typing : ℕ → Option State
-  typing slot = shape_by slot slot
+  typing slot = found slot (all_by slot)
 
   module _ (looked : look_verdict program ≡ None) (u : Uniform layout program) (free : IsNeverStuck layout program) where
     brought_is : (n : ℕ) (c : Config) → OnWay layout program n c → typing c.slot ≡ Some c.state
-    brought_is n c on =
-        let s = by_some c.slot n c (far n c on) on in
-        let b = by_brought c.slot c.slot s.0 s.1 in
-        let same : b.at ≡ c = u.one_shape b.n n b.at c b.on on b.place in
-        s.1 ∙ ap Some (sym b.state ∙ ap (λ (d : Config). d.state) same)
+    brought_is n c on = found_alone (all_by c.slot) c (all_ways c.slot n c (far n c on) on) (λ d h q. let m = on_ways c.slot d h in u.one_shape m.0 n d c m.1 on q)
 
     may_come : (n : ℕ) (c : Config) → OnWay layout program n c → MayCome typing c.slot c.state
     may_come n c on = record { shape = c.state; is = brought_is n c on; below = no_more c.state }
@@ -512,13 +466,9 @@ module _ (layout : Layout) (program : List Insn) where
       typing = typing;
       is = record {
         begins = may_come 0 first refl;
-        each = λ c i e here.
-            let b = by_brought c.slot c.slot c.state e in
-            subst (λ (d : Config). GoesTyped layout program typing d i) (same_config b.at c b.place b.state) (goes_typed b.n b.at i b.on (ap (begins_at program) b.place ∙ here));
+        each = λ c i e here. let m = on_ways c.slot c (found_there (all_by c.slot) c e) in goes_typed m.0 c i m.1 here;
       };
-    } where
-      same_config : (c d : Config) → c.slot ≡ d.slot → c.state ≡ d.state → c ≡ d
-      same_config c d p q = ap (λ (k : ℕ). record c { slot = k }) p ∙ ap (λ (s : State). record d { state = s }) q
+    }
 
 pub uniform_is_typed : (layout : Layout) (program : List Insn) → UniformIsTyped layout program
 uniform_is_typed layout program = λ looked u free. uniform_typing layout program looked u free

@@ -1,40 +1,24 @@
 -- What an instruction leaves of what is known, and why it is refused: a table by the kinds of what is known before it.
 -- Nothing is changed but what is said here.
 use Rattle.std.specs.Prelude.{◌≡◌, ◌≢◌, ℕ, Bool, true, false, length, slice_set, Option, Some, None, Result, Ok, Err}
-use Rattle.insn.specs.declared.register.RegNo.{RegNo}
-use Rattle.insn.specs.declared.register.RegNo.TheVariants.{R0}
-use Rattle.insn.specs.declared.instruction.Insn.{Insn}
-use Rattle.insn.specs.declared.instruction.Operand.{Operand}
-use Rattle.insn.specs.declared.action.Action.{Action}
-use Rattle.insn.specs.declared.action.Action.TheVariants.{Operate, Convert, LoadWord, LoadFrom, StoreAt, Go, Branch, End}
-use Rattle.insn.specs.declared.layout.Layout.{Layout}
+use Rattle.verifier.specs.Names.{RegNo, R0, Insn, Operand, Action, Operate, Convert, LoadWord, LoadFrom, StoreAt, Go, End, Layout, Width, W64, Number, WalkFault, ExitsWithPointer, PointerMisuse}
+use Rattle.verifier.specs.Names.{PointerRange, ReadOnlyField, UnsetRegister, reg_number, size_bytes, action_of, State, fault_at, Kind, IsKindImage, IsKindResult, IsKnownNumber, number_in_reg, Flow}
+use Rattle.insn.specs.declared.action.Action.TheVariants.{Branch}
 use Rattle.insn.specs.declared.operation.Cond.{Cond}
 use Rattle.insn.specs.declared.operation.ExtendBits.{ExtendBits}
 use Rattle.insn.specs.declared.operation.Size.{Size}
 use Rattle.insn.specs.declared.operation.UnOp.TheVariants.{Extend}
-use Rattle.insn.specs.declared.operation.Width.{Width}
-use Rattle.insn.specs.declared.operation.Width.TheVariants.{W64}
 use Rattle.insn.specs.declared.state.Region.{Region}
 use Rattle.insn.specs.declared.state.Region.TheVariants as region
-use Rattle.insn.specs.declared.state.Value.TheVariants.{Number}
-use Rattle.insn.specs.declared.verify_fault.WalkFault.{WalkFault}
-use Rattle.insn.specs.declared.verify_fault.WalkFault.TheVariants.{ExitsWithPointer, PointerMisuse, PointerRange, ReadOnlyField, UnsetRegister}
-use Rattle.insn.specs.Instruction.{reg_number, size_bytes}
-use Rattle.insn.specs.Meaning.{action_of}
-use Rattle.insn.specs.Values.{State}
-use Rattle.insn.specs.Outcomes.{fault_at}
 use Rattle.reg_kind.specs.declared.place.Place.{Place}
-use Rattle.reg_kind.specs.declared.reg.Reg.{Reg as Kind}
 use Rattle.reg_kind.specs.declared.reg.Reg.TheVariants as kind
 use Rattle.reg_kind.specs.declared.span.Span.{Span}
 use Rattle.reg_kind.specs.Accesses.{is_place_writable, place_behind}
-use Rattle.reg_kind.specs.Operations.{IsKindImage, IsKindResult, IsKnownNumber, number_in_reg}
 use Rattle.stack_state.specs.Accesses.{IsGiven, IsNumberReg, IsStored}
 use Rattle.verifier.specs.declared.known.Known.{Known}
 use Rattle.verifier.specs.declared.known.Test.{Test}
-use Rattle.verifier.specs.declared.known.Flow.{Flow}
 use Rattle.verifier.specs.declared.known.Flow.TheVariants as flow
-use Rattle.verifier.specs.Fits.{StateFits}
+use Rattle.verifier.specs.Fits.{AllOf, StateFits}
 use Rattle.verifier.specs.Follows.{Follows, IsFaulty, IsOperand, comparison_of, reg_of}
 use Rattle.verifier.specs.Links.{AreLeft, AreMade, link_made}
 
@@ -166,13 +150,13 @@ LeavesKnown layout i old new (Err fault) = LeavesRow layout (action_of i) old ne
 -- a fault is the first test that fails in some state that is what is known
 pub record IsSeen (layout : Layout) (i : Insn) (known : Known) (fault : WalkFault) : Type 0 where
   pub state : State
-  pub fits : StateFits false layout known state
+  pub fits : StateFits (AllOf false) layout known state
   pub fails : fault_at layout i state ≡ Some fault
 
 -- It is so where any state is what is known. It is not said of a pointer that is moved:
 -- numbers between which all members of a set lie need not be members.
 abbrev pub CanFail : Layout → Insn → Known → WalkFault → Type 0
-CanFail layout i known fault = fault ≢ PointerRange → (s : State) → StateFits false layout known s → IsSeen layout i known fault
+CanFail layout i known fault = fault ≢ PointerRange → (s : State) → StateFits (AllOf false) layout known s → IsSeen layout i known fault
 
 -- ---- what rows come to
 

@@ -1,33 +1,16 @@
 -- What a test teaches: of the two numbers that it compares, and of those that are linked to them.
 use Rattle.std.specs.Prelude.{◌≡◌, ◌≢◌, ℕ, ◌+◌, Bool, true, false, List, slice_set, Option, Some, None}
-use Rattle.insn.specs.declared.register.RegNo.{RegNo}
-use Rattle.insn.specs.declared.instruction.Operand.{Operand}
-use Rattle.insn.specs.declared.instruction.Operand.TheVariants.{Reg, Imm}
-use Rattle.insn.specs.declared.layout.Layout.{Layout}
-use Rattle.insn.specs.declared.operation.BinOp.{BinOp}
-use Rattle.insn.specs.declared.operation.BinOp.TheVariants.{Add, Sub}
-use Rattle.insn.specs.declared.operation.Cond.TheVariants.{Eq}
-use Rattle.insn.specs.declared.operation.Width.{Width}
-use Rattle.insn.specs.Instruction.{reg_number}
-use Rattle.insn.specs.Values.{State}
+use Rattle.verifier.specs.Names.{RegNo, Operand, Reg, Imm, Layout, BinOp, Add, Sub, Eq, Width, reg_number, State, Scalar, InScalar, ShowsOne, Kind, IsKindRefined, Bits, Lowest, Shifted, Relation}
+use Rattle.verifier.specs.Names.{Sum, Difference}
 use Rattle.range.specs.Domain.{IsSingleResult, IsSoundResult}
-use Rattle.scalar.specs.declared.scalar.Scalar.{Scalar}
-use Rattle.scalar.specs.Members.{InScalar, ShowsOne}
 use Rattle.scalar.specs.Narrowed.{Answer, AreNarrowed, LiesInLeastSum}
-use Rattle.reg_kind.specs.declared.reg.Reg.{Reg as Kind}
 use Rattle.reg_kind.specs.declared.reg.Reg.TheVariants as kind
-use Rattle.reg_kind.specs.Fits.{IsKindRefined}
 use Rattle.verifier.specs.declared.known.Known.{Known}
 use Rattle.verifier.specs.declared.known.Test.{Test}
-use Rattle.verifier.specs.declared.link.Bits.{Bits}
-use Rattle.verifier.specs.declared.link.Bits.TheVariants.{Lowest, Shifted}
 use Rattle.verifier.specs.declared.link.Link.{Link}
-use Rattle.verifier.specs.declared.link.Relation.{Relation}
-use Rattle.verifier.specs.declared.link.Relation.TheVariants.{Sum, Difference}
-use Rattle.verifier.specs.Fits.{StateFits}
+use Rattle.verifier.specs.Fits.{AllOf, Reading, StateFits, is_exact}
 use Rattle.verifier.specs.Follows.{IsOperand, reg_of, register_at, test_answer}
 use Rattle.verifier.specs.Links.{joining, link_at}
-use Rattle.verifier.specs.Shows.{StateShows}
 
 -- ---- the two numbers that are compared
 
@@ -138,13 +121,12 @@ pub record Teaches (test : Test) (answer : Bool) (old new : Known) : Type 0 wher
 
 -- all states that are known and of which the test has the answer are known, and every shape
 pub record KeepsAnswered (test : Test) (answer : Bool) (old new : Known) : Type 0 where
-  pub states : (layout : Layout) (s : State) → StateFits false layout old s → test_answer test s ≡ Some answer → StateFits false layout new s
-  pub shapes : (layout : Layout) (s : State) → StateFits true layout old s → StateFits true layout new s
-  pub shown : (layout : Layout) (s : State) → StateShows layout old s → StateShows layout new s
+  pub states : (layout : Layout) (s : State) → StateFits (AllOf false) layout old s → test_answer test s ≡ Some answer → StateFits (AllOf false) layout new s
+  pub shapes : (how : Reading) → is_exact how ≡ true → (layout : Layout) (s : State) → StateFits how layout old s → StateFits how layout new s
 
 -- what is known where a test has an answer; None where it never has it
 abbrev pub IsLearnt : Test → Bool → Known → Option Known → Type 0
-IsLearnt test answer known None = (layout : Layout) (s : State) → StateFits false layout known s → test_answer test s ≢ Some answer
+IsLearnt test answer known None = (layout : Layout) (s : State) → StateFits (AllOf false) layout known s → test_answer test s ≢ Some answer
 IsLearnt test answer known (Some new) = KeepsAnswered test answer known new × Teaches test answer known new
 
 -- what a look at a test leaves, and whether it may have the answer

@@ -1,29 +1,13 @@
 -- Registers whose number is another's plus a constant or a constant less another's, and what instructions leave of that.
 use Rattle.std.specs.Prelude.{◌≡◌, ◌⊎◌, ℕ, ◌+◌, ◌*◌, ◌^◌, ◌<◌, ◌==◌, ◌||◌, ℤ, pos, List, slice_index_or, Bool, true, false, if◌then◌else◌, Option, Some, None}
+use Rattle.verifier.specs.Names.{RegNo, BinOp, Add, Sub, Lsh, Rsh, Mov, Arsh, Width, W32, W64, Reg, Imm, Action, Operate, Value, Number, reg_number, ◌>>=◌, value_of, int_width, wrapped, Kind, Bits}
+use Rattle.verifier.specs.Names.{Lowest, Shifted, Relation, Sum, Difference}
 use Rattle.std.specs.Int.{w64, cast_unsigned}
 use Rattle.std.specs.Ordering.{int_eq}
-use Rattle.insn.specs.declared.register.RegNo.{RegNo}
-use Rattle.insn.specs.declared.operation.BinOp.{BinOp}
-use Rattle.insn.specs.declared.operation.BinOp.TheVariants.{Add, Sub, Lsh, Rsh, Mov, Arsh}
-use Rattle.insn.specs.declared.operation.Width.{Width}
-use Rattle.insn.specs.declared.operation.Width.TheVariants.{W32, W64}
-use Rattle.insn.specs.declared.instruction.Operand.TheVariants.{Reg, Imm}
-use Rattle.insn.specs.declared.action.Action.{Action}
-use Rattle.insn.specs.declared.action.Action.TheVariants.{Operate}
-use Rattle.insn.specs.declared.state.Value.{Value}
-use Rattle.insn.specs.declared.state.Value.TheVariants.{Number}
-use Rattle.insn.specs.Instruction.{reg_number}
-use Rattle.insn.specs.Values.{◌>>=◌, value_of}
-use Rattle.insn.specs.Word.{int_width, wrapped}
 use Rattle.scalar.specs.Bounds.{least_word, greatest_word}
-use Rattle.reg_kind.specs.declared.reg.Reg.{Reg as Kind}
 use Rattle.reg_kind.specs.declared.reg.Reg.TheVariants as kind
-use Rattle.verifier.specs.declared.link.Bits.{Bits}
-use Rattle.verifier.specs.declared.link.Bits.TheVariants.{Lowest, Shifted}
 use Rattle.verifier.specs.declared.link.Link.{Link}
 use Rattle.verifier.specs.declared.link.Links.{Links}
-use Rattle.verifier.specs.declared.link.Relation.{Relation}
-use Rattle.verifier.specs.declared.link.Relation.TheVariants.{Sum, Difference}
 
 -- In the bits of a width b is a plus the constant, or with a it comes to the constant; or it is so of b and of the other two
 -- shifted by half a word.

@@ -1,22 +1,13 @@
 -- Beside Links: only the contracts of this crate's own parts and their proofs cite this, no public clause.
 use Rattle.std.specs.Prelude.{◌≡◌, ℕ, Bool, true, false, Option, Some, None}
-use Rattle.insn.specs.declared.layout.Layout.{Layout}
-use Rattle.insn.specs.declared.operation.Cond.TheVariants.{Eq}
-use Rattle.insn.specs.declared.operation.Width.{Width}
-use Rattle.insn.specs.declared.state.Value.{Value}
-use Rattle.insn.specs.Values.{State}
+use Rattle.verifier.specs.Names.{Layout, Eq, Width, Value, State, Scalar, InScalar, Kind, RegFits}
 use Rattle.range.specs.Conditions.{HasAnswer}
-use Rattle.scalar.specs.declared.scalar.Scalar.{Scalar}
-use Rattle.scalar.specs.Members.{InScalar}
-use Rattle.reg_kind.specs.declared.reg.Reg.{Reg as Kind}
-use Rattle.reg_kind.specs.Fits.{RegFits}
 use Rattle.verifier.specs.declared.known.Known.{Known}
 use Rattle.verifier.specs.declared.link.Link.{Link}
-use Rattle.verifier.specs.Fits.{StateFits}
+use Rattle.verifier.specs.Fits.{AllOf, Reading, StateFits, is_exact}
 use Rattle.verifier.specs.Links.{AreLinked, AreValuesLinked}
 use Rattle.verifier.specs.Learnt.{IsLearnt, KeepsAnswered}
 use Rattle.verifier.specs.declared.known.Test.{Test}
-use Rattle.verifier.specs.Shows.{StateShows}
 
 -- a set keeps all numbers that equal one of another in a width; none where there are no such numbers
 abbrev pub IsEqualKept : Width → Scalar → Scalar → Option Scalar → Type 0
@@ -37,9 +28,8 @@ IsLinkRefined link a b (Some r) =
 
 -- what is known is narrowed: it is known of the same states, and shown of the same shapes
 pub record IsNarrowed (known new : Known) : Type 0 where
-  pub states : (layout : Layout) (s : State) → StateFits false layout known s → StateFits false layout new s
-  pub shapes : (layout : Layout) (s : State) → StateFits true layout known s → StateFits true layout new s
-  pub shown : (layout : Layout) (s : State) → StateShows layout known s → StateShows layout new s
+  pub states : (layout : Layout) (s : State) → StateFits (AllOf false) layout known s → StateFits (AllOf false) layout new s
+  pub shapes : (how : Reading) → is_exact how ≡ true → (layout : Layout) (s : State) → StateFits how layout known s → StateFits how layout new s
   pub stack : new.stack ≡ known.stack
   pub links : new.links ≡ known.links
 
@@ -51,4 +41,4 @@ IsKept test answer known new false = IsLearnt test answer known None
 -- what links leave of what is known, or that it is known of no state
 abbrev pub IsNarrowedOrNone : Known → Known → Bool → Type 0
 IsNarrowedOrNone known new true = IsNarrowed known new
-IsNarrowedOrNone known new false = (layout : Layout) (s : State) → StateFits false layout known s → ⊥
+IsNarrowedOrNone known new false = (layout : Layout) (s : State) → StateFits (AllOf false) layout known s → ⊥

@@ -1,27 +1,8 @@
 -- Shapes: what is left of a state without its amounts, and programs whose paths agree on them.
 use Rattle.std.specs.Prelude.{◌≡◌, ℕ, zero, suc, ◌+◌, ℤ, List, [], ◌∷◌, map, replicate, Contains, Option, Some, None}
-use Rattle.std.specs.Option.{option_map}
-use Rattle.std.specs.List.{filter_map}
-use Rattle.insn.specs.declared.register.RegNo.{RegNo}
-use Rattle.insn.specs.declared.operation.BinOp.TheVariants.{Add, Sub}
-use Rattle.insn.specs.declared.operation.Width.TheVariants.{W64}
-use Rattle.insn.specs.declared.instruction.Operand.TheVariants.{Reg}
-use Rattle.insn.specs.declared.instruction.Insn.{Insn}
-use Rattle.insn.specs.declared.layout.Layout.{Layout}
-use Rattle.insn.specs.declared.state.Pointer.{Pointer}
-use Rattle.insn.specs.declared.state.Value.{Value}
-use Rattle.insn.specs.declared.state.Value.TheVariants.{Number, Address}
-use Rattle.insn.specs.declared.state.Cell.{Cell}
-use Rattle.insn.specs.declared.state.Cell.TheVariants.{Unset, Byte, Part}
-use Rattle.insn.specs.Instruction.{slots_of}
-use Rattle.insn.specs.Program.{begins_at}
-use Rattle.insn.specs.Values.{State, Config, value_of, record_size, start}
-use Rattle.insn.specs.Effects.{Effect, Falls, Jumps}
-use Rattle.insn.specs.declared.action.Action.{Action}
-use Rattle.insn.specs.declared.action.Action.TheVariants.{Operate, Branch}
-use Rattle.insn.specs.Meaning.{action_of}
-use Rattle.insn.specs.Outcomes.{effect}
-use Rattle.insn.specs.Step.{Reaches, lead, exit_at}
+use Rattle.verifier.specs.Names.{option_map, filter_map, RegNo, Add, Sub, W64, Reg, Insn, Layout, Pointer, Value, Number, Address, Cell, Unset, Byte, Part, slots_of, begins_at, State, Config}
+use Rattle.verifier.specs.Names.{value_of, record_size, start, Effect, Falls, Jumps, Action, Operate, action_of, effect, Reaches, lead, exit_at}
+use Rattle.insn.specs.declared.action.Action.TheVariants.{Branch}
 
 -- A shape is a state in which each number and each byte is 0: it has lost its amount.
 abbrev pub blank_value : Value → Value

@@ -1,16 +1,10 @@
 -- Beside Waits: only the contracts of this crate's own parts and their proofs cite this, no public clause.
 use Rattle.std.specs.Prelude.{◌≡◌, ◌⊎◌, ℕ, ℤ, pos, ◌+◌, ◌<◌, List, [], ◌∷◌, ◌++◌, Box, IsSome, Option, Some, None, Ok, length, map, slice_index_or, take}
-use Rattle.std.specs.Box.{box_value}
-use Rattle.std.specs.List.{filter_map}
-use Rattle.std.specs.Option.{option_map}
+use Rattle.verifier.specs.Names.{box_value, filter_map, option_map, Insn, Layout, walk_fault_at, Exit}
 use Rattle.std.specs.declared.alloc.Global.{Global}
-use Rattle.insn.specs.declared.instruction.Insn.{Insn}
-use Rattle.insn.specs.declared.layout.Layout.{Layout}
-use Rattle.insn.specs.Refusals.{walk_fault_at}
 use Rattle.verifier.specs.declared.cases.Held.{Held}
 use Rattle.verifier.specs.declared.cases.Held.TheVariants.{Nothing, One, Several}
 use Rattle.verifier.specs.declared.known.Known.{Known}
-use Rattle.verifier.specs.declared.known.Flow.TheVariants.{Exit}
 use Rattle.verifier.specs.declared.walk.Passage.{Passage}
 use Rattle.verifier.specs.declared.walk.Passage.TheVariants as passage
 use Rattle.verifier.specs.declared.walk.Upshot.{Upshot}

@@ -3,7 +3,6 @@
 ghost use Rattle.std.specs.Prelude.{◌≡◌, ◌<◌, [], IfOk, IsErr, IsOk, None, length, slice_index_or};
 ghost use Rattle.insn.specs.Refusals.{look_verdict};
 ghost use Rattle.verifier.specs.Findings.{IsFinding, IsWalkFinding};
-ghost use Rattle.verifier.specs.Follows.{reg_of};
 ghost use Rattle.verifier.specs.WaitsParts.{IsNoted};
 
 use crate::known::Known;
@@ -12,9 +11,7 @@ use insn::first_look::first_look;
 use insn::instruction::Insn;
 use insn::layout::Layout;
 use insn::program::Program;
-use insn::register::RegNo;
 use insn::verify_fault::VerifyFault;
-use reg_kind::Reg;
 use stack_state::Stack;
 use std::alloc::{AllocError, Global};
 
@@ -47,13 +44,6 @@ pub enum Finding {
 }
 
 impl Known {
-    /// What is known of a register.
-    pub fn register(&self, register: RegNo) -> Reg
-        ensures { result ≡ reg_of self.now register }
-    {
-        self.registers[register.number()]
-    }
-
     /// What is known of the stack.
     pub fn stack(&self) -> &Stack
         ensures { result.now ≡ self.now.stack }
@@ -108,9 +98,9 @@ fn walk(alloc: Global, program: &Program, layout: Layout) -> Result<Finding, All
     Ok(Finding::Accepted(unreached))
 }
 
-/// What both looks find: the fault of the first one, and where it finds none, what the walk finds. It fails only where
-/// memory is refused.
-pub(crate) fn look(alloc: Global, program: &Program, layout: Layout) -> Result<Finding, AllocError>
+/// What `verify` finds in a program, and why: the fault of the first look, and where it finds none, what the walk finds. It
+/// fails only where memory is refused.
+pub fn explain(alloc: Global, program: &Program, layout: Layout) -> Result<Finding, AllocError>
     ensures finding { IfOk result (IsFinding layout program.now) }
     ensures memory { IsErr result → look_verdict program.now ≡ None }
 {
@@ -118,11 +108,4 @@ pub(crate) fn look(alloc: Global, program: &Program, layout: Layout) -> Result<F
         Some(fault) => Ok(Finding::Looked(fault)),
         None => walk(alloc, program, layout),
     }
-}
-
-/// What `verify` finds in a program, and why: the same looks. It fails only where memory is refused.
-pub fn explain(alloc: Global, program: &Program, layout: Layout) -> Result<Finding, AllocError>
-    ensures { IfOk result (IsFinding layout program.now) }
-{
-    look(alloc, program, layout)
 }

@@ -17,13 +17,13 @@ ghost use Rattle.verifier.specs.Typing.{UniformIsTyped};
 ghost use Rattle.verifier.specs.Waits.{HasWalked};
 
 /// A state and its shape have the same fault, where no pointer is moved by a register.
-#[tactic(auto, using(crate::specs::ShapeLaws::same_fault))]
+#[tactic(auto, using(crate::proofs::ShapeLaws::same_fault))]
 pub fn shapes_have_the_faults_of_states()
     ensures { (layout : Layout) (i : Insn) (s : State) → NoMovedPointer i s → fault_at layout i (shape_of s) ≡ fault_at layout i s }
 {}
 
 /// A step's shape is among the ways of the shape, where no pointer is moved by a register.
-#[tactic(auto, using(crate::specs::WayLaws::step_is_way))]
+#[tactic(auto, using(crate::proofs::WayLaws::step_is_way))]
 pub fn steps_are_ways()
     ensures { (layout : Layout) (program : List Insn) (c d : Config) →
         ((i : Insn) → begins_at program c.slot ≡ Some i → NoMovedPointer i c.state) → step layout program c ≡ Some d →
@@ -39,6 +39,7 @@ pub fn straight_ways_are_runs()
 {}
 
 /// A uniform program in which the first look finds no fault, and on no way of which a shape is stuck, has a typing.
+#[tactic(auto, using(crate::proofs::Ways::uniform_is_typed))]
 pub fn uniform_programs_have_typings()
     ensures { (layout : Layout) (program : List Insn) → UniformIsTyped layout program }
 {}
@@ -51,6 +52,7 @@ pub fn rows_are_sound()
 {}
 
 /// In every walk, at every slot, at most four cases wait.
+#[tactic(auto, using(crate::proofs::Waits::at_most_four))]
 pub fn at_most_four_cases_wait()
     ensures { (layout : Layout) (program : List Insn) (slot : ℕ) (rest : List Insn) (waiting : List (List Known)) →
         HasWalked layout program slot rest waiting → (k : ℕ) → length (slice_index_or waiting k []) ≤ 4 }

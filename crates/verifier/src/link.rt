@@ -1,6 +1,6 @@
 //! Registers whose number is another's plus a constant, or a constant less another's.
 
-ghost use Rattle.std.specs.Prelude.{◌≡◌, ◌<◌, ℕ, None, Some, if◌then◌else◌, IfNone, IfSome, length, slice_index_or, true};
+ghost use Rattle.std.specs.Prelude.{◌≡◌, ◌<◌, ℕ, None, Some, if◌then◌else◌, IfSome, length, slice_index_or, true};
 ghost use Rattle.insn.specs.Instruction.{reg_number};
 ghost use Rattle.verifier.specs.Links.{AreLeft, AreLinksJoined, AreMade, IsLinkJoin, bits_after, copied, difference_made, joining as spec_joining, less, lesser, link_after, link_at, link_kept, link_left, link_made, link_of as spec_link_of};
 ghost use Rattle.verifier.specs.LinksParts.{AreNumbersRefined, IsEqualKept, IsLinkRefined};
@@ -83,7 +83,7 @@ fn lesser_width(a: Width, b: Width) -> Width
 /// In some bits a register's number is another's plus a constant, or a constant less another's.
 #[derive(Clone, Copy, PartialEq, Eq)]
 pub struct Link {
-    of: RegNo,
+    pub(crate) of: RegNo,
     relation: Relation,
     plus: u64,
     bits: Bits,
@@ -135,13 +135,6 @@ impl Link {
         } else {
             Some((register, self))
         }
-    }
-
-    /// The other register.
-    pub(crate) fn of(self) -> RegNo
-        ensures { result ≡ self.of }
-    {
-        self.of
     }
 
     /// The same link, where a way that meets has it, too.

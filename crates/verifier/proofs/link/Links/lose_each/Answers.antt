@@ -7,6 +7,6 @@ pub loop-i-preserved : goal.loop-i-preserved
 loop-i-preserved c =
     let v = c.loop-i.invariant in
     elim c.if-joins.branch [
-      | then-joins w ↦ rw w.self-is (made_one (IsLeft c.args.written) c.args.self.now.each c.loop-i.self.each c.loop-i.i None c.loop-i-test.true v.0 (sym (rw w.if-joins.true at c.joins.ensures.left)), v.1)
-      | else-joins w ↦ rw w.self-is (made_kept (IsLeft c.args.written) c.args.self.now.each c.loop-i.self.each c.loop-i.i v.0 (sym (rw w.if-joins.false at c.joins.ensures.left)), v.1)
+      | then-joins w ↦ rw w.self-is (made_one None (IsLeft c.args.written) c.args.self.now.each c.loop-i.self.each c.loop-i.i None c.loop-i-test.true v.0 (sym (rw w.if-joins.true at c.joins.ensures.left)), v.1)
+      | else-joins w ↦ rw w.self-is (made_kept None (IsLeft c.args.written) c.args.self.now.each c.loop-i.self.each c.loop-i.i c.loop-i-test.true v.0 (sym (rw w.if-joins.false at c.joins.ensures.left)), v.1)
     ]

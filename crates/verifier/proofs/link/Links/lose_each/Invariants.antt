@@ -1,6 +1,6 @@
-use Rattle.std.proofs.Common.{◌≡◌}
+use Rattle.std.proofs.Common.{◌≡◌, None}
 use Rattle.verifier.proofs.Linked.{IsLeft, MadeBelow}
 use Rattle.verifier.proofs.link.Links.lose_each.Given as goal
 
 abbrev pub invariant-loop-i : goal.invariant-loop-i
-invariant-loop-i l = MadeBelow (IsLeft l.written) l.initial.self.each l.self.each l.i × (l.self.any ≡ l.initial.self.any)
+invariant-loop-i l = MadeBelow None (IsLeft l.written) l.initial.self.each l.self.each l.i × (l.self.any ≡ l.initial.self.any)
