@@ -3,7 +3,7 @@ pub use Rattle.assembler.specs.Drafts.{At, Nowhere, jump_over, draft_slots, IsDr
 pub use Rattle.assembler.specs.DraftsParts.{HasTarget, IsSource, DraftOf}
 pub use Rattle.assembler.specs.Faults.{Anywhere, OneOf, SaysFitting, Drafts, FirstWrong, FirstLost, FirstTextFault, HasName, HasFormOf, HaveForms, HasForm, HasUnknownWord, HasBadOperand}
 pub use Rattle.assembler.specs.Faults.{IsOutOfRange, IsDoubleLabel, IsTooLong, HasWords, AreRight, FaultIn}
-pub use Rattle.assembler.specs.Forms.{kinds_of, IsOfKind, HaveKinds}
+pub use Rattle.assembler.specs.Forms.{kinds_of, HaveKinds}
 pub use Rattle.assembler.specs.Operands.{IsSmall, number_from, decimal_value}
 pub use Rattle.assembler.specs.Sheets.{AreFrom, with_zero, zeroed, IsSheet, lines_of, AreRead, find_in}
 pub use Rattle.assembler.specs.SheetsParts.{resolution, resolution_of, FirstLostPlace, Unresolved, fault_on_line}
@@ -33,6 +33,7 @@ pub use Rattle.std.proofs.lemmas.Bool.Decides.{nat_tests}
 pub use Rattle.std.proofs.lemmas.Int.{ints, to_z-of_z}
 pub use Rattle.std.proofs.lemmas.Iterator.Consumers.{map_from_collect, YieldsList-from_filter}
 pub use Rattle.std.proofs.lemmas.Iterator.Splits.{YieldsList-from_slice_split}
+pub use Rattle.std.proofs.lemmas.List.Folds.{list_any-append}
 pub use Rattle.std.proofs.lemmas.List.Sums.{sum_by-append, sum_by-cons}
 pub use Rattle.std.proofs.lemmas.Slice.Eq.{bytes_eq-Decides}
 pub use Rattle.std.specs.BTreeMap.{BTreeMap, get_by}

@@ -1,15 +1,15 @@
 -- Labels, looked up.
 use Rattle.std.proofs.Common.{◌≡◌, Bor, ℕ, suc, ◌+◌, ◌<◌, ◌≤◌, false, ℤ, pos, ◌+ℤ◌, ◌-ℤ◌, List, [], ◌∷◌, ◌++◌, length, map, take, drop, get_or, take-append-drop, Option, Some, None, Result, Ok, Err, IfErr, refl, sym, ap, ◌∙◌, subst, arith, FitsSigned, w16}
 use Rattle.assembler.proofs.Names.{drop-cons, bytes_eq, list_any, AllByRecursion, option_map, both_ways, nat_tests, sum_by-cons, ints, Insn, slots_of, Fits, slot_count, IsProgram, Word}
-use Rattle.assembler.proofs.Names.{mnemonic_name, mnemonic_of, operands_of, Line, Blank, Label, Statement, SaysInsn, SaysOperands, labels_in, slot_of, LeadsTo, Says, names_in, lines_in, Text}
+use Rattle.assembler.proofs.Names.{mnemonic_name, Line, Blank, Label, Statement, SaysInsn, labels_in, slot_of, LeadsTo, Says, names_in, lines_in, Text}
 use Rattle.assembler.proofs.Names.{Mnemonic, Draft, Whole, ToLabel, Place, Anywhere, OneOf, SaysFitting, AreRight, FirstLost, FirstTextFault, draft_slots, jump_over, Nowhere, At, IsDraft, SaysDraft}
 use Rattle.assembler.proofs.Names.{AreFrom, with_zero, zeroed, IsSheet, resolution, resolution_of, FirstLostPlace, Unresolved, AsmFault, UnknownLabel, Memory}
 use Rattle.insn.specs.SlotLaws.{slots_of_bounds}
 use Rattle.assembler.specs.declared.draft.Jump.{Jump}
 use Rattle.assembler.proofs.Refuted.{only_memory}
 use Rattle.assembler.proofs.Statements.{of_mnemonic}
-use Rattle.assembler.proofs.Texts.{operands_more, says_drafts, labels_named}
-use Rattle.assembler.proofs.SheetReading.{are_drafts, jump_slots, zero_slots, name_labelled, some_none}
+use Rattle.assembler.proofs.Texts.{says_drafts, labels_named}
+use Rattle.assembler.proofs.SheetReading.{are_drafts, jump_slots, zero_slots, name_labelled, said_by, some_none}
 
 -- ---- one place
 
@@ -29,29 +29,23 @@ pub record IsSaid (labels : List (Word × ℕ)) (behind slots : ℕ) (words : Li
   pub fit : Fits i
   pub takes : slots_of i ≡ slots
 
-said_by : (L M : Word → ℤ → Type 0) (m : Mnemonic) (ops : List Word) (i : Insn) → mnemonic_of i ≡ m → SaysOperands L (operands_of i) ops → ((w : Word) (d : ℤ) → L w d → M w d) → SaysInsn M i (mnemonic_name m ∷ ops)
-said_by L M m ops i e s more = (ap mnemonic_name (sym e), operands_more L M more (operands_of i) ops s)
-
 at_label : (labels : List (Word × ℕ)) (b t : ℕ) (name : Word) → slot_of labels name ≡ Some t → (w : Word) (d : ℤ) → At name (pos t -ℤ pos b) w d → LeadsTo labels b w d
 at_label labels b t name e w d k = (t, subst (λ (x : Word). slot_of labels x ≡ Some t) k.0 e, subst (λ (x : ℤ). pos t ≡ pos b +ℤ x) k.1 (there t b))
-
-label_said : (labels : List (Word × ℕ)) (find : Word → Option ℕ) (b : ℕ) (m : Mnemonic) (ops : List Word) (jump : Jump) (name : Bor Word) (i : Insn) (o : Option ℕ) → SaysDraft m ops (ToLabel jump name) → ((q : Word) → find q ≡ slot_of labels q) → ((q : Word) (t : ℕ) → find q ≡ Some t → t ≤ 4096) → b ≤ 4096 → find name.now ≡ o → option_map (λ to. jump_over jump (pos to -ℤ pos b)) o ≡ Some i → IsSaid labels b 1 (mnemonic_name m ∷ ops) i
-label_said labels find b m ops jump name i None h same low l f e = absurd (some_none (sym e))
-label_said labels find b m ops jump name i (Some t) h same low l f e =
-    let j = h.0 (pos t -ℤ pos b) (near t b (low name.now t f) l) in
-    subst (λ (x : Insn). IsSaid labels b 1 (mnemonic_name m ∷ ops) x) (some_same e) (record {
-      said = said_by (At name.now (pos t -ℤ pos b)) (LeadsTo labels b) m ops (jump_over jump (pos t -ℤ pos b)) j.named j.said (at_label labels b t name.now (sym (same name.now) ∙ f));
-      fit = j.fit;
-      takes = jump_slots jump (pos t -ℤ pos b);
-    })
 
 draft_said : (labels : List (Word × ℕ)) (find : Word → Option ℕ) (b : ℕ) (m : Mnemonic) (ops : List Word) (d : Draft) (i : Insn) → SaysDraft m ops d → ((q : Word) → find q ≡ slot_of labels q) → ((q : Word) (t : ℕ) → find q ≡ Some t → t ≤ 4096) → b ≤ 4096 → resolution_of find b d ≡ Some i → IsSaid labels b (draft_slots d) (mnemonic_name m ∷ ops) i
 draft_said labels find b m ops (Whole j) i h same low l e =
     subst (λ (x : Insn). IsSaid labels b (slots_of j) (mnemonic_name m ∷ ops) x) (some_same e) (record { said = said_by Nowhere (LeadsTo labels b) m ops j h.0 h.2 (λ w d k. absurd k); fit = h.1; takes = refl })
-draft_said labels find b m ops (ToLabel jump name) i h same low l e = label_said labels find b m ops jump name i (find name.now) h same low l refl e
-
-place_said : (labels : List (Word × ℕ)) (find : Word → Option ℕ) (words : List Word) (p : Place) (i : Insn) → IsDraft words p.draft → ((q : Word) → find q ≡ slot_of labels q) → ((q : Word) (t : ℕ) → find q ≡ Some t → t ≤ 4096) → p.behind.number ≤ 4096 → resolution find p ≡ Some i → IsSaid labels p.behind.number (draft_slots p.draft) words i
-place_said labels find words p i h same low l e = subst (λ (ws : List Word). IsSaid labels p.behind.number (draft_slots p.draft) ws i) (sym h.parts) (draft_said labels find p.behind.number h.mnemonic h.operands p.draft i h.said same low l e)
+draft_said labels find b m ops (ToLabel jump name) i h same low l e = by (find name.now) refl e
+  where
+    by : (o : Option ℕ) → find name.now ≡ o → option_map (λ to. jump_over jump (pos to -ℤ pos b)) o ≡ Some i → IsSaid labels b 1 (mnemonic_name m ∷ ops) i
+    by None f e = absurd (some_none (sym e))
+    by (Some t) f e =
+        let j = h.0 (pos t -ℤ pos b) (near t b (low name.now t f) l) in
+        subst (λ (x : Insn). IsSaid labels b 1 (mnemonic_name m ∷ ops) x) (some_same e) (record {
+          said = said_by (At name.now (pos t -ℤ pos b)) (LeadsTo labels b) m ops (jump_over jump (pos t -ℤ pos b)) j.named j.said (at_label labels b t name.now (sym (same name.now) ∙ f));
+          fit = j.fit;
+          takes = jump_slots jump (pos t -ℤ pos b);
+        })
 
 -- ---- all places
 
@@ -62,26 +56,22 @@ pub record AreSaid (labels : List (Word × ℕ)) (s : ℕ) (lines : List Line) (
   pub same_labels : labels_in s lines insns ≡ labels_in s lines (zeroed ps)
   pub same_count : slot_count insns ≡ slot_count (zeroed ps)
 
-first_same : (i : Insn) (is : List Insn) (o : Option Insn) (os : List (Option Insn)) → Some i ∷ map Some is ≡ o ∷ os → (o ≡ Some i) × (map Some is ≡ os)
-first_same i is o os e = (cc, cc)
-
-no_cons : {A : Type 0} {x : A} {xs : List A} → [] ≡ x ∷ xs → ⊥
-no_cons e = absurd cc
-
 pub are_said : (labels : List (Word × ℕ)) (find : Word → Option ℕ) → ((q : Word) → find q ≡ slot_of labels q) → ((q : Word) (t : ℕ) → find q ≡ Some t → t ≤ 4096) → (n s : ℕ) (lines : List Line) (ps : List Place) (insns : List Insn) → AreFrom n s lines ps → map Some insns ≡ map (resolution find) ps → AreSaid labels s lines ps insns
 are_said labels find same low n s [] [] [] h e = record { said = tt; fit = tt; same_labels = refl; same_count = refl }
-are_said labels find same low n s [] [] (i ∷ insns) h e = absurd (no_cons (sym e))
+are_said labels find same low n s [] [] (i ∷ insns) h e = absurd cc
 are_said labels find same low n s [] (p ∷ ps) insns h e = absurd h
 are_said labels find same low n s (Blank ∷ lines) ps insns h e =
     let k = are_said labels find same low (n + 1) s lines ps insns h e in record { said = k.said; fit = k.fit; same_labels = k.same_labels; same_count = k.same_count }
 are_said labels find same low n s (Label name ∷ lines) ps insns h e =
     let k = are_said labels find same low (n + 1) s lines ps insns h e in record { said = k.said; fit = k.fit; same_labels = ap (λ (x : List (Word × ℕ)). (name, s) ∷ x) k.same_labels; same_count = k.same_count }
 are_said labels find same low n s (Statement words ∷ lines) [] insns h e = absurd h
-are_said labels find same low n s (Statement words ∷ lines) (p ∷ ps) [] h e = absurd (no_cons e)
+are_said labels find same low n s (Statement words ∷ lines) (p ∷ ps) [] h e = absurd cc
 are_said labels find same low n s (Statement words ∷ lines) (p ∷ ps) (i ∷ insns) h e =
-    let parts = first_same i insns (resolution find p) (map (resolution find) ps) e in
-    let one = place_said labels find words p i h.0 same low p.behind.in_program parts.0 in
-    let k = are_said labels find same low (n + 1) p.behind.number lines ps insns h.3 parts.1 in
+    let here : resolution find p ≡ Some i = cc in
+    let rest : map Some insns ≡ map (resolution find) ps = cc in
+    let d = h.0 in
+    let one = subst (λ (ws : List Word). IsSaid labels p.behind.number (draft_slots p.draft) ws i) (sym d.parts) (draft_said labels find p.behind.number d.mnemonic d.operands p.draft i d.said same low p.behind.in_program here) in
+    let k = are_said labels find same low (n + 1) p.behind.number lines ps insns h.3 rest in
     let there : p.behind.number ≡ s + slots_of i = (let a = h.2 in let b = one.takes in omega arith) in
     let zero : p.behind.number ≡ s + slots_of (with_zero p.draft) = (let a = h.2 in let b = zero_slots p.draft in omega arith) in
     record {

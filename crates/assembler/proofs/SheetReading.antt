@@ -1,7 +1,7 @@
 -- Lines are read one by one.
-use Rattle.std.proofs.Common.{◌≡◌, ℕ, suc, ◌+◌, ◌<◌, ◌≤◌, true, false, Bool, cond, ℤ, pos, List, [], ◌∷◌, ◌++◌, length, map, take, drop, get_or, Option, Some, None, Err, Bor, is_some, take-append-drop, refl, sym, ap, ◌∙◌, subst, arith, append-nil, FitsSigned, w16}
-use Rattle.assembler.proofs.Names.{drop-cons, bytes_eq, list_any, option_map, nat_tests, bytes_eq-Decides, sum_by-cons, sum_by-append, ints, Insn, slots_of, Fits, slot_count, SLOT_LIMIT, Word}
-use Rattle.assembler.proofs.Names.{mnemonic_name, mnemonic_of, operands_of, Line, Blank, Label, Statement, SaysOperands, labels_in, slot_of, names_in, AllDiffer, line_of, words_in, If, W32, W64, Imm}
+use Rattle.std.proofs.Common.{◌≡◌, ℕ, suc, ◌+◌, ◌<◌, ◌≤◌, true, false, Bool, cond, ℤ, pos, List, [], ◌∷◌, ◌++◌, length, map, take, drop, get_or, Option, Some, None, Err, Bor, is_some, take-append-drop, refl, sym, ap, ◌∙◌, subst, arith, append-nil}
+use Rattle.assembler.proofs.Names.{drop-cons, bytes_eq, list_any, list_any-append, option_map, nat_tests, bytes_eq-Decides, sum_by-cons, sum_by-append, ints, Insn, slots_of, slot_count, SLOT_LIMIT, Word}
+use Rattle.assembler.proofs.Names.{mnemonic_name, mnemonic_of, operands_of, Line, Blank, Label, Statement, SaysInsn, SaysOperands, labels_in, slot_of, names_in, AllDiffer, line_of, words_in, If, W32, W64, Imm}
 use Rattle.assembler.proofs.Names.{Draft, Whole, ToLabel, SlotNumber, Place, Mnemonic, Anywhere, SaysFitting, Drafts, AreRight, FirstWrong, FaultIn, HasUnknownWord, HasBadOperand, IsOutOfRange}
 use Rattle.assembler.proofs.Names.{IsDoubleLabel, IsTooLong, draft_slots, jump_over, Nowhere, At, IsDraft, SaysDraft, StatementDraft, lines_of, AreFrom, with_zero, zeroed, AreRead, find_in}
 use Rattle.assembler.proofs.Names.{fault_on_line, slice_cmp, nat_cmp, BTreeMap, get_by}
@@ -15,20 +15,17 @@ pub some_none : {A : Type 0} {x : A} → Some x ≡ None → ⊥
 some_none e = absurd cc
 
 any_push : (x : Word) (ws : List Word) (w : Word) → list_any (bytes_eq x) ws ≡ false → bytes_eq x w ≡ false → list_any (bytes_eq x) (ws ++ w ∷ []) ≡ false
-any_push x [] w h k = rw k refl
-any_push x (y ∷ ws) w h k = let rest = any_push x ws w in grind (arith, nat_tests, h, k, rest)
+any_push x ws w h k = let e = list_any-append (bytes_eq x) ws (w ∷ []) in grind (arith, nat_tests, e, h, k)
 
 -- ---- drafts
 
-zero_fits : FitsSigned w16 (pos 0)
-zero_fits = omega (arith, ints)
-
-zeroed_by : (L : Word → ℤ → Type 0) (m : Mnemonic) (ops : List Word) (i : Insn) → mnemonic_of i ≡ m → Fits i → SaysOperands L (operands_of i) ops → ((w : Word) (d : ℤ) → L w d → Anywhere w d) → SaysFitting Anywhere i (mnemonic_name m ∷ ops)
-zeroed_by L m ops i e f s more = ((ap mnemonic_name (sym e), operands_more L Anywhere more (operands_of i) ops s), f)
+-- words behind a mnemonic say an instruction wherever names may lead further
+pub said_by : (L M : Word → ℤ → Type 0) (m : Mnemonic) (ops : List Word) (i : Insn) → mnemonic_of i ≡ m → SaysOperands L (operands_of i) ops → ((w : Word) (d : ℤ) → L w d → M w d) → SaysInsn M i (mnemonic_name m ∷ ops)
+said_by L M m ops i e s more = (ap mnemonic_name (sym e), operands_more L M more (operands_of i) ops s)
 
 zeroed_parts : (m : Mnemonic) (ops : List Word) (d : Draft) → SaysDraft m ops d → SaysFitting Anywhere (with_zero d) (mnemonic_name m ∷ ops)
-zeroed_parts m ops (Whole i) h = zeroed_by Nowhere m ops i h.0 h.1 h.2 (λ w d k. tt)
-zeroed_parts m ops (ToLabel jump name) h = let j = h.0 (pos 0) zero_fits in zeroed_by (At name.now (pos 0)) m ops (jump_over jump (pos 0)) j.named j.fit j.said (λ w d k. tt)
+zeroed_parts m ops (Whole i) h = (said_by Nowhere Anywhere m ops i h.0 h.2 (λ w d k. tt), h.1)
+zeroed_parts m ops (ToLabel jump name) h = let j = h.0 (pos 0) (omega (arith, ints)) in (said_by (At name.now (pos 0)) Anywhere m ops (jump_over jump (pos 0)) j.named j.said (λ w d k. tt), j.fit)
 
 pub zeroed_said : (words : List Word) (d : Draft) → IsDraft words d → SaysFitting Anywhere (with_zero d) words
 zeroed_said words d h = subst (λ (ws : List Word). SaysFitting Anywhere (with_zero d) ws) (sym h.parts) (zeroed_parts h.mnemonic h.operands d h.said)

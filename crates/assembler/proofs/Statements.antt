@@ -1,7 +1,7 @@
 -- Names and forms of the words of a line.
-use Rattle.std.proofs.Common.{◌≡◌, ◌≢◌, rules, ⊎_elim, inl, inr, pos, List, [], ◌∷◌, length, map, None, refl, sym, ap, ◌∙◌, subst, arith, Bor}
-use Rattle.assembler.proofs.Names.{W32, W64, Insn, Reg, Imm, Word, Operand, Register, Number, Target, name_of, operands_of, mnemonic_of, mnemonic_name, Mnemonic, Alu, Divide, Remainder, Negate}
-use Rattle.assembler.proofs.Names.{MoveSigned, SwapBytes, LoadWide, Load, LoadSigned, StoreReg, StoreImm, JumpLong, JumpIf, Exit, kinds_of, IsOfKind, HaveKinds, Anywhere, HasForm, HaveForms, HasName}
+use Rattle.std.proofs.Common.{◌≡◌, ◌≢◌, ⊎_elim, pos, List, [], ◌∷◌, length, map, None, refl, sym, ap, ◌∙◌, subst, arith, Bor}
+use Rattle.assembler.proofs.Names.{W32, W64, Insn, Reg, Imm, Word, name_of, operands_of, mnemonic_of, mnemonic_name, Mnemonic, Alu, Divide, Remainder, Negate}
+use Rattle.assembler.proofs.Names.{MoveSigned, SwapBytes, LoadWide, Load, LoadSigned, StoreReg, StoreImm, JumpLong, JumpIf, Exit, kinds_of, HaveKinds, Anywhere, HaveForms, HasName}
 use Rattle.assembler.proofs.Names.{HasFormOf, SaysFitting, DraftOf, insn_of, mnemonic_name-injective}
 use Rattle.insn.specs.declared.register.RegNo.TheVariants.{R0}
 use Rattle.insn.specs.declared.instruction.Insn.TheVariants as insn
@@ -13,49 +13,18 @@ use Rattle.assembler.specs.declared.form.OperandKind.TheVariants as kind
 pub of_mnemonic : (w : Word) (m : Mnemonic) (i : Insn) → w ≡ mnemonic_name m → w ≡ name_of i → mnemonic_of i ≡ m
 of_mnemonic w m i e h = mnemonic_name-injective (mnemonic_of i) m (sym h ∙ e)
 
--- the kinds of an instruction's operands
-abbrev FitsKind : OperandKind → Operand → Type 0
-FitsKind kind.Register (Register r) = Unit {0}
-FitsKind kind.Source (Register r) = Unit {0}
-FitsKind kind.Source (Number n) = Unit {0}
-FitsKind kind.Number (Number n) = Unit {0}
-FitsKind kind.Target (Target d) = Unit {0}
-FitsKind k o = ⊥
-
-abbrev FitKinds : List OperandKind → List Operand → Type 0
-FitKinds [] [] = Unit {0}
-FitKinds (k ∷ ks) (o ∷ os) = FitsKind k o × FitKinds ks os
-FitKinds ks os = ⊥
-
-fit_kinds : (i : Insn) → FitKinds (kinds_of (mnemonic_of i)) (operands_of i)
-fit_kinds (insn.Divide width signedness dst (Reg src)) = (tt, (tt, tt))
-fit_kinds (insn.Remainder width signedness dst (Reg src)) = (tt, (tt, tt))
-fit_kinds i = search rules
-
-kind_form : (k : OperandKind) (o : Operand) (w : Word) → FitsKind k o → HasForm o w → IsOfKind k w
-kind_form kind.Register (Register r) w f h = h
-kind_form kind.Source (Register r) w f h = inl h
-kind_form kind.Source (Number n) w f h = inr h
-kind_form kind.Number (Number n) w f h = h
-kind_form kind.Target (Target d) w f h = h
-kind_form k o w f h = absurd f
-
-kinds_form : (ks : List OperandKind) (os : List Operand) (ws : List Word) → FitKinds ks os → HaveForms os ws → HaveKinds ks ws
-kinds_form [] [] [] f h = tt
-kinds_form [] [] (w ∷ ws) f h = absurd h
-kinds_form [] (o ∷ os) ws f h = absurd f
-kinds_form (k ∷ ks) [] ws f h = absurd f
-kinds_form (k ∷ ks) (o ∷ os) [] f h = absurd h
-kinds_form (k ∷ ks) (o ∷ os) (w ∷ ws) f h = (kind_form k o w f.0 h.0, kinds_form ks os ws f.1 h.1)
+have_kinds : (i : Insn) (ws : List Word) → HaveForms (operands_of i) ws → HaveKinds (kinds_of (mnemonic_of i)) ws
+have_kinds (insn.Divide width signedness dst (Reg src)) ws h = grind (arith, h)
+have_kinds (insn.Remainder width signedness dst (Reg src)) ws h = grind (arith, h)
+have_kinds i ws h = grind (arith, h)
 
 pub have_kinds_of : (i : Insn) (m : Mnemonic) (ws : List Word) → mnemonic_of i ≡ m → HaveForms (operands_of i) ws → HaveKinds (kinds_of m) ws
-have_kinds_of i m ws e h = subst (λ (n : Mnemonic). HaveKinds (kinds_of n) ws) e (kinds_form (kinds_of (mnemonic_of i)) (operands_of i) ws (fit_kinds i) h)
+have_kinds_of i m ws e h = subst (λ (n : Mnemonic). HaveKinds (kinds_of n) ws) e (have_kinds i ws h)
 
 pub kinds_length : (ks : List OperandKind) (ws : List Word) → HaveKinds ks ws → length ws ≡ length ks
 kinds_length [] [] h = refl
-kinds_length [] (w ∷ ws) h = absurd h
-kinds_length (k ∷ ks) [] h = absurd h
 kinds_length (k ∷ ks) (w ∷ ws) h = let e = kinds_length ks ws h.1 in omega arith
+kinds_length ks ws h = absurd h
 
 -- an instruction of a mnemonic and the form of some words
 pub record Example (m : Mnemonic) (ws : List Word) : Type 0 where

@@ -1,6 +1,6 @@
 -- What lines say, and that a fault of theirs leaves nothing to say.
 use Rattle.std.proofs.Common.{◌≡◌, ◌⊎◌, ⊎_elim, inl, inr, ℕ, ◌+◌, true, ℤ, List, [], ◌∷◌, ◌++◌, Some, refl, sym, ap, arith}
-use Rattle.assembler.proofs.Names.{bytes_eq, list_any, AllByRecursion, nat_tests, bytes_eq-Decides, Insn, slots_of, Fits, Word, Operand, Register, Number, Target, operands_of, Line, Blank, Label}
+use Rattle.assembler.proofs.Names.{bytes_eq, list_any, list_any-append, AllByRecursion, nat_tests, bytes_eq-Decides, Insn, slots_of, Fits, Word, Operand, Register, Number, Target, operands_of, Line, Blank, Label}
 use Rattle.assembler.proofs.Names.{Statement, SaysOperand, SaysOperands, SaysInsn, labels_in, slot_of, LeadsTo, Says, names_in, AllDiffer, Drafts}
 
 -- ---- where names may lead further
@@ -66,8 +66,7 @@ names_append (Label name ∷ a) b = ap (λ (x : List Word). name ∷ x) (names_a
 names_append (Statement words ∷ a) b = names_append a b
 
 any_middle : (x name : Word) (a b : List Word) → bytes_eq x name ≡ true → list_any (bytes_eq x) (a ++ name ∷ b) ≡ true
-any_middle x name [] b h = rw h refl
-any_middle x name (y ∷ a) b h = let rest = any_middle x name a b h in grind (arith, nat_tests, rest)
+any_middle x name a b h = let e = list_any-append (bytes_eq x) a (name ∷ b) in grind (arith, nat_tests, e, h)
 
 -- a name that stands again
 pub not_differ : (name : Word) (a b : List Word) → list_any (bytes_eq name) a ≡ true → AllDiffer (a ++ name ∷ b) → ⊥

@@ -1,5 +1,5 @@
 -- A text says one program.
-use Rattle.std.proofs.Common.{◌≡◌, ℕ, ◌+◌, ◌+ℤ◌, ◌-ℤ◌, List, [], ◌∷◌, ℤ, pos, Some, refl, sym, ap, ap₂, ◌∙◌, subst}
+use Rattle.std.proofs.Common.{◌≡◌, ℕ, ◌+◌, ◌+ℤ◌, ◌-ℤ◌, List, [], ◌∷◌, ℤ, pos, Some, refl, sym, ap, ap₂, ◌∙◌, subst, arith}
 use Rattle.std.proofs.Math.IntN.{+ℤ-neg_ℤ_cancel, +ℤ_comm}
 use Rattle.std.specs.List.{AllByRecursion}
 use Rattle.insn.specs.declared.instruction.Insn.{Insn}
@@ -39,26 +39,22 @@ same_labels : (K L : List (Word × ℕ)) (slot : ℕ) (lines : List Line) (p q :
 same_labels K L slot [] p q a b = refl
 same_labels K L slot (Blank ∷ lines) p q a b = same_labels K L slot lines p q a b
 same_labels K L slot (Label name ∷ lines) p q a b = ap (λ (ls : List (Word × ℕ)). (name, slot) ∷ ls) (same_labels K L slot lines p q a b)
-same_labels K L slot (Statement words ∷ lines) [] q a b = absurd a
-same_labels K L slot (Statement words ∷ lines) (i ∷ p) [] a b = absurd b
 same_labels K L slot (Statement words ∷ lines) (i ∷ p) (j ∷ q) a b =
     let slots : slots_of j ≡ slots_of i = same_slots j i (same_name (LeadsTo L (slot + slots_of j)) (LeadsTo K (slot + slots_of i)) j i words b.0 a.0) in
     let there : Says L (slot + slots_of i) lines q = subst (λ (n : ℕ). Says L (slot + n) lines q) slots b.1 in
     same_labels K L (slot + slots_of i) lines p q a.1 there ∙ ap (λ (n : ℕ). labels_in (slot + n) lines q) (sym slots)
+same_labels K L slot lines p q a b = grind arith
 
 one_program : (labels : List (Word × ℕ)) (slot : ℕ) (lines : List Line) (p q : List Insn) → AllByRecursion Fits p → AllByRecursion Fits q → Says labels slot lines p → Says labels slot lines q → p ≡ q
 one_program labels slot [] [] [] f g a b = refl
-one_program labels slot [] [] (j ∷ q) f g a b = absurd b
-one_program labels slot [] (i ∷ p) q f g a b = absurd a
 one_program labels slot (Blank ∷ lines) p q f g a b = one_program labels slot lines p q f g a b
 one_program labels slot (Label name ∷ lines) p q f g a b = one_program labels slot lines p q f g a b
-one_program labels slot (Statement words ∷ lines) [] q f g a b = absurd a
-one_program labels slot (Statement words ∷ lines) (i ∷ p) [] f g a b = absurd b
 one_program labels slot (Statement words ∷ lines) (i ∷ p) (j ∷ q) f g a b =
     let slots : slots_of j ≡ slots_of i = same_slots j i (same_name (LeadsTo labels (slot + slots_of j)) (LeadsTo labels (slot + slots_of i)) j i words b.0 a.0) in
     let there : SaysInsn (LeadsTo labels (slot + slots_of i)) j words = subst (λ (n : ℕ). SaysInsn (LeadsTo labels (slot + n)) j words) slots b.0 in
     let more : Says labels (slot + slots_of i) lines q = subst (λ (n : ℕ). Says labels (slot + n) lines q) slots b.1 in
     ap₂ (λ (x : Insn) (xs : List Insn). x ∷ xs) (one_insn (LeadsTo labels (slot + slots_of i)) (leads_to_one labels (slot + slots_of i)) i j words f.0 g.0 a.0 there) (one_program labels (slot + slots_of i) lines p q f.1 g.1 a.1 more)
+one_program labels slot lines p q f g a b = grind arith
 
 -- a text says one program
 pub text_says_one : (text : List ℕ) (p q : List Insn) → Text text p → Text text q → p ≡ q

@@ -1,5 +1,5 @@
 -- Laws of the names of instructions: each says all of an instruction but its operands.
-use Rattle.std.proofs.Common.{◌≡◌, All, arith, rules, suc, ℕ, Bool, true, false, cond, List, [], ◌∷◌, map, ℤ, pos, negsuc, Option, Some, refl, sym, ap, ap₂, ◌∙◌, subst, FitsSigned, w16, w32}
+use Rattle.std.proofs.Common.{◌≡◌, All, arith, rules, suc, ℕ, Bool, true, false, cond, List, [], ◌∷◌, get_or, map, ℤ, pos, negsuc, Option, Some, refl, sym, ap, ap₂, ◌∙◌, subst, FitsSigned, w16, w32}
 use Rattle.std.specs.List.{find, AllByRecursion}
 use Rattle.std.specs.Str.{bytes_eq}
 use Rattle.insn.specs.declared.register.RegNo.{RegNo}
@@ -88,16 +88,13 @@ short_operands i fits =
 -- ---- a mnemonic and operands make an instruction
 
 abbrev first : List Operand → Operand
-first [] = Register R0
-first (o ∷ operands) = o
+first os = get_or os 0 (Register R0)
 
 abbrev second : List Operand → Operand
-second [] = Register R0
-second (o ∷ operands) = first operands
+second os = get_or os 1 (Register R0)
 
 abbrev third : List Operand → Operand
-third [] = Register R0
-third (o ∷ operands) = second operands
+third os = get_or os 2 (Register R0)
 
 abbrev the_register : Operand → RegNo
 the_register (Register r) = r
@@ -114,14 +111,12 @@ the_natural (negsuc n) = 0
 
 abbrev the_source : Operand → Source
 the_source (Register r) = Reg r
-the_source (Number n) = Imm n
-the_source (Target d) = Imm d
+the_source o = Imm (the_number o)
 
 -- one of two instructions, by whether the second operand is a register
 abbrev by_source : Operand → (RegNo → Insn) → (ℤ → Insn) → Insn
 by_source (Register r) of_register of_number = of_register r
-by_source (Number n) of_register of_number = of_number n
-by_source (Target d) of_register of_number = of_number d
+by_source o of_register of_number = of_number (the_number o)
 
 abbrev pub insn_of : Mnemonic → List Operand → Insn
 insn_of (mnemonic.Alu W64 op) os = by_source (second os) (λ src. Alu64Reg op (the_register (first os)) src) (λ imm. Alu64Imm op (the_register (first os)) imm)

@@ -1,6 +1,7 @@
 -- Laws of the words of operands: which bytes they have, and that each says one operand.
 use Rattle.std.proofs.Common.{◌≡◌, ℕ, suc, ◌+◌, ◌%◌, ◌^◌, ◌<◌, ◌≤◌, Bool, true, false, not, ◌&&◌, ◌||◌, ◌==◌, List, [], ◌∷◌, length, drop, ℤ, pos, negsuc, Option, Some, map, ◌⊎◌, inl, inr, refl, sym, ap, ap₂, ◌∙◌, arith, FitsSigned}
-use Rattle.std.proofs.lemmas.Bool.{and_parts, and_from, not-true, not_from_false, false≢true, ne_eqb, le-leb, leb-true, or_from}
+use Rattle.std.proofs.lemmas.Bool.{and_parts, and_from}
+use Rattle.std.proofs.lemmas.Bool.Decides.{nat_tests}
 use Rattle.std.proofs.lemmas.List.Folds.{list_all-append}
 use Rattle.std.proofs.lemmas.Fmt.{decimal_by_steps, decimal_nonempty, decimal_injective}
 use Rattle.std.specs.Fmt.{decimal, signed_decimal}
@@ -22,36 +23,25 @@ pub record Plain (c : ℕ) : Type 0 where
   pub no_colon : (c == 58) ≡ false
 
 pub plain_code : (c : ℕ) → is_plain c ≡ true → Plain c
-plain_code c h =
-    let a = and_parts (not (c == 10)) (not (c == 59) && (not (c == 32 || c == 9) && not (c == 58))) h in
-    let b = and_parts (not (c == 59)) (not (c == 32 || c == 9) && not (c == 58)) a.1 in
-    let d = and_parts (not (c == 32 || c == 9)) (not (c == 58)) b.1 in
-    record { no_feed = not-true (c == 10) a.0; no_comment = not-true (c == 59) b.0; no_space = not-true (c == 32 || c == 9) d.0; no_colon = not-true (c == 58) d.1 }
+plain_code c h = record { no_feed = grind arith; no_comment = grind arith; no_space = grind arith; no_colon = grind arith }
 
 pub plain_between : (c : ℕ) → 43 ≤ c → c < 58 → is_plain c ≡ true
-plain_between c low high =
-    and_from _ _ (not_from_false _ (ne_eqb c 10 (λ e. omega arith)))
-    (and_from _ _ (not_from_false _ (ne_eqb c 59 (λ e. omega arith)))
-    (and_from _ _ (not_from_false _ (or_from _ _ (ne_eqb c 32 (λ e. omega arith)) (ne_eqb c 9 (λ e. omega arith))))
-    (not_from_false _ (ne_eqb c 58 (λ e. omega arith)))))
+plain_between c low high = grind (arith, nat_tests)
 
 pub list_all-imp : {X : Type 0} (p q : X → Bool) → ((x : X) → p x ≡ true → q x ≡ true) → (xs : List X) → list_all p xs ≡ true → list_all q xs ≡ true
 list_all-imp p q imp [] h = refl
-list_all-imp p q imp (x ∷ xs) h = let parts = and_parts (p x) (list_all p xs) h in and_from _ _ (imp x parts.0) (list_all-imp p q imp xs parts.1)
+list_all-imp p q imp (x ∷ xs) h = let here = imp x in let rest = list_all-imp p q imp xs in grind (arith, here, rest)
 
 -- ---- digits
 
-digit : (c : ℕ) → 48 ≤ c → c ≤ 57 → is_digit c ≡ true
-digit c low high = and_from _ _ (le-leb 48 c low) (le-leb c 57 high)
-
 pub digit_bounds : (c : ℕ) → is_digit c ≡ true → (48 ≤ c) × (c ≤ 57)
-digit_bounds c h = let parts = and_parts _ _ h in (leb-true 48 c parts.0, leb-true c 57 parts.1)
+digit_bounds c h = (grind (arith, nat_tests), grind (arith, nat_tests))
 
 -- a decimal number is digits
 pub decimal_digits : (n : ℕ) → n < 2 ^ 64 → list_all is_digit (decimal n) ≡ true
 decimal_digits = decimal_by_steps (λ n ds. list_all is_digit ds ≡ true)
-    (λ n small. and_from _ _ (digit (48 + n) (omega arith) (omega arith)) refl)
-    (λ n ds large h. list_all-append is_digit ds ((48 + n % 10) ∷ []) ∙ and_from _ _ h (and_from _ _ (digit (48 + n % 10) (omega arith) (omega arith)) refl))
+    (λ n small. grind (arith, nat_tests))
+    (λ n ds large h. let all = list_all-append is_digit ds ((48 + n % 10) ∷ []) in grind (arith, nat_tests, all))
 
 -- a word that begins with this byte
 pub record Begins (word : Word) : Type 0 where
@@ -81,12 +71,10 @@ IsShortOperand (Number n) = IsShortNumber n
 IsShortOperand (Target d) = IsShortNumber d
 
 pub short_of_16 : (z : ℤ) → FitsSigned w16 z → IsShortNumber z
-short_of_16 (pos n) h = omega arith
-short_of_16 (negsuc n) h = omega arith
+short_of_16 z h = grind arith
 
 pub short_of_32 : (z : ℤ) → FitsSigned w32 z → IsShortNumber z
-short_of_32 (pos n) h = omega arith
-short_of_32 (negsuc n) h = omega arith
+short_of_32 z h = grind arith
 
 -- ---- words are plain_code
 
@@ -97,7 +85,7 @@ pub record PlainWord (word : Word) : Type 0 where
 plain_digits : (word : Word) → 0 < length word → list_all is_digit word ≡ true → PlainWord word
 plain_digits [] some digits = absurd (omega arith)
 plain_digits (c ∷ more) some digits = record {
-  bytes = list_all-imp is_digit is_plain (λ d h. let bounds = digit_bounds d h in let low : 48 ≤ d = bounds.0 in let high : d ≤ 57 = bounds.1 in plain_between d (omega arith) (omega arith)) (c ∷ more) digits;
+  bytes = list_all-imp is_digit is_plain (λ d h. grind (arith, nat_tests)) (c ∷ more) digits;
   some = refl;
 }
 
@@ -108,8 +96,7 @@ plain_after : (c : ℕ) (word : Word) → is_plain c ≡ true → PlainWord word
 plain_after c word here h = record { bytes = and_from _ _ here h.bytes; some = refl }
 
 pub reg_number_small : (r : RegNo) → reg_number r ≤ 10
-reg_number_small R0 = omega arith
-reg_number_small r = omega arith
+reg_number_small r = grind arith
 
 reg_number_short : (r : RegNo) → reg_number r < 2 ^ 64
 reg_number_short r = omega (arith, reg_number_small r)
@@ -138,8 +125,7 @@ abbrev register_at : ℕ → Option RegNo
 register_at n = find (λ r. reg_number r == n) (R0 ∷ R1 ∷ R2 ∷ R3 ∷ R4 ∷ R5 ∷ R6 ∷ R7 ∷ R8 ∷ R9 ∷ R10 ∷ [])
 
 register_found : (r : RegNo) → register_at (reg_number r) ≡ Some r
-register_found R0 = refl
-register_found r = refl
+register_found r = grind arith
 
 pub reg_number-injective : (r s : RegNo) → reg_number r ≡ reg_number s → r ≡ s
 reg_number-injective r s e = let both : Some r ≡ Some s = sym (register_found r) ∙ ap register_at e ∙ register_found s in cc
@@ -152,10 +138,7 @@ pub decimal-ne : (c n : ℕ) (word : Word) → (c < 48) ⊎ (57 < c) → n < 2 ^
 decimal-ne c n word out short e =
     let b = decimal_begins n short in
     let same : b.0.first ∷ b.0.more ≡ c ∷ word = sym b.0.is ∙ e in
-    let here : b.0.first ≡ c = cc in
-    let low : 48 ≤ b.0.first = b.1 in
-    let high : b.0.first ≤ 57 = b.2 in
-    omega arith
+    grind (arith, same, b.1, b.2)
 
 pub signed_decimal-injective : (y z : ℤ) → IsShortNumber y → IsShortNumber z → signed_decimal y ≡ signed_decimal z → y ≡ z
 signed_decimal-injective (pos m) (pos n) p q e = ap pos (decimal_injective m n p q e)
@@ -165,8 +148,7 @@ signed_decimal-injective (negsuc m) (negsuc n) p q e = ap negsuc (omega (arith, 
 
 -- words that begin with unlike bytes differ
 pub other_first : (c d : ℕ) (word other : Word) → (c < d) ⊎ (d < c) → c ∷ word ≡ d ∷ other → ⊥
-other_first c d word other (inl below) e = let same : c ≡ d = cc in omega arith
-other_first c d word other (inr above) e = let same : c ≡ d = cc in omega arith
+other_first c d word other apart e = let same : c ≡ d = cc in grind arith
 
 pub distance_word-injective : (y z : ℤ) → IsShortNumber y → IsShortNumber z → distance_word y ≡ distance_word z → y ≡ z
 distance_word-injective (pos m) (pos n) p q e = ap pos (decimal_injective m n p q (ap (drop 1) e))
@@ -181,8 +163,7 @@ register_is_no_number r (negsuc n) short e = other_first 114 45 (decimal (reg_nu
 
 -- no distance is a name
 pub distance_is_no_name : (z : ℤ) → is_name (distance_word z) ≡ false
-distance_is_no_name (pos n) = refl
-distance_is_no_name (negsuc n) = refl
+distance_is_no_name z = grind arith
 
 -- whether an operand is a jump's target
 abbrev pub is_target : Operand → Bool
@@ -197,14 +178,8 @@ LeadsToOne Leads = (name : Word) (d e : ℤ) → Leads name d → Leads name e �
 abbrev SaysTarget : (Word → ℤ → Type 0) → Word → ℤ → Type 0
 SaysTarget Leads word d = (word ≡ distance_word d) ⊎ ((is_name word ≡ true) × Leads word d)
 
-no_name : (word : Word) (d : ℤ) → word ≡ distance_word d → is_name word ≡ true → ⊥
-no_name word d e named = false≢true (sym (distance_is_no_name d) ∙ ap is_name (sym e) ∙ named)
-
 one_target : (Leads : Word → ℤ → Type 0) → LeadsToOne Leads → (word : Word) (d e : ℤ) → IsShortNumber d → IsShortNumber e → SaysTarget Leads word d → SaysTarget Leads word e → d ≡ e
-one_target Leads one word d e p q (inl s) (inl t) = distance_word-injective d e p q (sym s ∙ t)
-one_target Leads one word d e p q (inl s) (inr t) = absurd (no_name word d s t.0)
-one_target Leads one word d e p q (inr s) (inl t) = absurd (no_name word e t s.0)
-one_target Leads one word d e p q (inr s) (inr t) = one word d e s.1 t.1
+one_target Leads one word d e p q s t = grind (arith, distance_is_no_name, distance_word-injective d e p q, one word d e)
 
 -- a word says one operand, where it is known whether that is a target
 pub one_operand : (Leads : Word → ℤ → Type 0) → LeadsToOne Leads → (word : Word) (o u : Operand) → IsShortOperand o → IsShortOperand u → is_target o ≡ is_target u → SaysOperand Leads o word → SaysOperand Leads u word → o ≡ u

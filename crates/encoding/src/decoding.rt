@@ -1,11 +1,10 @@
 //! Programs from bytes.
 
-ghost use Rattle.std.specs.Prelude.{◌≡◌, ◌≢◌, ◌/◌, ◌<◌, ◌≤◌, ◌↔◌, List, [], ◌∷◌, IfOk, IfErr, MatchResult, true, false, pos};
+ghost use Rattle.std.specs.Prelude.{◌≡◌, ◌≢◌, ◌/◌, ◌<◌, ◌≤◌, ◌⊎◌, List, [], ◌∷◌, IfOk, IfErr, MatchResult, true, false, pos};
 ghost use Rattle.std.specs.Int.{w32, cast_signed};
-ghost use Rattle.std.specs.List.{AllByRecursion};
 ghost use Rattle.insn.specs.declared.instruction.Insn.{Insn};
 ghost use Rattle.insn.specs.Instruction.{reg_number};
-ghost use Rattle.encoding.specs.Spelling.{imm_opcode, jump_imm_opcode, jump_reg_opcode, load_opcode, load_signed_opcode, op_code, refused_as, reg_opcode, signedness_code, slot, slot_bytes, slots, store_imm_opcode, store_reg_opcode, swap_opcode, DIVIDE, EXIT, FirstInsnFault, IsSlot, IsWhole, JUMP, JUMP_LONG, LOAD_WIDE, NEGATE, REMAINDER, Spells};
+ghost use Rattle.encoding.specs.Spelling.{imm_opcode, jump_imm_opcode, jump_reg_opcode, load_opcode, load_signed_opcode, op_code, refused_as, reg_opcode, signedness_code, slot, slot_bytes, slots, store_imm_opcode, store_reg_opcode, swap_opcode, DIVIDE, EXIT, FirstInsnFault, IsWhole, JUMP, JUMP_LONG, LOAD_WIDE, NEGATE, REMAINDER, Spells};
 ghost use Rattle.encoding.specs.Opcodes.{allows, code_row, cond_codes, op_codes, field_fault, fields_of, imm_fields, is_bad_second, memory_fields, move_offsets, reg_fields, slot_fault, uses, BeginsWith, IsRead, IsRow, OneOf, Unused, Used};
 
 use crate::codes::{cond_of, op_of};
@@ -132,8 +131,7 @@ fn operation_imm(width: Width, slot: Slot) -> Result<Insn, SlotFault>
     ensures { IsRead result slot (slot_fault slot []) }
 {
     match slot.opcode / 16 {
-        0x3 => divide_imm(width, slot),
-        0x9 => remainder_imm(width, slot),
+        0x3 | 0x9 => divide_imm(width, slot),
         0x8 => negate(width, slot),
         0xd => match width {
             Width::W32 => swap_bytes(SwapKind::ToLittle, slot),
@@ -149,8 +147,7 @@ fn operation_reg(width: Width, slot: Slot) -> Result<Insn, SlotFault>
     ensures { IsRead result slot (slot_fault slot []) }
 {
     match slot.opcode / 16 {
-        0x3 => divide_reg(width, slot),
-        0x9 => remainder_reg(width, slot),
+        0x3 | 0x9 => divide_reg(width, slot),
         0xb => move_reg(width, slot),
         0xd => match width {
             Width::W32 => swap_bytes(SwapKind::ToBig, slot),
@@ -247,70 +244,54 @@ fn move_reg(width: Width, slot: Slot) -> Result<Insn, SlotFault>
     })
 }
 
-/// A division by a number.
+/// A division by a number, or its remainder.
 fn divide_imm(width: Width, slot: Slot) -> Result<Insn, SlotFault>
-    requires { slot.opcode ≡ imm_opcode width DIVIDE }
+    requires { (slot.opcode ≡ imm_opcode width DIVIDE) ⊎ (slot.opcode ≡ imm_opcode width REMAINDER) }
     ensures { IsRead result slot (field_fault (uses Used Unused (OneOf (0 ∷ 1 ∷ [])) Used) slot) }
 {
     let dst = register(slot.dst)?;
     only_if(slot.src == 0)?;
     let signedness = signedness(slot.offset)?;
-    Ok(Insn::Divide {
-        width,
-        signedness,
-        dst,
-        operand: Operand::Imm(slot.imm),
-    })
+    let operand = Operand::Imm(slot.imm);
+    match slot.opcode / 16 {
+        0x3 => Ok(Insn::Divide {
+            width,
+            signedness,
+            dst,
+            operand,
+        }),
+        _ => Ok(Insn::Remainder {
+            width,
+            signedness,
+            dst,
+            operand,
+        }),
+    }
 }
 
-/// A division by a register.
+/// A division by a register, or its remainder.
 fn divide_reg(width: Width, slot: Slot) -> Result<Insn, SlotFault>
-    requires { slot.opcode ≡ reg_opcode width DIVIDE }
+    requires { (slot.opcode ≡ reg_opcode width DIVIDE) ⊎ (slot.opcode ≡ reg_opcode width REMAINDER) }
     ensures { IsRead result slot (field_fault (uses Used Used (OneOf (0 ∷ 1 ∷ [])) Unused) slot) }
 {
     let dst = register(slot.dst)?;
     let operand = Operand::Reg(register(slot.src)?);
     only_if(slot.imm == 0)?;
     let signedness = signedness(slot.offset)?;
-    Ok(Insn::Divide {
-        width,
-        signedness,
-        dst,
-        operand,
-    })
-}
-
-/// The remainder of a division by a number.
-fn remainder_imm(width: Width, slot: Slot) -> Result<Insn, SlotFault>
-    requires { slot.opcode ≡ imm_opcode width REMAINDER }
-    ensures { IsRead result slot (field_fault (uses Used Unused (OneOf (0 ∷ 1 ∷ [])) Used) slot) }
-{
-    let dst = register(slot.dst)?;
-    only_if(slot.src == 0)?;
-    let signedness = signedness(slot.offset)?;
-    Ok(Insn::Remainder {
-        width,
-        signedness,
-        dst,
-        operand: Operand::Imm(slot.imm),
-    })
-}
-
-/// The remainder of a division by a register.
-fn remainder_reg(width: Width, slot: Slot) -> Result<Insn, SlotFault>
-    requires { slot.opcode ≡ reg_opcode width REMAINDER }
-    ensures { IsRead result slot (field_fault (uses Used Used (OneOf (0 ∷ 1 ∷ [])) Unused) slot) }
-{
-    let dst = register(slot.dst)?;
-    let operand = Operand::Reg(register(slot.src)?);
-    only_if(slot.imm == 0)?;
-    let signedness = signedness(slot.offset)?;
-    Ok(Insn::Remainder {
-        width,
-        signedness,
-        dst,
-        operand,
-    })
+    match slot.opcode / 16 {
+        0x3 => Ok(Insn::Divide {
+            width,
+            signedness,
+            dst,
+            operand,
+        }),
+        _ => Ok(Insn::Remainder {
+            width,
+            signedness,
+            dst,
+            operand,
+        }),
+    }
 }
 
 /// A negation.

@@ -34,15 +34,10 @@ hook_names_without name hooks are = record {
   each = subst (λ (names : List (List ℕ)). All IsHookName names) (sym (names_without name hooks)) (All-filter (λ other. not (bytes_eq name other)) IsHookName (hook_names hooks) are.each);
 }
 
-found_at : (name : List ℕ) (names : List (List ℕ)) → Contains names name → list_any (bytes_eq name) names ≡ true
-found_at name names there = list_any-from_Any (bytes_eq name) names (there.0, name, there.1, there.2, (bytes_eq-Decides name name).1 refl)
-
 -- a hook has a name that is among theirs
 pub named_of_contains : (name : List ℕ) (hooks : List Named) → Contains (hook_names hooks) name → has_name hooks name ≡ true
-named_of_contains name hooks there = named_among name hooks ∙ found_at name (hook_names hooks) there
-
-none_left : (name : List ℕ) (hooks : List Named) → hooks ≡ [] → without_name name hooks ≡ []
-none_left name hooks none = rw none refl
+named_of_contains name hooks there =
+    named_among name hooks ∙ list_any-from_Any (bytes_eq name) (hook_names hooks) (there.0, name, there.1, there.2, (bytes_eq-Decides name name).1 refl)
 
 -- the others have names and room
 pub holds_without : (name : List ℕ) (hooks : List Named) (capacity : ℕ) → HoldsAll hooks capacity → HoldsAll (without_name name hooks) capacity
@@ -51,7 +46,7 @@ holds_without name hooks capacity holds = record {
   room = by_room holds.room;
 } where
   by_room : (hooks ≡ []) ⊎ (hook_limit ≤ capacity) → (without_name name hooks ≡ []) ⊎ (hook_limit ≤ capacity)
-  by_room (inl none) = inl (none_left name hooks none)
+  by_room (inl none) = inl (rw none refl)
   by_room (inr room) = inr room
 
 -- and so have the hooks with one more that is accepted

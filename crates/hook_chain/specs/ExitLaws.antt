@@ -25,21 +25,19 @@ module _ (layout : Layout) (program : List Insn) where
   first_step zero c = sym (bind_itself (step layout program c))
   first_step (suc n) c = ap (λ (o : Option Config). o >>= step layout program) (first_step n c) ∙ bind_twice (step layout program c) (steps layout program n) (step layout program)
 
+  -- what goes on does not exit
+  no_exit : (c next : Config) → step layout program c ≡ Some next → exit_at layout program c ≡ None
+  no_exit c next there = by (exit_at layout program c) refl where
+    by : (o : Option ℕ) → exit_at layout program c ≡ o → o ≡ None
+    by None e = refl
+    by (Some r) e = let none = exit_ends layout program c r e in absurd cc
+
   exit_found : (k n : ℕ) (c last : Config) (r0 : ℕ) → steps layout program k c ≡ Some last → exit_at layout program last ≡ Some r0 → k < n → exit_within layout program n c ≡ Some (record { r0 = r0; bytes = last.state.bytes })
   exit_found k zero c last r0 there exits few = absurd (omega arith)
-  exit_found zero (suc n) c last r0 there exits few =
-      let same : c ≡ last = cc in
-      let here : exit_at layout program c ≡ Some r0 = rw same exits in
-      ap (λ (o : Option ℕ). exit_or o c.state.bytes (step layout program c >>= exit_within layout program n)) here ∙ ap (λ (d : Config). Some (record { r0 = r0; bytes = d.state.bytes })) same
+  exit_found zero (suc n) c last r0 there exits few = let same : c ≡ last = cc in rw (same, exits) refl
   exit_found (suc k) (suc n) c last r0 there exits few =
       let d = bind_some (step layout program c) (steps layout program k) last (sym (first_step k c) ∙ there) in
-      go (exit_at layout program c) refl d (exit_found k n d.0 last r0 d.2 exits (omega arith)) where
-        go : (o : Option ℕ) → exit_at layout program c ≡ o → (d : (d : Config) × (step layout program c ≡ Some d) × (steps layout program k d ≡ Some last)) → exit_within layout program n d.0 ≡ Some (record { r0 = r0; bytes = last.state.bytes }) → exit_within layout program (suc n) c ≡ Some (record { r0 = r0; bytes = last.state.bytes })
-        go (Some r) e d later = let none = exit_ends layout program c r e in let some = d.1 in absurd cc
-        go None e d later =
-            ap (λ (o : Option ℕ). exit_or o c.state.bytes (step layout program c >>= exit_within layout program n)) e
-            ∙ ap (λ (o : Option Config). o >>= exit_within layout program n) d.1
-            ∙ later
+      rw (no_exit c d.0 d.1, d.1) (exit_found k n d.0 last r0 d.2 exits (omega arith))
 
   -- a run exits as the relation of steps says, and no later than it may
   pub run_exit : (bytes after : List ℕ) (r0 count : ℕ) → IsExit layout program bytes r0 count after → count ≤ length program → exit_within layout program (length program) (start bytes) ≡ Some (record { r0 = r0; bytes = after })
@@ -55,36 +53,24 @@ module _ (layout : Layout) (program : List Insn) where
     exits : exit_at layout program last ≡ Some exit.r0
     left : last.state.bytes ≡ exit.bytes
 
-  found_here : (n : ℕ) (c : Config) (exit : Exit) (r0 : ℕ) → exit_at layout program c ≡ Some r0 → exit_within layout program (suc n) c ≡ Some exit → Found c exit
-  found_here n c exit r0 here is =
-      let e : Some (record { r0 = r0; bytes = c.state.bytes }) ≡ Some exit = sym (ap (λ (o : Option ℕ). exit_or o c.state.bytes (step layout program c >>= exit_within layout program n)) here) ∙ is in
-      let same : record { r0 = r0; bytes = c.state.bytes } ≡ exit = cc in
-      record {
-        before = 0;
-        last = c;
-        reached = refl;
-        exits = here ∙ ap (λ (x : Exit). Some x.r0) same;
-        left = ap (λ (x : Exit). x.bytes) same;
-      }
-
-  found_later : (n : ℕ) (c d : Config) (exit : Exit) → step layout program c ≡ Some d → Found d exit → Found c exit
-  found_later n c d exit there later = record {
-    before = suc later.before;
-    last = later.last;
-    reached = first_step later.before c ∙ ap (λ (o : Option Config). o >>= steps layout program later.before) there ∙ later.reached;
-    exits = later.exits;
-    left = later.left;
-  }
-
   found : (n : ℕ) (c : Config) (exit : Exit) → exit_within layout program n c ≡ Some exit → Found c exit
   found zero c exit is = absurd cc
-  found (suc n) c exit is = go (exit_at layout program c) refl (found n) where
-    go : (o : Option ℕ) → exit_at layout program c ≡ o → ((d : Config) (exit : Exit) → exit_within layout program n d ≡ Some exit → Found d exit) → Found c exit
-    go (Some r0) here ahead = found_here n c exit r0 here is
-    go None here ahead =
-        let later : (step layout program c >>= exit_within layout program n) ≡ Some exit = sym (ap (λ (o : Option ℕ). exit_or o c.state.bytes (step layout program c >>= exit_within layout program n)) here) ∙ is in
-        let d = bind_some (step layout program c) (exit_within layout program n) exit later in
-        found_later n c d.0 exit d.1 (ahead d.0 exit d.2)
+  found (suc n) c exit is = go (exit_at layout program c) refl is (found n) where
+    go : (o : Option ℕ) → exit_at layout program c ≡ o → exit_or o c.state.bytes (step layout program c >>= exit_within layout program n) ≡ Some exit
+        → ((d : Config) (exit : Exit) → exit_within layout program n d ≡ Some exit → Found d exit) → Found c exit
+    go (Some r0) here is ahead =
+        let same : record { r0 = r0; bytes = c.state.bytes } ≡ exit = cc in
+        record { before = 0; last = c; reached = refl; exits = rw (← same) here; left = rw (← same) refl }
+    go None here is ahead =
+        let d = bind_some (step layout program c) (exit_within layout program n) exit is in
+        let later = ahead d.0 exit d.2 in
+        record {
+          before = suc later.before;
+          last = later.last;
+          reached = first_step later.before c ∙ ap (λ (o : Option Config). o >>= steps layout program later.before) d.1 ∙ later.reached;
+          exits = later.exits;
+          left = later.left;
+        }
 
   run_of_exit : (bytes : List ℕ) (exit : Exit) → exit_within layout program (length program) (start bytes) ≡ Some exit → IsRunTo layout program bytes exit
   run_of_exit bytes exit is =

@@ -1,5 +1,4 @@
 pub mod Numbers
-pub mod Passing
 pub mod Writing
 pub mod Runs
 pub mod Telling

@@ -3,7 +3,7 @@ pub use Rattle.insn.specs.Effects.{Falls, Jumps, Exits}
 pub use Rattle.insn.specs.Instruction.{slots_of, size_bytes}
 pub use Rattle.insn.specs.Jumps.{target}
 pub use Rattle.insn.specs.Memory.{low_bytes, written, value_in}
-pub use Rattle.insn.specs.Outcomes.{Tested, and_then, passed, effect, access_place, loaded, value_at}
+pub use Rattle.insn.specs.Outcomes.{passed, effect, access_place, loaded, value_at}
 pub use Rattle.insn.specs.Program.{begins_at, places, slot_count}
 pub use Rattle.insn.specs.Step.{IsStuckAt, Reaches, IsExit, IsStuck, steps}
 pub use Rattle.insn.specs.Values.{◌>>=◌, State, Config, entry, start, record_size, STACK_SIZE, at as pointer_at}

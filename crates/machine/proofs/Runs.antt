@@ -4,19 +4,19 @@ use Rattle.machine.proofs.Names.{Insn, Layout, slots_of, begins_at, places, slot
 use Rattle.insn.specs.SlotLaws.{slots_of_bounds}
 use Rattle.insn.specs.RunLaws.{StandsAt, begins_here, begins_nowhere, stands_behind, stands_further, stands_inside, target_along, first_rest, step_falls, step_jumps, stuck_effect, stuck_jump, exits_here, stuck_past, run_goes_on}
 
+inside_at : (program : List Insn) (slot : ℕ) (rest : List Insn) → StandsAt program slot rest → 1 ≤ length rest → slot < slot_count program
+inside_at program slot [] at some = absurd (omega arith)
+inside_at program slot (i ∷ rest) at some = stands_inside program slot i rest at
+
 -- n steps lead to this slot and state, and this is the rest of the program there
 pub record IsAt (layout : Layout) (program : List Insn) (bytes : List ℕ) (slot n : ℕ) (rest : List Insn) (s : State) : Type 0 where
   pub stands : StandsAt program slot rest
+  pub inside : 1 ≤ length rest → slot < slot_count program
   pub few : n ≤ slot
   pub reached : Reaches layout program bytes n (record { slot = slot; state = s })
 
 pub at_entry : (layout : Layout) (program : List Insn) (bytes : List ℕ) → IsAt layout program bytes 0 0 program (entry bytes)
-at_entry layout program bytes = record { stands = record { same = refl }; few = omega arith; reached = refl }
-
--- a slot with something behind it is inside the program
-pub inside : {layout : Layout} {program : List Insn} {bytes : List ℕ} {slot n : ℕ} {rest : List Insn} {s : State} → 1 ≤ length rest → IsAt layout program bytes slot n rest s → slot < slot_count program
-inside {rest = []} some h = absurd (omega arith)
-inside {program = program} {slot = slot} {rest = i ∷ after} some h = stands_inside program slot i after h.stands
+at_entry layout program bytes = record { stands = record { same = refl }; inside = inside_at program 0 program (record { same = refl }); few = omega arith; reached = refl }
 
 -- behind the last instruction the run is stuck
 pub stuck_behind : {layout : Layout} {program : List Insn} {bytes : List ℕ} {slot n : ℕ} {rest : List Insn} {s : State} → length rest < 1 → IsAt layout program bytes slot n rest s → IsStuck layout program bytes slot s.bytes
@@ -61,6 +61,7 @@ module _ {layout : Layout} {program : List Insn} {bytes : List ℕ} {slot n : �
   pub falls : (s' : State) → effect layout first s ≡ Some (Falls s') → IsAt layout program bytes (slot + slots_of first) (n + 1) others s'
   falls s' e = record {
     stands = behind;
+    inside = inside_at program (slot + slots_of first) others behind;
     few = let b = slots_of_bounds first in omega (arith, h.few);
     reached = run_goes_on layout program bytes n here (record { slot = slot + slots_of first; state = s' }) h.reached (step_falls layout program slot s first begins s' e);
   }
@@ -68,8 +69,10 @@ module _ {layout : Layout} {program : List Insn} {bytes : List ℕ} {slot n : �
   pub jumps : (k : ℤ) (s' : State) (passed : ℕ) (there : List Insn) → effect layout first s ≡ Some (Jumps k s') → Some passed ≡ target others 0 k → places there ≡ drop passed (places others) → IsAt layout program bytes (slot + slots_of first + passed) (n + 1) there s'
   jumps k s' passed there e t p =
       let to : target program (slot + slots_of first) k ≡ Some (slot + slots_of first + passed) = rw (target_along program (slot + slots_of first) others k behind, ← t) refl in
+      let stands = stands_further program (slot + slots_of first) passed others there behind p in
       record {
-        stands = stands_further program (slot + slots_of first) passed others there behind p;
+        stands = stands;
+        inside = inside_at program (slot + slots_of first + passed) there stands;
         few = let b = slots_of_bounds first in omega (arith, h.few);
         reached = run_goes_on layout program bytes n here (record { slot = slot + slots_of first + passed; state = s' }) h.reached (step_jumps layout program slot s first begins k s' (slot + slots_of first + passed) e to);
       }

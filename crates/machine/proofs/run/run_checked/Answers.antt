@@ -1,23 +1,11 @@
-use Rattle.std.proofs.Common.{◌≡◌, ◌+◌, ◌-◌, ◌∙◌, ap, Bor, List, take, drop, length, ℕ, arith, rules, FitsSigned, w32, get_or}
+use Rattle.std.proofs.Common.{◌≡◌, ◌+◌, ◌-◌, ◌∙◌, ap, Bor, List, take, drop, length, ℕ, rules, FitsSigned, w32, get_or}
 use Rattle.machine.proofs.Names.{to_z-of_z, Insn, slots_of}
-use Rattle.machine.proofs.Runs.{at_entry, inside, stuck_here, stuck_behind, jumps_nowhere, exits, falls, jumps}
+use Rattle.machine.proofs.Runs.{at_entry, stuck_here, stuck_behind, jumps_nowhere, exits, falls, jumps}
 use Rattle.machine.proofs.run.run_checked.Goals as goal
 use Rattle.machine.proofs.run.run_checked.Goals.{in-Next, in-Jump+in-Some}
 
 pub loop-rest-init : goal.loop-rest-init
 loop-rest-init c = rw (c.insns-rest.ensures.value, c.new-frame.ensures c.args.bytes.now) (at_entry c.args.layout c.args.program.now c.args.bytes.now)
-
-pub overflow_add-behind : goal.overflow_add-behind
-overflow_add-behind c = omega (arith, inside c.in-len1-up.len_at_least c.loop-rest.invariant)
-
-pub overflow_add-slot : goal.overflow_add-slot
-overflow_add-slot c = omega (arith, inside c.in-len1-up.len_at_least c.loop-rest.invariant, c.in-Some.ensures.short)
-
-pub overflow_add-result : goal.overflow_add-result
-overflow_add-result c = omega (arith, inside c.in-len1-up.len_at_least c.loop-rest.invariant)
-
-pub overflow_add-steps : goal.overflow_add-steps
-overflow_add-steps c = omega (arith, inside c.in-len1-up.len_at_least c.loop-rest.invariant)
 
 pub returns-in-Stuck : goal.returns-in-Stuck
 returns-in-Stuck c = stuck_here _ c.in-len1-up.len_at_least c.loop-rest.invariant _ c.in-Stuck.ensures.0 c.in-Stuck.ensures.1

@@ -1,17 +1,11 @@
-use Rattle.std.proofs.Common.{◌≡◌, ◌∙◌, sym, arith, rules, refl, FitsSigned, w32, length}
+use Rattle.std.proofs.Common.{◌≡◌, ◌∙◌, sym, rules, refl, FitsSigned, w32, length}
 use Rattle.std.proofs.lemmas.Int.{to_z-of_z}
-use Rattle.machine.proofs.Runs.{inside, stuck_here, stuck_behind, jumps_nowhere}
+use Rattle.machine.proofs.Runs.{stuck_here, stuck_behind, jumps_nowhere}
 use Rattle.machine.proofs.Telling.{told_at_entry, told_exits, told_falls, told_jumps}
 use Rattle.machine.proofs.trace.run_traced.Goals as goal
 
 pub loop-rest-init : goal.loop-rest-init
 loop-rest-init c = rw (c.insns-rest.ensures.value, c.new-frame.ensures c.args.bytes.now, c.new-steps.ensures.items) (told_at_entry c.args.layout c.args.program.now c.args.bytes.now)
-
-pub overflow_add-behind : goal.overflow_add-behind
-overflow_add-behind c = omega (arith, inside c.in-len1-up.len_at_least c.loop-rest.invariant.at)
-
-pub overflow_add-slot : goal.overflow_add-slot
-overflow_add-slot c = omega (arith, inside c.in-len1-up.len_at_least c.loop-rest.invariant.at, c.in-Some.ensures.short)
 
 pub loop-rest-preserved-in-Next : goal.loop-rest-preserved-in-Next
 loop-rest-preserved-in-Next c =
