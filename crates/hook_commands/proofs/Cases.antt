@@ -1,10 +1,9 @@
 -- What is told of some cases.
 use Rattle.std.proofs.Common.{◌≡◌, ℕ, ◌+◌, ◌<◌, ◌++◌, List, [], ◌∷◌, Box, Global, map, refl, sym, ap, ◌∙◌, get_or, take, length}
+use Rattle.hook_commands.specs.Names.{Layout, Known}
 use Rattle.std.specs.Box.{box_value}
 use Rattle.std.proofs.lemmas.List.{map-append, take_more}
 use Rattle.insn.specs.declared.instruction.Insn.{Insn}
-use Rattle.insn.specs.declared.layout.Layout.{Layout}
-use Rattle.verifier.specs.declared.known.Known.{Known}
 use Rattle.hook_commands.specs.declared.why.ReadTold.{ReadTold}
 use Rattle.hook_commands.specs.Explanations.{AreCasesTold, IsReadTold}
 

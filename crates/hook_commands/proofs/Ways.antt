@@ -1,20 +1,22 @@
 -- Laws of ways, and of the table by which one is sought.
-use Rattle.std.proofs.Common.{◌≡◌, ◌≢◌, ℕ, zero, suc, ◌+◌, ◌≤◌, ◌<◌, Bool, true, false, pos, negsuc, ℤ, List, [], ◌∷◌, ◌++◌, Option, Some, None, length, replicate, set, refl, ◌∙◌, arith, append_assoc, append-nil, ◌⊎◌, inl, inr}
+use Rattle.std.proofs.Common.{◌≡◌, ◌≢◌, ℕ, zero, suc, ◌+◌, ◌≤◌, ◌<◌, Bool, true, false, pos, negsuc, ℤ, List, [], ◌∷◌, ◌++◌, Option, Some, None, length, replicate, set, drop, refl, sym, ap, ◌∙◌, ◌-◌, arith, append_assoc, append-nil, ◌⊎◌, inl, inr}
 use Rattle.std.specs.Prelude.{if◌then◌else◌, is_some, slice_get, slice_index_or, option_and_then}
 use Rattle.std.specs.Option.{option_map, option_or}
-use Rattle.std.proofs.lemmas.Bool.{cases_eq, eq-eqb, ne_eqb}
+use Rattle.std.proofs.Math.Seq.{drop-append-add}
+use Rattle.std.proofs.lemmas.Bool.{cases_eq, cases_lt, eq-eqb, ne_eqb}
 use Rattle.std.proofs.lemmas.List.{get_or-set_same, get_or-set_other, length-set, length-replicate}
+use Rattle.std.proofs.lemmas.List.Sums.{sum_by-cons}
 use Rattle.insn.specs.declared.instruction.Insn.{Insn}
-use Rattle.insn.specs.FirstLook.{distance_of}
 use Rattle.insn.specs.Instruction.{slots_of}
-use Rattle.insn.specs.Program.{begins_at, joined, places, slot_count}
-use Rattle.insn.specs.SlotLaws.{slots_of_bounds, length-places}
+use Rattle.insn.specs.Program.{begins_at, joined, places, slot_count, slots_with}
+use Rattle.insn.specs.RunLaws.{begins_along, begins_here, StandsAt}
+use Rattle.insn.specs.SlotLaws.{slots_of_bounds, length-places, length-slots_with, nothing_inside}
 use Rattle.hook_commands.specs.declared.way.Hop.{Hop}
 use Rattle.hook_commands.specs.declared.way.Step.{Step}
 use Rattle.hook_commands.specs.declared.way.Step.TheVariants.{Past, Jumping}
 use Rattle.verifier.specs.declared.walk.Onward.{Onward}
-use Rattle.hook_commands.specs.Ways.{goes_past, jump_target, onward_at, slot_ahead, slot_behind, GoesBehind, IsJump, Here, Further, Leads, Roads}
-use Rattle.hook_commands.specs.WaySteps.{is_led, step_of, target_past, where_led, AreWaySteps, IsStepFrom, WayLeadsOn}
+use Rattle.hook_commands.specs.Ways.{jump_target, onward_at, slot_ahead, slot_behind, target_past, Goes, GoesBehind, IsJump, Here, Further, Leads, Roads}
+use Rattle.hook_commands.specs.WaySteps.{is_led, step_of, where_led, AreWaySteps, IsStepFrom, WayLeadsOn}
 
 -- something begins at slots of the program alone
 pub begins_inside : (program : List Insn) (k : ℕ) (j : Insn) → begins_at program k ≡ Some j → k < slot_count program
@@ -62,10 +64,6 @@ module _ (roads : Roads) where
 
   -- ---- the table
 
-  -- the step from a slot, of what begins there
-  abbrev pub step_from : List (Option Step) → ℕ → ℕ → Option Insn → Option Step
-  step_from steps goal slot begins = step_of steps goal roads.unwritten (onward_at roads.onward slot) slot begins
-
   -- a way leads on to the goal, or none does
   abbrev OneLeads : ℕ → ℕ → Bool → Type 0
   OneLeads goal to true = (rest : List Hop) × Leads roads to rest goal
@@ -95,65 +93,70 @@ module _ (roads : Roads) where
       by true way = (refl, way)
       by false none = λ to e. let same : x ≡ to = cc in rw (← same) none
 
-    module _ (slot : ℕ) (next_is : from ≡ suc slot) (apart : slot ≢ goal) (i : Insn) (begins : begins_at roads.program slot ≡ Some i) where
+    module _ (slot : ℕ) (i : Insn) (next_is : from ≡ slot + slots_of i) (begins : begins_at roads.program slot ≡ Some i) where
       abbrev here : Onward
       here = onward_at roads.onward slot
 
       abbrev past : Option ℕ
       past = target_past roads.unwritten here slot i
 
-      past_goes : (to : ℕ) → past ≡ Some to → (goes_past roads.unwritten here i ≡ true) × (to ≡ slot + slots_of i)
-      past_goes to e = by (goes_past roads.unwritten here i) e where
-        by : (b : Bool) → (if b then Some (slot_behind slot i) else None) ≡ Some to → (b ≡ true) × (to ≡ slot + slots_of i)
-        by true e = (refl, cc)
-        by false e = absurd cc
+      abbrev jump : Option ℕ
+      jump = jump_target here slot i
 
-      goes_past_it : (next : ℕ) → GoesBehind roads slot next → past ≡ Some next
-      goes_past_it next g =
-          let same : g.insn ≡ i = let there = g.begins in cc in
-          let behind : next ≡ slot_behind slot i = rw same at g.behind in
-          rw (rw same at g.goes, ← behind) refl
+      past_is : (b : Bool) (to : ℕ) → (if b then Some (slot_behind slot i) else None) ≡ Some to → from ≤ to
+      past_is true to e = let same : slot_behind slot i ≡ to = cc in omega arith
+      past_is false to e = absurd cc
 
-      further : (b : Bool) (d : Option ℤ) (to : ℕ) → (if b then option_and_then (slot_ahead (slot_behind slot i)) d else None) ≡ Some to → slot + slots_of i ≤ to
+      further : (b : Bool) (d : Option ℤ) (to : ℕ) → (if b then option_and_then (slot_ahead (slot_behind slot i)) d else None) ≡ Some to → from ≤ to
       further false d to e = absurd cc
       further true None to e = absurd cc
       further true (Some (pos d)) to e = let same : slot_behind slot i + d ≡ to = cc in omega arith
       further true (Some (negsuc d)) to e = absurd cc
 
-      jumps : (next : ℕ) → IsJump roads slot next → jump_target here slot i ≡ Some next
-      jumps next j = let same : j.insn ≡ i = let there = j.begins in cc in rw same at j.leads
+      leads_there : (target : Onward → ℕ → Insn → Option ℕ) (next : ℕ) → Goes roads target slot next → target here slot i ≡ Some next
+      leads_there target next g = let same : g.insn ≡ i = let there = g.begins in cc in rw same at g.leads
 
-      step_by : (p j : Option ℕ) → IsFound goal past p → IsFound goal (jump_target here slot i) j
-          → IsStepFrom roads goal slot (option_or (option_map Past p) (option_map Jumping j))
-      step_by (Some to) j f g =
-          let goes = past_goes to f.0 in
+      step_by : (p j : Option ℕ) → slot ≢ goal → IsFound goal past p → IsFound goal jump j → IsStepFrom roads goal slot (option_or (option_map Past p) (option_map Jumping j))
+      step_by (Some to) j apart f g =
+          let low = past_is _ to f.0 in
           let bounds = slots_of_bounds i in
-          record { moves = record { insn = i; begins = begins; goes = goes.0; behind = goes.1 }; rest = f.1.0; leads = f.1.1; further = omega arith }
-      step_by None (Some to) f g =
-          let ahead = further here.ahead (distance_of i) to g.0 in
+          record { moves = record { insn = i; begins = begins; leads = f.0 }; rest = f.1.0; leads = f.1.1; further = omega arith }
+      step_by None (Some to) apart f g =
+          let low = further _ _ to g.0 in
           let bounds = slots_of_bounds i in
           record { moves = record { insn = i; begins = begins; leads = g.0 }; rest = g.1.0; leads = g.1.1; further = omega arith }
-      step_by None None f g = λ hops l. by (first_move slot goal hops apart l) where
+      step_by None None apart f g = λ hops l. by (first_move slot goal hops apart l) where
         by : FirstMove slot goal → ⊥
-        by (inl m) = f m.0 (goes_past_it m.0 m.1) m.2 m.3
-        by (inr m) = g m.0 (jumps m.0 m.1) m.2 m.3
+        by (inl m) = f m.0 (leads_there (target_past roads.unwritten) m.0 m.1) m.2 m.3
+        by (inr m) = g m.0 (leads_there jump_target m.0 m.1) m.2 m.3
 
-      step_of_insn : IsStepFrom roads goal slot (step_from steps goal slot (Some i))
-      step_of_insn =
-          let bounds = slots_of_bounds i in
-          step_by (where_led steps goal past) (where_led steps goal (jump_target here slot i))
-          (found past (λ to e. let goes = past_goes to e in omega arith))
-          (found (jump_target here slot i) (λ to e. let ahead = further here.ahead (distance_of i) to e in omega arith))
+      abbrev pub step : Option Step
+      step = step_of steps goal past jump
 
-    -- the step from a slot is right
-    pub step_is_right : (slot : ℕ) → from ≡ suc slot → slot ≢ goal → (o : Option Insn) → begins_at roads.program slot ≡ o
-        → IsStepFrom roads goal slot (step_from steps goal slot o)
-    step_is_right slot next_is apart None begins = nowhere slot goal begins apart
-    step_is_right slot next_is apart (Some i) begins = step_of_insn slot next_is apart i begins
+      -- one step more
+      pub step_set : ((d : ℕ) → 1 ≤ d → d < slots_of i → begins_at roads.program (slot + d) ≡ None) → AreWaySteps roads goal slot (set steps slot step)
+      step_set inside = record { long = length-set steps slot step ∙ a.long; each = each; before = λ k low. get_or-set_other steps slot k step None (λ e. omega arith) ∙ a.before k (omega arith) } where
+        long : slot < length steps
+        long = let h = begins_inside roads.program slot i begins in rw a.long h
+
+        right : slot ≢ goal → IsStepFrom roads goal slot step
+        right apart = step_by (where_led steps goal past) (where_led steps goal jump) apart (found past (past_is _)) (found jump (further _ _))
+
+        between : (k : ℕ) → slot ≤ k → k ≢ slot → k < from → k ≢ goal → IsStepFrom roads goal k (slice_index_or steps k None)
+        between k low other less apart =
+            let at : slot + (k - slot) ≡ k = omega arith in
+            rw (a.before k less) (nowhere k goal (rw at at (inside (k - slot) (omega arith) (omega arith))) apart)
+
+        each : (k : ℕ) → slot ≤ k → k ≢ goal → IsStepFrom roads goal k (slice_index_or (set steps slot step) k None)
+        each k low apart = by (cases_eq k slot) (cases_lt k from) where
+          by : (k ≡ slot) ⊎ (k ≡ slot → ⊥) → (k < from) ⊎ (from ≤ k) → IsStepFrom roads goal k (slice_index_or (set steps slot step) k None)
+          by (inl same) which = rw (same, get_or-set_same steps slot step None long) (right (λ e. apart (same ∙ e)))
+          by (inr other) (inl less) = rw (get_or-set_other steps slot k step None other) (between k low other less apart)
+          by (inr other) (inr more) = rw (get_or-set_other steps slot k step None other) (a.each k more apart)
 
   -- a table without steps has those behind the program
   pub none_behind : (goal : ℕ) → AreWaySteps roads goal (slot_count roads.program) (no_steps (slot_count roads.program))
-  none_behind goal = record { long = length-replicate {A = Option Step} (slot_count roads.program) None; each = each } where
+  none_behind goal = record { long = length-replicate {A = Option Step} (slot_count roads.program) None; each = each; before = λ k low. no_step (slot_count roads.program) k } where
     no_step : (n k : ℕ) → slice_index_or (no_steps n) k None ≡ None
     no_step zero k = refl
     no_step (suc n) zero = refl
@@ -168,24 +171,20 @@ module _ (roads : Roads) where
     each k low apart =
         rw (no_step (slot_count roads.program) k) (nowhere k goal (nothing k low (begins_at roads.program k) refl) apart)
 
-  -- one step more
-  pub step_set : (goal slot : ℕ) (steps : List (Option Step)) → slot < slot_count roads.program
-      → AreWaySteps roads goal (slot + 1) steps
-      → AreWaySteps roads goal slot (set steps slot (step_from steps goal slot (begins_at roads.program slot)))
-  step_set goal slot steps inside a = record { long = length-set steps slot step ∙ a.long; each = each } where
-    step : Option Step
-    step = step_from steps goal slot (begins_at roads.program slot)
+  -- the last of some instructions gives one step more
+  pub step_back : (goal : ℕ) (before after : List Insn) (i : Insn) (steps : List (Option Step)) → roads.program ≡ before ++ i ∷ after → AreWaySteps roads goal (slot_count before + slots_of i) steps
+      → AreWaySteps roads goal (slot_count before) (set steps (slot_count before) (step_of steps goal (target_past roads.unwritten (onward_at roads.onward (slot_count before)) (slot_count before) i) (jump_target (onward_at roads.onward (slot_count before)) (slot_count before) i)))
+  step_back goal before after i steps is a = step_set goal _ steps a (slot_count before) i refl (begins_here roads.program (slot_count before) i after there)
+      (λ d low less. sym (begins_along roads.program (slot_count before) (i ∷ after) d there) ∙ nothing_inside i after d low less) where
+        stands : (before : List Insn) → StandsAt (before ++ i ∷ after) (slot_count before) (i ∷ after)
+        stands [] = record { same = refl }
+        stands (j ∷ before) =
+            let long : length (slots_with j) + slot_count before ≡ slot_count (j ∷ before) = omega (arith, length-slots_with j, sum_by-cons slots_of j before) in
+            let others : List (Option Insn) = slots_with j ++ places (before ++ i ∷ after) in
+            record { same = (stands before).same ∙ sym (drop-append-add (slots_with j) (places (before ++ i ∷ after)) (slot_count before)) ∙ ap (λ (n : ℕ). drop n others) long }
 
-    long : slot < length steps
-    long = rw a.long inside
-
-    each : (k : ℕ) → slot ≤ k → k ≢ goal → IsStepFrom roads goal k (slice_index_or (set steps slot step) k None)
-    each k low apart = by (cases_eq k slot) where
-      by : (k ≡ slot) ⊎ (k ≡ slot → ⊥) → IsStepFrom roads goal k (slice_index_or (set steps slot step) k None)
-      by (inl same) =
-          let right = step_is_right goal (slot + 1) steps a slot (omega arith) (λ e. apart (same ∙ e)) (begins_at roads.program slot) refl in
-          rw (same, get_or-set_same steps slot step None long) right
-      by (inr other) = rw (get_or-set_other steps slot k step None other) (a.each k (omega arith) apart)
+        there : StandsAt roads.program (slot_count before) (i ∷ after)
+        there = rw is (stands before)
 
   -- ---- following the table
 

@@ -1,18 +1,14 @@
 -- What the commands about hooks answer.
 use Rattle.std.specs.Prelude.{◌≡◌, ◌⊎◌, ℕ, List, Option, None, Some, Result, Ok, Err, ⊤}
-use Rattle.insn.specs.declared.instruction.Insn.{Insn as Instruction}
-use Rattle.encoding.specs.Spelling.{Spells}
+use Rattle.hook_commands.specs.Names.{Instruction, Spells, HookAnswer, JudgeFault, HookCommandFault}
 use Rattle.machine.specs.declared.trace.Trace.{Trace}
 use Rattle.machine.specs.Trace.{IsTrace}
 use Rattle.hook_commands.specs.declared.command.HookCommand.{HookCommand}
 use Rattle.hook_commands.specs.declared.command.HookCommand.TheVariants as commands
-use Rattle.hook_commands.specs.declared.answer.HookAnswer.{HookAnswer}
 use Rattle.hook_commands.specs.declared.answer.HookAnswer.TheVariants as answers
 use Rattle.hook_commands.specs.declared.judge.Asked.{Asked}
 use Rattle.hook_commands.specs.declared.judge.Judged.{Judged}
-use Rattle.hook_commands.specs.declared.judge.JudgeFault.{JudgeFault}
 use Rattle.hook_commands.specs.declared.judge.JudgeFault.TheVariants as judge
-use Rattle.hook_commands.specs.declared.fault.HookCommandFault.{HookCommandFault}
 use Rattle.hook_commands.specs.declared.fault.HookCommandFault.TheVariants.{BadArguments, BadRecord, Insn, Verify, OutOfMemory}
 use Rattle.hook_commands.specs.Asking.{IsAskedAs}
 use Rattle.hook_commands.specs.File.{File, IsAssembledAs, IsCheckedOn, IsExplainedOn, IsListedAs, IsListedWithSlotsAs}

@@ -1,16 +1,10 @@
 -- An ask that is told by a few numbers, and its record as hex.
 use Rattle.std.specs.Prelude.{◌≡◌, ◌<◌, ℕ, ◌^◌, List, Some, ⊤, Result, Ok, Err}
+use Rattle.hook_commands.specs.Names.{encode_lower, Layout, V1, V2, kind_of, record_v1, record_v2, string_bytes, HookAnswer, HookCommandFault}
 use Rattle.std.specs.Str.Parse.{IsNumeral, digits_value}
-use Rattle.hex.specs.Hex.{encode_lower}
-use Rattle.insn.specs.declared.layout.Layout.{Layout}
-use Rattle.insn.specs.declared.layout.Layout.TheVariants.{V1, V2}
 use Rattle.hook_record.specs.declared.Ask.{Ask}
-use Rattle.hook_record.specs.Record.{kind_of, record_v1, record_v2}
 use Rattle.hook_commands.specs.declared.asking.AskWords.{AskWords}
-use Rattle.std.specs.String.{string_bytes}
-use Rattle.hook_commands.specs.declared.answer.HookAnswer.{HookAnswer}
 use Rattle.hook_commands.specs.declared.answer.HookAnswer.TheVariants as answers
-use Rattle.hook_commands.specs.declared.fault.HookCommandFault.{HookCommandFault}
 use Rattle.hook_commands.specs.declared.fault.HookCommandFault.TheVariants as faults
 
 -- a text is one decimal digit or more, for a number below a limit

@@ -1,12 +1,7 @@
 -- What is told of a jump back: the jump, and the instruction to which it leads.
 use Rattle.std.specs.Prelude.{◌≡◌, ◌+◌, ◌≤◌, ℕ, negsuc, List, Option, Some, None, option_and_then}
-use Rattle.std.specs.Option.{option_map}
+use Rattle.hook_commands.specs.Names.{option_map, VerifyFault, JumpBack, distance_of, slots_of, begins_at}
 use Rattle.insn.specs.declared.instruction.Insn.{Insn}
-use Rattle.insn.specs.declared.verify_fault.VerifyFault.{VerifyFault}
-use Rattle.insn.specs.declared.verify_fault.VerifyFault.TheVariants.{JumpBack}
-use Rattle.insn.specs.FirstLook.{distance_of}
-use Rattle.insn.specs.Instruction.{slots_of}
-use Rattle.insn.specs.Program.{begins_at}
 use Rattle.lister.specs.declared.slots.SlotLine.{SlotLine}
 use Rattle.hook_commands.specs.declared.back.JumpBackTold.{JumpBackTold}
 

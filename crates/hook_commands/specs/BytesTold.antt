@@ -1,13 +1,11 @@
 -- What is told of the bytes of the stack that a load reads.
 use Rattle.std.specs.Prelude.{◌≡◌, ℕ, zero, suc, ℤ, ◌+◌, ◌*◌, ◌-◌, ◌/◌, ◌&&◌, if◌then◌else◌, Bool, true, false, List, [], ◌∷◌, ◌++◌, Option, Some, None, Result, Ok, Err}
+use Rattle.hook_commands.specs.Names.{Load, LoadSigned, Layout, read_size, size_bytes, Known, reg_of}
 use Rattle.insn.specs.declared.instruction.Insn.{Insn}
-use Rattle.insn.specs.declared.instruction.Insn.TheVariants.{Load, LoadSigned}
-use Rattle.insn.specs.declared.layout.Layout.{Layout}
 use Rattle.insn.specs.declared.operation.Size.TheVariants.{Eight}
 use Rattle.insn.specs.declared.state.Region.{Region}
 use Rattle.insn.specs.declared.state.Region.TheVariants as region
 use Rattle.insn.specs.declared.verify_fault.WalkFault.{WalkFault}
-use Rattle.insn.specs.Instruction.{read_size, size_bytes}
 use Rattle.reg_kind.specs.declared.place.Place.{Place}
 use Rattle.reg_kind.specs.declared.reg.Reg.{Reg}
 use Rattle.reg_kind.specs.declared.reg.Reg.TheVariants as reg
@@ -19,8 +17,6 @@ use Rattle.stack_state.specs.declared.mark.Mark.TheVariants as mark
 use Rattle.stack_state.specs.declared.stack.Stack.{Stack}
 use Rattle.stack_state.specs.Accesses.{IsGiven, IsLoad}
 use Rattle.stack_state.specs.Fits.{mark_at}
-use Rattle.verifier.specs.declared.known.Known.{Known}
-use Rattle.verifier.specs.Follows.{reg_of}
 use Rattle.hook_commands.specs.declared.bytes_told.BytesRead.{BytesRead}
 use Rattle.hook_commands.specs.declared.bytes_told.BytesTold.{BytesTold}
 use Rattle.hook_commands.specs.declared.bytes_told.BytesTold.TheVariants.{Block, Byte}

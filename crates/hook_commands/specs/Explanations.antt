@@ -1,21 +1,15 @@
 -- What is told of a program that is looked at.
 use Rattle.std.specs.Prelude.{◌≡◌, ℕ, List, [], ◌∷◌, codes, length, map, Option, Some, None, option_and_then}
+use Rattle.hook_commands.specs.Names.{option_map, option_or, Layout, RegNo, VerifyFault, JumpOut, JumpBack, JumpIntoWide, WritesR10, FallsOff, UnsetRegister, UnsetByte, OutOfRegion, ReadOnlyField}
+use Rattle.hook_commands.specs.Names.{PointerMisuse, ExitsWithPointer, PointerRange, Memory, Known, reg_of, HookAnswer}
 use Rattle.std.specs.Box.{box_value}
-use Rattle.std.specs.Option.{option_map, option_or}
 use Rattle.insn.specs.declared.instruction.Insn.{Insn}
-use Rattle.insn.specs.declared.layout.Layout.{Layout}
-use Rattle.insn.specs.declared.register.RegNo.{RegNo}
-use Rattle.insn.specs.declared.verify_fault.VerifyFault.{VerifyFault}
-use Rattle.insn.specs.declared.verify_fault.VerifyFault.TheVariants.{JumpOut, JumpBack, JumpIntoWide, WritesR10, FallsOff, UnsetRegister, UnsetByte, OutOfRegion, ReadOnlyField, PointerMisuse, ExitsWithPointer, PointerRange, Memory}
 use Rattle.manual.specs.Topics.{IsSaid}
 use Rattle.reg_kind.specs.declared.reg.Reg.{Reg}
 use Rattle.reg_kind.specs.declared.reg.Reg.TheVariants.{Unset}
-use Rattle.verifier.specs.declared.known.Known.{Known}
 use Rattle.verifier.specs.declared.explain.Refusal.{Refusal}
 use Rattle.verifier.specs.declared.explain.Finding.TheVariants as finding
 use Rattle.verifier.specs.Findings.{IsFinding}
-use Rattle.verifier.specs.Follows.{reg_of}
-use Rattle.hook_commands.specs.declared.answer.HookAnswer.{HookAnswer}
 use Rattle.hook_commands.specs.declared.answer.HookAnswer.TheVariants as answers
 use Rattle.hook_commands.specs.declared.why.ReadRegister.{ReadRegister}
 use Rattle.hook_commands.specs.declared.why.ReadTold.{ReadTold}

@@ -1,19 +1,12 @@
 -- What the commands answer to a file. A file is its bytes, and nothing where it cannot be read.
 use Rattle.std.specs.Prelude.{◌≡◌, ◌⊎◌, ⊤, ℕ, List, length, Option, Some, None, IsSomeAnd, IsUtf8, Result, Ok, Err, Bool, false, ◌&&◌, ◌==◌, ◌∷◌, IsTrue}
-use Rattle.std.specs.String.{string_bytes}
+use Rattle.hook_commands.specs.Names.{string_bytes, Layout, InsnFault, VerifyFault, FirstInsnFault, Spells, HookAnswer, HookCommandFault, encode_lower}
 use Rattle.insn.specs.declared.instruction.Insn.{Insn}
-use Rattle.insn.specs.declared.layout.Layout.{Layout}
-use Rattle.insn.specs.declared.fault.InsnFault.{InsnFault}
-use Rattle.insn.specs.declared.verify_fault.VerifyFault.{VerifyFault}
-use Rattle.encoding.specs.Spelling.{FirstInsnFault, Spells}
 use Rattle.assembly.specs.Text.{canonical_text, Text}
-use Rattle.hook_commands.specs.declared.answer.HookAnswer.{HookAnswer}
 use Rattle.hook_commands.specs.declared.answer.HookAnswer.TheVariants as answers
-use Rattle.hook_commands.specs.declared.fault.HookCommandFault.{HookCommandFault}
 use Rattle.hook_commands.specs.declared.fault.HookCommandFault.TheVariants as faults
 use Rattle.hook_commands.specs.HexText.{IsHexOf, IsNoHex}
 use Rattle.hook_commands.specs.Judge.{IsTakenProgram, IsTurnedAway}
-use Rattle.hex.specs.Hex.{encode_lower}
 use Rattle.assembler.specs.declared.fault.AsmFault.{AsmFault}
 use Rattle.assembler.specs.Faults.{FirstTextFault}
 use Rattle.hook_commands.specs.Explanations.{IsExplanation}

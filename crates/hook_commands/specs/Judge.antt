@@ -1,21 +1,13 @@
 -- What a hook's bytes do with a record's: the layers that both cross, one below the other.
 use Rattle.std.specs.Prelude.{◌≡◌, ℕ, ◌==◌, if◌then◌else◌, List, length, take, Option, Some, None, Result, Ok, Err, ◌≢◌}
-use Rattle.std.specs.Option.{option_map}
+use Rattle.hook_commands.specs.Names.{option_map, InsnFault, VerifyFault, V1, V2, FirstInsnFault, Spells, ask_in_v1, ask_in_v2, JudgeFault, Layout, Memory}
 use Rattle.insn.specs.declared.instruction.Insn.{Insn}
-use Rattle.insn.specs.declared.fault.InsnFault.{InsnFault}
-use Rattle.insn.specs.declared.verify_fault.VerifyFault.{VerifyFault}
-use Rattle.insn.specs.declared.layout.Layout.TheVariants.{V1, V2}
-use Rattle.encoding.specs.Spelling.{FirstInsnFault, Spells}
 use Rattle.insn.specs.Step.{IsExit, Safe}
 use Rattle.insn.specs.Values.{record_size}
 use Rattle.hook_record.specs.Narrowing.{narrowed}
-use Rattle.hook_record.specs.Record.{ask_in_v1, ask_in_v2}
 use Rattle.hook_commands.specs.declared.judge.Asked.{Asked}
 use Rattle.hook_commands.specs.declared.judge.Judged.{Judged}
-use Rattle.hook_commands.specs.declared.judge.JudgeFault.{JudgeFault}
 use Rattle.hook_commands.specs.declared.judge.JudgeFault.TheVariants as faults
-use Rattle.insn.specs.declared.layout.Layout.{Layout}
-use Rattle.insn.specs.declared.verify_fault.VerifyFault.TheVariants.{Memory}
 use Rattle.insn.specs.Refusals.{look_verdict}
 use Rattle.verifier.specs.Verdicts.{IsVerdict}
 

@@ -12,3 +12,5 @@ pub mod Reading
 pub mod Ways
 -- What only the contracts of this crate's own parts and their proofs cite.
 pub mod WaySteps
+-- What these files import, passed on.
+pub mod Names

@@ -1,8 +1,7 @@
 -- What the commands about hooks print for a machine, byte by byte: the code of a program, and its canonical text. What is
 -- printed for people is told by values.
 use Rattle.std.specs.Prelude.{ℕ, List, ◌++◌, codes, Option, Some, None}
-use Rattle.std.specs.String.{string_bytes}
-use Rattle.hook_commands.specs.declared.answer.HookAnswer.{HookAnswer}
+use Rattle.hook_commands.specs.Names.{string_bytes, HookAnswer}
 use Rattle.hook_commands.specs.declared.answer.HookAnswer.TheVariants as answers
 
 -- the whole text that such an answer is printed as

@@ -1,14 +1,10 @@
 -- How a way is sought: a table has for each slot the step by which one goes on towards a goal. No public clause cites these.
 use Rattle.std.specs.Prelude.{◌≡◌, ◌≢◌, ◌==◌, ◌||◌, ℕ, ◌≤◌, ◌<◌, Bool, if◌then◌else◌, List, Option, Some, None, is_some, length, slice_index_or}
-use Rattle.std.specs.Option.{option_map, option_or}
-use Rattle.insn.specs.declared.instruction.Insn.{Insn}
-use Rattle.insn.specs.declared.register.RegNo.{RegNo}
-use Rattle.insn.specs.Program.{slot_count}
+use Rattle.hook_commands.specs.Names.{option_map, option_or, slot_count}
 use Rattle.hook_commands.specs.declared.way.Hop.{Hop}
 use Rattle.hook_commands.specs.declared.way.Step.{Step}
 use Rattle.hook_commands.specs.declared.way.Step.TheVariants.{Past, Jumping}
-use Rattle.verifier.specs.declared.walk.Onward.{Onward}
-use Rattle.hook_commands.specs.Ways.{goes_past, jump_target, slot_behind, GoesBehind, IsJump, Leads, Roads}
+use Rattle.hook_commands.specs.Ways.{GoesBehind, IsJump, Leads, Roads}
 
 -- a way leads to the goal from a slot of which the table has the step, and from the goal itself
 abbrev pub is_led : List (Option Step) → ℕ → ℕ → Bool
@@ -19,15 +15,9 @@ abbrev pub where_led : List (Option Step) → ℕ → Option ℕ → Option ℕ
 where_led steps goal None = None
 where_led steps goal (Some to) = if is_led steps goal to then Some to else None
 
--- where one goes on behind an instruction at a slot
-abbrev pub target_past : Option RegNo → Onward → ℕ → Insn → Option ℕ
-target_past unwritten onward slot i = if goes_past unwritten onward i then Some (slot_behind slot i) else None
-
--- the step from a slot, of what begins there: past it, if a way leads on behind it, or else by its jump
-abbrev pub step_of : List (Option Step) → ℕ → Option RegNo → Onward → ℕ → Option Insn → Option Step
-step_of steps goal unwritten onward slot None = None
-step_of steps goal unwritten onward slot (Some i) =
-    option_or (option_map Past (where_led steps goal (target_past unwritten onward slot i))) (option_map Jumping (where_led steps goal (jump_target onward slot i)))
+-- the step to the slot behind an instruction, if a way leads on from there, or else the step by its jump
+abbrev pub step_of : List (Option Step) → ℕ → Option ℕ → Option ℕ → Option Step
+step_of steps goal past jump = option_or (option_map Past (where_led steps goal past)) (option_map Jumping (where_led steps goal jump))
 
 abbrev pub step_slot : Step → ℕ
 step_slot (Past to) = to
@@ -50,7 +40,8 @@ abbrev pub IsStepFrom : Roads → ℕ → ℕ → Option Step → Type 0
 IsStepFrom roads goal slot None = (hops : List Hop) → Leads roads slot hops goal → ⊥
 IsStepFrom roads goal slot (Some step) = WayLeadsOn roads goal slot step
 
--- a table has the steps from a slot on, but of the goal, where one steps no more
+-- a table has the steps from a slot on, but of the goal, where one steps no more, and none before
 pub record AreWaySteps (roads : Roads) (goal from : ℕ) (steps : List (Option Step)) : Type 0 where
   pub long : length steps ≡ slot_count roads.program
   pub each : (k : ℕ) → from ≤ k → k ≢ goal → IsStepFrom roads goal k (slice_index_or steps k None)
+  pub before : (k : ℕ) → k < from → slice_index_or steps k None ≡ None

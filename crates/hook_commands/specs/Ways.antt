@@ -1,13 +1,9 @@
 -- The way to a slot of a program: the jumps by which control comes there from slot 0, where it goes on from each slot as the
 -- verifier's walk did.
 use Rattle.std.specs.Prelude.{◌≡◌, ◌⊎◌, ◌==◌, ◌&&◌, not, if◌then◌else◌, ℕ, ◌+◌, Bool, true, ℤ, pos, negsuc, List, [], ◌∷◌, Option, Some, None, IfSome, IsSomeAnd, option_and_then, slice_index_or, Vec}
-use Rattle.std.specs.Option.{option_map}
+use Rattle.hook_commands.specs.Names.{option_map, RegNo, distance_of, written_by, reg_number, slots_of, begins_at}
 use Rattle.std.specs.declared.alloc.Global.{Global}
 use Rattle.insn.specs.declared.instruction.Insn.{Insn}
-use Rattle.insn.specs.declared.register.RegNo.{RegNo}
-use Rattle.insn.specs.FirstLook.{distance_of, written_by}
-use Rattle.insn.specs.Instruction.{reg_number, slots_of}
-use Rattle.insn.specs.Program.{begins_at}
 use Rattle.verifier.specs.declared.walk.Onward.{Onward}
 use Rattle.verifier.specs.Waits.{nowhere}
 use Rattle.hook_commands.specs.declared.way.Hop.{Hop}
@@ -34,10 +30,6 @@ leaves None written = true
 leaves (Some r) None = true
 leaves (Some r) (Some w) = not (reg_number w == reg_number r)
 
--- the walk went on behind an instruction, which leaves a register unwritten, if one is to stay so
-abbrev pub goes_past : Option RegNo → Onward → Insn → Bool
-goes_past unwritten onward i = onward.behind && leaves unwritten (written_by i)
-
 -- the slot behind an instruction at a slot
 abbrev pub slot_behind : ℕ → Insn → ℕ
 slot_behind slot i = slot + slots_of i
@@ -51,23 +43,26 @@ slot_ahead slot (negsuc n) = None
 abbrev pub jump_target : Onward → ℕ → Insn → Option ℕ
 jump_target onward slot i = if onward.ahead then option_and_then (slot_ahead (slot_behind slot i)) (distance_of i) else None
 
--- from a slot one goes on behind the instruction there, as the walk did, and leaves a register unwritten, if one is to stay so
-pub record GoesBehind (roads : Roads) (from to : ℕ) : Type 0 where
+-- where one goes on behind an instruction at a slot, if the walk did and it leaves a register unwritten, if one is to stay so
+abbrev pub target_past : Option RegNo → Onward → ℕ → Insn → Option ℕ
+target_past unwritten onward slot i = if onward.behind && leaves unwritten (written_by i) then Some (slot_behind slot i) else None
+
+-- one goes on from a slot to another, to which the instruction there leads
+pub record Goes (roads : Roads) (target : Onward → ℕ → Insn → Option ℕ) (from to : ℕ) : Type 0 where
   pub insn : Insn
   pub begins : begins_at roads.program from ≡ Some insn
-  pub goes : goes_past roads.unwritten (onward_at roads.onward from) insn ≡ true
-  pub behind : to ≡ slot_behind from insn
+  pub leads : target (onward_at roads.onward from) from insn ≡ Some to
+
+abbrev pub GoesBehind : Roads → ℕ → ℕ → Type 0
+GoesBehind roads from to = Goes roads (target_past roads.unwritten) from to
+
+abbrev pub IsJump : Roads → ℕ → ℕ → Type 0
+IsJump roads from to = Goes roads jump_target from to
 
 -- from a slot one comes to another by going on alone, jumping nowhere
 pub data IsStraightWay (roads : Roads) : ℕ → ℕ → Type 0 where
   Here : {slot : ℕ} → IsStraightWay roads slot slot
   Further : {from next to : ℕ} → GoesBehind roads from next → IsStraightWay roads next to → IsStraightWay roads from to
-
--- the jump of the instruction at a slot leads to another, and the walk went there
-pub record IsJump (roads : Roads) (from to : ℕ) : Type 0 where
-  pub insn : Insn
-  pub begins : begins_at roads.program from ≡ Some insn
-  pub leads : jump_target (onward_at roads.onward from) from insn ≡ Some to
 
 -- from a slot one comes to another by these jumps in order, going straight between them
 abbrev pub Leads : Roads → ℕ → List Hop → ℕ → Type 0

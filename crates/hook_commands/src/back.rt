@@ -1,10 +1,9 @@
 //! A jump back: where it stands, and where it leads.
 
 ghost use Rattle.std.specs.Prelude.{◌≡◌, ◌≤◌, IfSome};
-ghost use Rattle.insn.specs.Program.{begins_at, slot_count, SLOT_LIMIT};
+ghost use Rattle.insn.specs.Program.{SLOT_LIMIT};
 ghost use Rattle.hook_commands.specs.Back.{line_at as spec_line_at, IsBackTo, IsJumpTold};
 
-use insn::instruction::Insn;
 use insn::places::skip;
 use insn::program::Program;
 use insn::verify_fault::VerifyFault;
@@ -29,25 +28,15 @@ impl Display for JumpBackTold {
     }
 }
 
-/// The instruction that begins at a slot, if one does.
-pub fn insn_at(program: &Program, slot: usize) -> Option<Insn>
-    ensures value { result ≡ begins_at program.now slot }
-    ensures short { slot_count program.now ≤ SLOT_LIMIT }
-{
-    match skip(program.insns(), slot)? {
-        [insn, ..] => Some(*insn),
-        [] => None,
-    }
-}
-
-/// The same, behind its slot.
-#[tactic(auto, using(crate::proofs::Ways::begins_inside))]
+/// The instruction that begins at a slot, behind that slot, if one does.
 fn line_at(program: &Program, slot: usize) -> Option<SlotLine>
     ensures value { result ≡ spec_line_at program.now slot }
     ensures few { IfSome result (λ line. line.slot ≤ SLOT_LIMIT) }
 {
-    let insn = insn_at(program, slot)?;
-    Some(SlotLine { slot, insn })
+    match skip(program.insns(), slot)? {
+        [insn, ..] => Some(SlotLine { slot, insn: *insn }),
+        [] => None,
+    }
 }
 
 /// The slot to which a jump leads that leads back; none where it would lie before the first.

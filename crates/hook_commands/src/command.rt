@@ -6,9 +6,7 @@ ghost use Rattle.hook_commands.specs.Answers.{file_of_hook_command, IsHookAnswer
 
 use crate::answer::HookAnswer;
 use crate::asking::{AskWords, asked};
-use crate::commands::asm::assembled;
-use crate::commands::check::{check, explained_check};
-use crate::commands::list::{listing, listing_with_slots};
+use crate::commands::file::{assembled, check, explained_check, listing, listing_with_slots};
 use crate::commands::run::{run, traced};
 use crate::fault::HookCommandFault;
 use insn::layout::Layout;

@@ -1,7 +1,4 @@
-//! What a person types about a hook: a file for each command, and one for the files that they read.
+//! What a person types about a hook.
 
-pub mod asm;
-pub mod check;
 pub mod file;
-pub mod list;
 pub mod run;

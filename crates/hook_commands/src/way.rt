@@ -1,11 +1,10 @@
 //! The way to a slot: by which jumps control can come there from slot 0, going on from each slot as the walk did.
 
-ghost use Rattle.std.specs.Prelude.{◌≡◌, ◌<◌, ◌≤◌, ◌^◌, Some, None, IfOk, length, slice_index_or};
-ghost use Rattle.insn.specs.Program.{slot_count, SLOT_LIMIT};
-ghost use Rattle.hook_commands.specs.Ways.{goes_past, hops_of, jump_target, onward_at, roads_of, IsToldWay, IsWayFound};
-ghost use Rattle.hook_commands.specs.WaySteps.{step_of, target_past, where_led, AreWaySteps};
+ghost use Rattle.std.specs.Prelude.{◌≡◌, ◌<◌, ◌≤◌, Some, None, IfOk, slice_index_or};
+ghost use Rattle.insn.specs.Program.{SLOT_LIMIT};
+ghost use Rattle.hook_commands.specs.Ways.{hops_of, jump_target, onward_at, roads_of, target_past, IsToldWay, IsWayFound};
+ghost use Rattle.hook_commands.specs.WaySteps.{step_of, where_led, AreWaySteps};
 
-use crate::back::insn_at;
 use insn::instruction::Insn;
 use insn::program::Program;
 use insn::register::RegNo;
@@ -44,23 +43,18 @@ fn onward_at(onward: &[Onward], slot: usize) -> Onward
     }
 }
 
-/// Whether the walk went on behind an instruction, which leaves a register unwritten, if one is to stay so.
-fn goes_past(unwritten: Option<RegNo>, onward: Onward, insn: Insn) -> bool
-    ensures { result ≡ goes_past unwritten onward insn }
+/// Where one goes on behind an instruction at a slot, if the walk did and it leaves a register unwritten, if one is to
+/// stay so.
+fn target_past(unwritten: Option<RegNo>, onward: Onward, slot: usize, insn: Insn) -> Option<usize>
+    requires { slot ≤ SLOT_LIMIT }
+    ensures { result ≡ target_past unwritten onward slot insn }
 {
     let leaves = match (unwritten, insn.written_by()) {
         (Some(register), Some(written)) => written.number() != register.number(),
         _ => true,
     };
-    onward.behind && leaves
-}
-
-/// Where one goes on behind an instruction at a slot.
-fn target_past(unwritten: Option<RegNo>, onward: Onward, slot: usize, insn: Insn) -> Option<usize>
-    requires { slot ≤ SLOT_LIMIT }
-    ensures { result ≡ target_past unwritten onward slot insn }
-{
-    goes_past(unwritten, onward, insn).then_some(slot + insn.slots())
+    let goes = onward.behind && leaves;
+    goes.then_some(slot + insn.slots())
 }
 
 /// Where the jump of an instruction at a slot leads, if the walk went there.
@@ -91,23 +85,19 @@ fn where_led(steps: &[Option<Step>], goal: usize, slot: Option<usize>) -> Option
     }
 }
 
-/// The step from a slot, of what begins there: past it, if a way leads on behind it, or else by its jump.
+/// The step to the slot behind an instruction, if a way leads on from there, or else the step by its jump.
 fn step_of(
     steps: &[Option<Step>],
     goal: usize,
-    unwritten: Option<RegNo>,
-    onward: Onward,
-    slot: usize,
-    begins: Option<Insn>,
+    past: Option<usize>,
+    jump: Option<usize>,
 ) -> Option<Step>
-    requires { slot ≤ SLOT_LIMIT }
-    ensures { result ≡ step_of steps.now goal unwritten onward slot begins }
+    ensures { result ≡ step_of steps.now goal past jump }
 {
-    let insn = begins?;
-    if let Some(behind) = where_led(steps, goal, target_past(unwritten, onward, slot, insn)) {
+    if let Some(behind) = where_led(steps, goal, past) {
         return Some(Step::Past(behind));
     }
-    let ahead = where_led(steps, goal, jump_target(onward, slot, insn))?;
+    let ahead = where_led(steps, goal, jump)?;
     Some(Step::Jumping(ahead))
 }
 
@@ -123,11 +113,14 @@ fn steps_to(
 {
     let mut slot = program.slots();
     let mut steps: Vec<Option<Step>> = vec![in alloc; None; slot]?;
-    while slot > 0 {
-        slot -= 1;
+    let mut rest = program.insns();
+    while let Some((insn, before)) = rest.split_last() {
+        slot -= insn.slots();
         let here = onward_at(onward, slot);
-        let step = step_of(&steps, goal, unwritten, here, slot, insn_at(program, slot));
+        let past = target_past(unwritten, here, slot, *insn);
+        let step = step_of(&steps, goal, past, jump_target(here, slot, *insn));
         steps[slot] = step;
+        rest = before;
     }
     Ok(steps)
 }

@@ -1,14 +1,21 @@
-//! Files that are text, or in which the hex of a program stands.
+//! Files that are text, or in which the hex of a program stands, and the commands about one: `asm FILE`, `list FILE` and
+//! `list --slots FILE`, `check FILE` and `check2 FILE`, and these with `--why`.
 
 ghost use Rattle.std.specs.Prelude.{◌≡◌, IfErr, IfNone, IfOk, IfSome};
 ghost use Rattle.std.specs.Option.{option_copied};
-ghost use Rattle.hook_commands.specs.File.{is_elf as spec_is_elf, HoldsNoProgram, HoldsNoToldProgram, HoldsProgram, HoldsText, IsNoText};
+ghost use Rattle.hook_commands.specs.File.{is_elf as spec_is_elf, HoldsNoProgram, HoldsNoToldProgram, HoldsProgram, HoldsText, IsAssembledAs, IsCheckedOn, IsExplainedOn, IsListedAs, IsListedWithSlotsAs, IsNoText};
 
+use crate::answer::HookAnswer;
 use crate::fault::HookCommandFault;
 use crate::hex_text::bytes_of_hex;
-use encoding::decode;
+use crate::why::explanation;
+use assembler::assemble;
+use encoding::{decode, encode};
+use insn::layout::Layout;
 use insn::program::Program;
+use lister::{list, slot_lines};
 use std::alloc::Global;
+use verifier::verified::verify;
 
 /// The text of a file. `None` where it is not UTF-8, which counts as one that cannot be read.
 pub fn text_in(file: Option<&[u8]>) -> Option<&str>
@@ -66,4 +73,79 @@ pub fn told_program_in<'w>(
         Err(HookCommandFault::BadArguments) => Err(HookCommandFault::IsNotHex(path)),
         Err(fault) => Err(fault),
     }
+}
+
+/// The bytes of the program that the text of a file says, as hex.
+pub fn assembled<'w>(
+    alloc: Global,
+    path: &'w str,
+    file: Option<&[u8]>,
+) -> Result<HookAnswer, HookCommandFault<'w>>
+    ensures { IsAssembledAs path.now (option_copied file.entry) result }
+{
+    let Some(text) = text_in(file) else {
+        return Err(HookCommandFault::CannotRead(path));
+    };
+    let program = match assemble(alloc, text) {
+        Ok(program) => program,
+        Err(fault) => return Err(HookCommandFault::Text(fault)),
+    };
+    let code = encode(alloc, &program)?;
+    let hex = hex::encode(alloc, code)?;
+    Ok(HookAnswer::Code(hex))
+}
+
+/// The canonical text of the program whose hex stands in a file.
+pub fn listing<'w>(
+    alloc: Global,
+    path: &'w str,
+    file: Option<&[u8]>,
+) -> Result<HookAnswer, HookCommandFault<'w>>
+    ensures { IsListedAs path.now (option_copied file.entry) result }
+{
+    let program = program_in(alloc, path, file)?;
+    let text = list(alloc, &program)?;
+    Ok(HookAnswer::Listing(text))
+}
+
+/// The instructions of the program whose hex stands in a file, behind their slots.
+pub fn listing_with_slots<'w>(
+    alloc: Global,
+    path: &'w str,
+    file: Option<&[u8]>,
+) -> Result<HookAnswer, HookCommandFault<'w>>
+    ensures { IsListedWithSlotsAs path.now (option_copied file.entry) result }
+{
+    let program = told_program_in(alloc, path, file)?;
+    let lines = slot_lines(alloc, &program)?;
+    Ok(HookAnswer::Slots(lines))
+}
+
+/// Whether the program whose hex stands in a file is accepted, for records of one version.
+pub fn check<'w>(
+    alloc: Global,
+    layout: Layout,
+    path: &'w str,
+    file: Option<&[u8]>,
+) -> Result<HookAnswer, HookCommandFault<'w>>
+    ensures { IsCheckedOn layout path.now (option_copied file.entry) result }
+{
+    let program = program_in(alloc, path, file)?;
+    match verify(alloc, program, layout) {
+        Ok(verified) => Ok(HookAnswer::Accepted(verified.program().len())),
+        Err((_, fault)) => Err(HookCommandFault::Verify(fault)),
+    }
+}
+
+/// What is found of the program whose hex stands in a file, for records of one version, told at length.
+pub fn explained_check<'w>(
+    alloc: Global,
+    layout: Layout,
+    path: &'w str,
+    file: Option<&[u8]>,
+) -> Result<HookAnswer, HookCommandFault<'w>>
+    ensures { IsExplainedOn layout path.now (option_copied file.entry) result }
+{
+    let program = told_program_in(alloc, path, file)?;
+    Ok(explanation(alloc, &program, layout)?)
 }
