@@ -1,5 +1,5 @@
 -- Texts that stand for themselves in a form.
-use Rattle.std.proofs.Common.{◌≡◌, ◌<◌, ◌&&◌, ◌==◌, ℕ, List, true, false, not, nat_lt, refl, ap, ◌∙◌, arith, IsAscii, All, Ok}
+use Rattle.std.proofs.Common.{◌≡◌, ◌<◌, ◌&&◌, ◌==◌, ℕ, List, true, not, nat_lt, refl, ap, ◌∙◌, arith, IsAscii, Ok}
 use Rattle.std.specs.List.{list_all}
 use Rattle.std.proofs.lemmas.Bool.Decides.{nat_tests}
 use Rattle.std.proofs.lemmas.List.Elements.{All-weaker}

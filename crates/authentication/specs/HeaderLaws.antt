@@ -1,27 +1,23 @@
 -- Laws of Basic headers: the header of a client's identifier and secret authenticates the client.
-use Rattle.std.proofs.Common.{◌≡◌, ◌<◌, ℕ, zero, suc, ◌+◌, ◌-◌, ◌==◌, ◌&&◌, ◌||◌, nat_lt, nat_eq, List, [], ◌∷◌, ◌++◌, length, take, drop, length-append, Bool, true, false, if◌then◌else◌, refl, ap, sym, ◌∙◌, subst, arith, Option, Some, None, Result, Ok, Err, codes, IsAscii, All, ⊎_elim}
-use Rattle.std.specs.Prelude.{bytes_eq, slice_get, is_some}
-use Rattle.std.specs.List.{position, position_or_len, position_from, list_all, list_any}
+use Rattle.std.proofs.Common.{◌≡◌, ◌<◌, ℕ, zero, suc, ◌+◌, ◌-◌, ◌==◌, ◌&&◌, ◌||◌, nat_lt, nat_eq, List, [], ◌∷◌, ◌++◌, length, take, length-append, Bool, true, false, if◌then◌else◌, refl, ap, sym, ◌∙◌, arith, Option, Some, None, Ok, Err, codes, IsAscii, All, ⊎_elim}
+use Rattle.std.specs.Prelude.{bytes_eq, slice_get}
+use Rattle.std.specs.List.{position_or_len, position_from, list_all, list_any}
 use Rattle.std.specs.Cmp.Lexicographic.{pointwise}
-use Rattle.std.specs.Option.{ok_or, option_map_or}
-use Rattle.std.specs.Result.{result_ok}
-use Rattle.std.specs.Str.{is_utf8}
+use Rattle.std.specs.Option.{option_map_or}
 use Rattle.std.specs.Str.Lossy.{utf8_lossy}
 use Rattle.std.proofs.Math.Seq.{take-append_seam, drop-append-add}
-use Rattle.std.proofs.lemmas.Bool.{and_parts, or_parts, ne_eqb, lt-ltb}
+use Rattle.std.proofs.lemmas.Bool.{and_parts, ne_eqb, lt-ltb}
 use Rattle.std.proofs.lemmas.Bool.Decides.{nat_tests}
 use Rattle.std.proofs.lemmas.List.Elements.{All-nil, All-cons, All-head, All-tail, All-weaker}
 use Rattle.std.proofs.lemmas.Slice.Eq.{bytes_eq-Decides}
 use Rattle.std.proofs.lemmas.Str.{IsUtf8-from_ascii, is_utf8-from_IsUtf8, utf8_lossy-IsUtf8, IsAscii-append}
 use Rattle.std.proofs.lemmas.Str.Ascii.{IsAscii-from_all, IsAscii-cons}
-use Rattle.base64.specs.declared.decode.DecodeError.{DecodeError}
 use Rattle.base64.specs.Engines.{standard}
-use Rattle.base64.specs.GeneralPurpose.{decode_of, encode_of}
+use Rattle.base64.specs.GeneralPurpose.{encode_of}
 use Rattle.base64.proofs.EngineFacts.{decode_of-encode_of}
 use Rattle.form_urlencoded.specs.Form.{byte_serialize}
 use Rattle.form_urlencoded.proofs.FormLemmas.{IsSerializedByte, All-byte_serialize, IsAscii-byte_serialize, decode-byte_serialize}
-use Rattle.params.specs.Form.{lossy_text, has_replacement, value_sent, any_twice}
-use Rattle.clients.specs.Faults.{◌>>=◌}
+use Rattle.params.specs.Form.{lossy_text, has_replacement, any_twice}
 use Rattle.clients.specs.Texts.{is_visible, is_key, is_identifier_byte, is_identifier}
 use Rattle.clients.specs.Numbers.{number_among}
 use Rattle.clients.specs.Clients.{ids, has_secret}
@@ -30,8 +26,7 @@ use Rattle.clients.specs.RegistryRecord.{RegistryRecord}
 use Rattle.clients.specs.RegistryRules.{IsRegistry}
 use Rattle.clients.specs.RegistryLaws.{client-of, secret-key}
 use Rattle.authentication.specs.Authentication.{basic_text, form_text, around_colon, basic_credentials, basic_header, is_secret_of, identified, HeadersAuthenticate}
-use Rattle.authentication.specs.declared.authentication.AuthFault.{AuthFault}
-use Rattle.authentication.specs.declared.authentication.AuthFault.TheVariants.{NoClient, BadSecret, TwoMethods, BadHeader}
+use Rattle.authentication.specs.declared.authentication.AuthFault.TheVariants.{BadHeader}
 
 -- the characters of keys and identifiers are ASCII
 ascii-where : (test : ℕ → Bool) → ((b : ℕ) → test b ≡ true → b < 128) → (text : List ℕ) → list_all test text ≡ true → All (λ b. b < 128) text
@@ -80,36 +75,21 @@ around_colon-back : (before after : List ℕ) → All IsSerializedByte before �
 around_colon-back before after none =
     let place = first_colon before after none in
     let within : nat_lt (length before) (length (before ++ 58 ∷ after)) ≡ true = lt-ltb _ _ (omega (arith, length-append {A = ℕ})) in
-    parts (position (λ b. b == 58) (before ++ 58 ∷ after)) (rw (place, within) refl)
-  where
-    parts : (o : Option ℕ) → o ≡ Some (length before)
-        → ◌>>=◌ {B = List ℕ × List ℕ} (ok_or o BadHeader) (λ place. Ok (take place (before ++ 58 ∷ after), drop (place + 1) (before ++ 58 ∷ after))) ≡ Ok (before, after)
-    parts None e = cc e
-    parts (Some n) e =
-        let same : n ≡ length before = cc e in
-        rw (same, take-append_seam before (58 ∷ after), drop-append-add before (58 ∷ after) 1) refl
+    rw (place, within, take-append_seam before (58 ∷ after), drop-append-add before (58 ∷ after) 1) refl
 
 -- base64 of UTF-8 text is read as the text
 basic_text-back : (text : List ℕ) → IsAscii text → basic_text (codes "Basic " ++ encode_of standard text) ≡ Ok text
 basic_text-back text ascii =
-    by (decode_of standard (encode_of standard text)) (decode_of-encode_of standard text refl (λ i. omega (arith, ascii i))) (is_utf8-from_IsUtf8 text (IsUtf8-from_ascii text ascii))
-  where
-    by : (r : Result (List ℕ) DecodeError) → r ≡ Ok text → is_utf8 text ≡ true
-        → (ok_or (result_ok r) BadHeader >>= (λ bytes. if is_utf8 bytes then Ok bytes else Err BadHeader)) ≡ Ok text
-    by r read utf8 = rw (read, utf8) refl
+    let read = decode_of-encode_of standard text refl (λ i. omega (arith, ascii i)) in
+    rw (read, is_utf8-from_IsUtf8 text (IsUtf8-from_ascii text ascii)) refl
 
 credentials-back : (id secret : List ℕ) → All (λ b. b < 128) id → All (λ b. b < 128) secret → basic_credentials (basic_header id secret) ≡ Ok (id, secret)
 credentials-back id secret id_ascii secret_ascii =
     let ascii : IsAscii (byte_serialize id ++ 58 ∷ byte_serialize secret) =
     IsAscii-append (byte_serialize id) (58 ∷ byte_serialize secret) (IsAscii-byte_serialize id) (IsAscii-cons 58 (byte_serialize secret) (omega arith) (IsAscii-byte_serialize secret)) in
-    read (basic_text (basic_header id secret)) (basic_text-back _ ascii)
-    (around_colon-back (byte_serialize id) (byte_serialize secret) (All-byte_serialize id)) (form_text-back id id_ascii) (form_text-back secret secret_ascii)
-  where
-    read : (r : Result (List ℕ) AuthFault) → r ≡ Ok (byte_serialize id ++ 58 ∷ byte_serialize secret)
-        → around_colon (byte_serialize id ++ 58 ∷ byte_serialize secret) ≡ Ok (byte_serialize id, byte_serialize secret)
-        → form_text (byte_serialize id) ≡ Ok id → form_text (byte_serialize secret) ≡ Ok secret
-        → (r >>= (λ text. around_colon text >>= (λ parts. form_text parts.0 >>= (λ id. ◌>>=◌ {B = List ℕ × List ℕ} (form_text parts.1) (λ secret. Ok (id, secret)))))) ≡ Ok (id, secret)
-    read r text parts first second = rw (text, parts, first, second) refl
+    let text = basic_text-back _ ascii in
+    let parts = around_colon-back (byte_serialize id) (byte_serialize secret) (All-byte_serialize id) in
+    rw (text, parts, form_text-back id id_ascii, form_text-back secret secret_ascii) refl
 
 -- the number of a client whose identifier no other has
 numbered : (clients : List ClientRecord) (at i : ℕ) (client : ClientRecord) → any_twice (ids clients) ≡ false → slice_get clients at ≡ Some client
@@ -120,38 +100,17 @@ numbered (c ∷ clients) zero i client once is =
     let eq : bytes_eq client.id c.id ≡ true = (bytes_eq-Decides client.id c.id).1 (ap (λ (c : ClientRecord). c.id) (sym same)) in
     rw eq (refl, ap Some (omega arith))
 numbered (c ∷ clients) (suc at) i client once is =
-    let parts = or_parts (list_any (bytes_eq c.id) (ids clients)) (any_twice (ids clients)) once in
-    let later = numbered clients at (i + 1) client parts.1 is in
-    let other : bytes_eq client.id c.id ≡ false = differs (bytes_eq client.id c.id) refl parts.0 later.0 in
-    rw other (later.0, later.1 ∙ ap Some (omega arith))
-  where
-    differs : (b : Bool) → bytes_eq client.id c.id ≡ b → list_any (bytes_eq c.id) (ids clients) ≡ false → list_any (bytes_eq client.id) (ids clients) ≡ true → bytes_eq client.id c.id ≡ false
-    differs false e none some = e
-    differs true e none some =
-        let same : client.id ≡ c.id = (bytes_eq-Decides client.id c.id).0 e in
-        let h : list_any (bytes_eq c.id) (ids clients) ≡ true = subst (λ (t : List ℕ). list_any (bytes_eq t) (ids clients) ≡ true) same some in
-        cc (h, none)
+    let later = numbered clients at (i + 1) client in
+    let same = (bytes_eq-Decides client.id c.id).0 in
+    grind (arith, later, same, once, is)
 
 -- each client of a registry is authenticated by the header of its identifier and secret
 pub headers_authenticate : (rules : RegistryRecord) → IsRegistry rules → HeadersAuthenticate rules.clients
 headers_authenticate rules is number client secret params at right no_id no_secret =
     let one = client-of rules number client is at in
     let sent = credentials-back client.id secret (identifier-ascii client.id one.is_client.id) (key-ascii secret (secret-key secret client right)) in
-    let known : number_among client.id (ids rules.clients) ≡ Some number = number_where (number == 0) refl at in
+    let counted = numbered rules.clients (number - 1) 1 client is.distinct in
+    let known : number_among client.id (ids rules.clients) ≡ Some number = grind (arith, nat_tests, counted, at) in
     let among : is_secret_of number rules.clients secret ≡ true = ap (λ (o : Option ClientRecord). option_map_or (has_secret secret) o false) at ∙ right in
-    by (value_sent (codes "client_secret") params) (value_sent (codes "client_id") params) (basic_credentials (basic_header client.id secret)) no_secret no_id sent
-    (found (number_among client.id (ids rules.clients)) known among)
-  where
-    number_where : (none : Bool) → (number == 0) ≡ none → (if none then None else slice_get rules.clients (number - 1)) ≡ Some client
-        → number_among client.id (ids rules.clients) ≡ Some number
-    number_where true e at = cc at
-    number_where false e at = (numbered rules.clients (number - 1) 1 client is.distinct at).1 ∙ ap Some (grind (arith, nat_tests))
-
-    found : (o : Option ℕ) → o ≡ Some number → is_secret_of number rules.clients secret ≡ true
-        → (ok_or o NoClient >>= (λ n. if is_secret_of n rules.clients secret then Ok n else Err BadSecret)) ≡ Ok number
-    found o known right = rw (known, right) refl
-
-    by : (beside named : Option (List ℕ)) (sent : Result (List ℕ × List ℕ) AuthFault)
-        → beside ≡ None → named ≡ None → sent ≡ Ok (client.id, secret) → identified rules.clients None client.id secret ≡ Ok number
-        → (if is_some beside then Err TwoMethods else (sent >>= (λ sent. identified rules.clients named sent.0 sent.1))) ≡ Ok number
-    by beside named sent none unnamed credentials known = rw (none, unnamed, credentials) known
+    let found : identified rules.clients None client.id secret ≡ Ok number = rw (known, among) refl in
+    rw (no_secret, no_id, sent) found

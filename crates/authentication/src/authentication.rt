@@ -1,11 +1,10 @@
 //! Client authentication by HTTP Basic or by parameters (RFC 6749, section 2.3.1; RFC 7617).
 
-ghost use Rattle.std.specs.Prelude.{◌≡◌, ◌≤◌, length, ◌==◌, ◌&&◌, ℕ, List, true, false, not, nat_lt, drop, bytes_eq, if◌then◌else◌, string_bytes, option_copied, IfOk, IfErr, Ok, Err, None, Some};
+ghost use Rattle.std.specs.Prelude.{◌≡◌, ◌≤◌, length, ◌==◌, ◌&&◌, true, false, not, nat_lt, drop, bytes_eq, if◌then◌else◌, string_bytes, option_copied, IfOk, IfErr, Ok, Err, None, Some};
 ghost use Rattle.std.specs.Cow.{cow_str_bytes};
 ghost use Rattle.std.specs.List.{list_all};
 ghost use Rattle.std.specs.Option.{ok_or, option_map_or};
 ghost use Rattle.std.specs.Str.{is_utf8};
-ghost use Rattle.authentication.specs.FaultTexts.{auth_fault_text};
 ghost use Rattle.clients.specs.Faults.{GivesUnless};
 ghost use Rattle.clients.specs.FaultsParts.{seen_by};
 ghost use Rattle.clients.specs.Numbers.{number_among};
@@ -40,16 +39,8 @@ pub enum AuthFault {
 }
 
 impl fmt::Display for AuthFault {
-    ghost output = { λ fault. Some (auth_fault_text fault) };
-
     fn fmt<W: fmt::Write>(&self, f: &mut fmt::Formatter<W>) -> fmt::Result {
-        match self {
-            AuthFault::NoClient => write!(f, "NoClient"),
-            AuthFault::BadSecret => write!(f, "BadSecret"),
-            AuthFault::TwoMethods => write!(f, "TwoMethods"),
-            AuthFault::BadHeader => write!(f, "BadHeader"),
-            AuthFault::Memory => write!(f, "Memory"),
-        }
+        write!(f, "{self:?}")
     }
 }
 

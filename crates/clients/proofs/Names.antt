@@ -4,7 +4,6 @@ pub use Rattle.clients.specs.Numbers.{number_among, IsIndex}
 pub use Rattle.clients.specs.Owners.{keys, owners_after}
 pub use Rattle.clients.specs.Registry.{data_of, registry_of}
 pub use Rattle.clients.specs.RegistryLaws.{redirect-among, id-read, secret-read, redirects_member-read, registry-read}
-pub use Rattle.clients.specs.Spots.{clients_spot, grant_at_fault, owner_at_fault, redirect_at_fault, scope_at_fault}
 pub use Rattle.clients.specs.declared.fault.ConfigFault.TheVariants.{NotJson, Memory, OutOfRange}
 pub use Rattle.serde_json.specs.View.{items_view, view}
 pub use Rattle.serde_json.specs.declared.value.Value.{Value}

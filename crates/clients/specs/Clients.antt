@@ -1,13 +1,10 @@
 -- The clients of a registry (RFC 6749, section 2).
-use Rattle.std.specs.Prelude.{ℕ, List, [], ◌∷◌, ◌++◌, map, codes, ◌-◌, ◌==◌, slice_get, if◌then◌else◌, Bool, false, Option, None, Result, Ok, Err}
-use Rattle.std.specs.List.{list_any}
-use Rattle.std.specs.Option.{option_map_or}
+use Rattle.std.specs.Prelude.{ℕ, List, [], ◌∷◌, ◌++◌, length, map, codes, ◌-◌, ◌==◌, slice_get, if◌then◌else◌, Bool, false, Option, None, Result, Ok, Err}
+use Rattle.clients.specs.Names.{list_any, option_map_or, Data, Items, no_items, item, as_array, ConfigFault, OutOfRange, Refusal, Id, Secret, Redirects, Scope, Client, Grants}
 use Rattle.std.specs.Str.{bytes_eq}
-use Rattle.serde_json.specs.Data.{Data, Items, no_items, item}
-use Rattle.serde_json.specs.Find.{as_array}
 use Rattle.clients.specs.Limits.{redirect_count_limit}
 use Rattle.clients.specs.Faults.{◌>>=◌}
-use Rattle.clients.specs.Json.{member_of, list_of, items_within}
+use Rattle.clients.specs.Json.{member_of, list_of, items_in}
 use Rattle.clients.specs.Texts.{identifier_of}
 use Rattle.clients.specs.Keys.{sent_digest, key_digest}
 use Rattle.clients.specs.Numbers.{new_among}
@@ -15,9 +12,8 @@ use Rattle.clients.specs.Redirect.{redirects_after}
 use Rattle.clients.specs.Scopes.{scope_of}
 use Rattle.clients.specs.Grants.{no_grants, grants_after}
 use Rattle.clients.specs.ClientRecord.{ClientRecord}
-use Rattle.clients.specs.declared.fault.ConfigFault.{ConfigFault}
-use Rattle.clients.specs.declared.fault.ConfigFault.TheVariants.{OutOfRange}
-use Rattle.clients.specs.declared.grant.Grants.{Grants}
+use Rattle.clients.specs.Spots.{located}
+use Rattle.clients.specs.declared.spot.ClientSpot.TheVariants as spot
 
 -- the clients' identifiers
 abbrev pub ids : List ClientRecord → List (List ℕ)
@@ -64,12 +60,11 @@ secret_member value = do
   member ← member_of (codes "secret") value
   secrets_of member
 
--- the member `redirects`: at most 8 redirect URIs
-abbrev pub redirects_member : Data → Result (List (List ℕ)) ConfigFault
-redirects_member value = do
-  member ← member_of (codes "redirects") value
-  items ← items_within 0 redirect_count_limit member
-  redirects_after [] items
+-- the member `redirects` of the client with the number: at most 8 redirect URIs
+abbrev pub redirects_member : ℕ → Data → Result (List (List ℕ)) Refusal
+redirects_member client value = do
+  items ← located (Client client (Redirects None)) (items_in (codes "redirects") 0 redirect_count_limit value)
+  redirects_after client [] items
 
 -- the member `scope`: the mask of what the client may be allowed
 abbrev pub scope_member : List (List ℕ) → Data → Result ℕ ConfigFault
@@ -77,25 +72,30 @@ scope_member scopes value = do
   member ← member_of (codes "scope") value
   scope_of scopes member
 
--- the member `grants`
-abbrev pub grants_member : Data → Result Grants ConfigFault
-grants_member value = do
+-- the list of the member `grants`
+abbrev pub grants_in : Data → Result Items ConfigFault
+grants_in value = do
   member ← member_of (codes "grants") value
-  items ← list_of member
-  grants_after no_grants items
+  list_of member
+
+-- the member `grants` of the client with the number
+abbrev pub grants_member : ℕ → Data → Result Grants Refusal
+grants_member client value = do
+  items ← located (Client client (spot.Grants None)) (grants_in value)
+  grants_after client 0 no_grants items
 
 -- a client after these, where the registry has these scope names
-abbrev pub client_of : List (List ℕ) → List ClientRecord → Data → Result ClientRecord ConfigFault
+abbrev pub client_of : List (List ℕ) → List ClientRecord → Data → Result ClientRecord Refusal
 client_of scopes clients value = do
-  id ← id_member clients value
-  secrets ← secret_member value
-  redirects ← redirects_member value
-  allowed ← scope_member scopes value
-  grants ← grants_member value
+  id ← located (Client (length clients) Id) (id_member clients value)
+  secrets ← located (Client (length clients) Secret) (secret_member value)
+  redirects ← redirects_member (length clients) value
+  allowed ← located (Client (length clients) Scope) (scope_member scopes value)
+  grants ← grants_member (length clients) value
   Ok (record { id = id; secrets = secrets; redirects = redirects; allowed = allowed; grants = grants })
 
 -- the clients so far, and those of these items after them
-abbrev pub clients_after : List (List ℕ) → List ClientRecord → Items → Result (List ClientRecord) ConfigFault
+abbrev pub clients_after : List (List ℕ) → List ClientRecord → Items → Result (List ClientRecord) Refusal
 clients_after scopes clients no_items = Ok clients
 clients_after scopes clients (item d ds) = do
   client ← client_of scopes clients d

@@ -1,15 +1,13 @@
 -- Grant types (RFC 6749, section 1.3) and the sets of them.
-use Rattle.std.specs.Prelude.{ℕ, List, Bool, false, true, if◌then◌else◌, codes, Option, Some, None, Result, Ok}
-use Rattle.std.specs.Option.{ok_or}
+use Rattle.std.specs.Prelude.{ℕ, ◌+◌, List, Bool, false, true, if◌then◌else◌, codes, Option, Some, None, Result, Ok}
+use Rattle.clients.specs.Names.{ok_or, Data, Items, no_items, item, ConfigFault, BadShape, Refusal, Client, Grants}
 use Rattle.std.specs.Str.{bytes_eq}
-use Rattle.serde_json.specs.Data.{Data, Items, no_items, item}
 use Rattle.clients.specs.Faults.{◌>>=◌}
 use Rattle.clients.specs.Json.{text_of}
-use Rattle.clients.specs.declared.fault.ConfigFault.{ConfigFault}
-use Rattle.clients.specs.declared.fault.ConfigFault.TheVariants.{BadShape}
+use Rattle.clients.specs.Spots.{located}
+use Rattle.clients.specs.declared.spot.ClientSpot.TheVariants as spot
 use Rattle.clients.specs.declared.grant.GrantType.{GrantType}
 use Rattle.clients.specs.declared.grant.GrantType.TheVariants.{AuthorizationCode, RefreshToken, ClientCredentials}
-use Rattle.clients.specs.declared.grant.Grants.{Grants}
 
 -- the grant type of a name
 abbrev pub grant_named : List ℕ → Option GrantType
@@ -40,9 +38,9 @@ grant_type_of value = do
   name ← text_of value
   ok_or (grant_named name) BadShape
 
--- the grant types so far, and those that these items name
-abbrev pub grants_after : Grants → Items → Result Grants ConfigFault
-grants_after grants no_items = Ok grants
-grants_after grants (item d ds) = do
-  grant ← grant_type_of d
-  grants_after (with_grant grant grants) ds
+-- the grant types of the client with the number so far, and those that these items name
+abbrev pub grants_after : (client count : ℕ) → Grants → Items → Result Grants Refusal
+grants_after client count grants no_items = Ok grants
+grants_after client count grants (item d ds) = do
+  grant ← located (Client client (spot.Grants (Some count))) (grant_type_of d)
+  grants_after client (count + 1) (with_grant grant grants) ds

@@ -1,12 +1,8 @@
 -- Members, texts, lives and lists of JSON data.
 use Rattle.std.specs.Prelude.{ℕ, suc, ◌&&◌, List, nat_le, if◌then◌else◌, Option, Some, None, Result, Ok, Err}
-use Rattle.std.specs.Option.{ok_or}
-use Rattle.serde_json.specs.Data.{Data, Items, no_items, item}
-use Rattle.serde_json.specs.Find.{get, as_str, as_number, as_u64, as_array}
+use Rattle.clients.specs.Names.{ok_or, Data, Items, no_items, item, get, as_str, as_number, as_u64, as_array, ConfigFault, BadShape, OutOfRange}
 use Rattle.clients.specs.Limits.{life_limit}
 use Rattle.clients.specs.Faults.{◌>>=◌}
-use Rattle.clients.specs.declared.fault.ConfigFault.{ConfigFault}
-use Rattle.clients.specs.declared.fault.ConfigFault.TheVariants.{BadShape, OutOfRange}
 
 -- the member of this name
 abbrev pub member_of : List ℕ → Data → Result Data ConfigFault
@@ -36,8 +32,9 @@ item_count (item d ds) = suc (item_count ds)
 abbrev pub list_of : Data → Result Items ConfigFault
 list_of value = ok_or (as_array value) BadShape
 
--- the items of a list, of which there are from the least to the most
-abbrev pub items_within : ℕ → ℕ → Data → Result Items ConfigFault
-items_within least most value = do
-  items ← list_of value
+-- the items of the list of this name, of which there are from the least to the most
+abbrev pub items_in : List ℕ → ℕ → ℕ → Data → Result Items ConfigFault
+items_in name least most value = do
+  member ← member_of name value
+  items ← list_of member
   if nat_le least (item_count items) && nat_le (item_count items) most then Ok items else Err OutOfRange

@@ -1,16 +1,11 @@
 -- The digests of keys and secrets, by which alone they are known: SHA-256 (FIPS 180-4).
 use Rattle.std.specs.Prelude.{ℕ, List, codes, is_some, if◌then◌else◌, Option, Some, None, Result, Ok}
-use Rattle.std.specs.Option.{ok_or}
-use Rattle.std.specs.Result.{result_ok}
+use Rattle.clients.specs.Names.{ok_or, result_ok, Data, as_object, ConfigFault, OutOfRange}
 use Rattle.sha2.specs.Sha256.{sha256}
 use Rattle.hex.specs.Hex.{decode_sized}
-use Rattle.serde_json.specs.Data.{Data}
-use Rattle.serde_json.specs.Find.{as_object}
 use Rattle.clients.specs.Faults.{◌>>=◌}
 use Rattle.clients.specs.Json.{member_of, text_of}
 use Rattle.clients.specs.Texts.{is_key, key_of}
-use Rattle.clients.specs.declared.fault.ConfigFault.{ConfigFault}
-use Rattle.clients.specs.declared.fault.ConfigFault.TheVariants.{OutOfRange}
 
 -- the 32 bytes of 64 hexadecimal digits, in either case
 abbrev pub digest_in : List ℕ → Result (List ℕ) ConfigFault

@@ -1,6 +1,7 @@
 -- What public clauses cite. docs/DEFINITIONS.md says what to read in which order.
 pub mod Limits
 pub mod Faults
+pub mod Spots
 pub mod Json
 pub mod Texts
 pub mod Redirect
@@ -15,9 +16,9 @@ pub mod Clients
 pub mod RegistryRecord
 pub mod Registry
 pub mod RegistryRules
-pub mod Spots
-pub mod FaultTexts
 -- What only the contracts of this crate's own parts and their proofs cite.
 pub mod FaultsParts
 -- Laws, each proved: a reader may skip them.
 pub mod RegistryLaws
+-- What these files import, passed on.
+pub mod Names

@@ -1,11 +1,9 @@
 -- The numbers of owners and clients.
 use Rattle.std.specs.Prelude.{◌≡◌, ℕ, List, String, is_some, if◌then◌else◌, Option, Result, Ok, Err}
+use Rattle.clients.specs.Names.{position_from, ConfigFault, Twice}
 use Rattle.std.specs.declared.alloc.Global.{Global}
 use Rattle.std.specs.BTreeMap.{BTreeMap, get_by_text}
-use Rattle.std.specs.List.{position_from}
 use Rattle.std.specs.Str.{bytes_eq}
-use Rattle.clients.specs.declared.fault.ConfigFault.{ConfigFault}
-use Rattle.clients.specs.declared.fault.ConfigFault.TheVariants.{Twice}
 
 -- the number of a text among these: its place, counted from 1
 abbrev pub number_among : List ℕ → List (List ℕ) → Option ℕ

@@ -1,13 +1,12 @@
 -- The owners of a registry.
-use Rattle.std.specs.Prelude.{ℕ, ◌-◌, ◌==◌, List, [], ◌∷◌, ◌++◌, map, codes, slice_get, unwrap_or, if◌then◌else◌, Option, Some, None, option_and_then, Result, Ok}
-use Rattle.serde_json.specs.Data.{Data, Items, no_items, item}
-use Rattle.serde_json.specs.Find.{get}
+use Rattle.std.specs.Prelude.{ℕ, ◌-◌, ◌==◌, List, [], ◌∷◌, ◌++◌, length, map, codes, slice_get, unwrap_or, if◌then◌else◌, Option, Some, None, option_and_then, Result, Ok}
+use Rattle.clients.specs.Names.{Data, Items, no_items, item, get, ConfigFault, Refusal, Owners}
 use Rattle.clients.specs.Faults.{◌>>=◌}
 use Rattle.clients.specs.Texts.{key_of}
 use Rattle.clients.specs.Keys.{sent_digest, key_digest}
 use Rattle.clients.specs.Numbers.{number_among, new_among}
 use Rattle.clients.specs.OwnerRecord.{OwnerRecord}
-use Rattle.clients.specs.declared.fault.ConfigFault.{ConfigFault}
+use Rattle.clients.specs.Spots.{located}
 
 -- the digests of the owners' keys
 abbrev pub keys : List OwnerRecord → List (List ℕ)
@@ -50,8 +49,8 @@ owner_of owners value = do
   Ok (record { key = key; sub = sub })
 
 -- the owners so far, and those of these items after them
-abbrev pub owners_after : List OwnerRecord → Items → Result (List OwnerRecord) ConfigFault
+abbrev pub owners_after : List OwnerRecord → Items → Result (List OwnerRecord) Refusal
 owners_after owners no_items = Ok owners
 owners_after owners (item d ds) = do
-  owner ← owner_of owners d
+  owner ← located (Owners (Some (length owners))) (owner_of owners d)
   owners_after (owners ++ owner ∷ []) ds

@@ -1,14 +1,13 @@
 -- Redirect URIs (RFC 6749, section 3.1.2).
-use Rattle.std.specs.Prelude.{ℕ, List, [], ◌∷◌, ◌++◌, length, Bool, false, ◌&&◌, ◌||◌, nat_le, is_none, codes, Result, Ok, Err, None, if◌then◌else◌}
+use Rattle.std.specs.Prelude.{ℕ, List, [], ◌∷◌, ◌++◌, length, Bool, false, ◌&&◌, ◌||◌, nat_le, is_none, codes, Result, Ok, Err, Some, None, if◌then◌else◌}
+use Rattle.clients.specs.Names.{Data, Items, no_items, item, ConfigFault, BadRedirect, Refusal, Redirects, Client}
 use Rattle.std.specs.Str.{bytes_eq}
-use Rattle.serde_json.specs.Data.{Data, Items, no_items, item}
 use Rattle.url.specs.Parts.{Parts, serialize}
 use Rattle.url.specs.Parser.{Parsed, parse_url}
 use Rattle.clients.specs.Limits.{redirect_limit}
 use Rattle.clients.specs.Faults.{◌>>=◌}
 use Rattle.clients.specs.Json.{text_of}
-use Rattle.clients.specs.declared.fault.ConfigFault.{ConfigFault}
-use Rattle.clients.specs.declared.fault.ConfigFault.TheVariants.{BadRedirect}
+use Rattle.clients.specs.Spots.{located}
 
 -- an http or https URL without query and fragment
 abbrev pub is_plain_web : Parts → Bool
@@ -30,9 +29,9 @@ redirect_of value = do
   text ← text_of value
   if is_redirect text then Ok text else Err BadRedirect
 
--- the redirect URIs so far, and those of these items after them
-abbrev pub redirects_after : List (List ℕ) → Items → Result (List (List ℕ)) ConfigFault
-redirects_after redirects no_items = Ok redirects
-redirects_after redirects (item d ds) = do
-  redirect ← redirect_of d
-  redirects_after (redirects ++ redirect ∷ []) ds
+-- the redirect URIs of the client with the number so far, and those of these items after them
+abbrev pub redirects_after : ℕ → List (List ℕ) → Items → Result (List (List ℕ)) Refusal
+redirects_after client redirects no_items = Ok redirects
+redirects_after client redirects (item d ds) = do
+  redirect ← located (Client client (Redirects (Some (length redirects)))) (redirect_of d)
+  redirects_after client (redirects ++ redirect ∷ []) ds

@@ -1,8 +1,6 @@
 -- What holds of every registry that was read.
 use Rattle.std.specs.Prelude.{◌≡◌, ◌<◌, ◌≤◌, ◌^◌, ℕ, List, length, true, false, All, IfSome}
-use Rattle.std.specs.List.{list_all}
-use Rattle.params.specs.Form.{any_twice}
-use Rattle.params.specs.Scope.{IsCatalogue}
+use Rattle.clients.specs.Names.{list_all, any_twice, IsCatalogue}
 use Rattle.clients.specs.Limits.{life_limit, secret_count_limit}
 use Rattle.clients.specs.Texts.{is_identifier, is_key}
 use Rattle.clients.specs.Redirect.{is_redirect}

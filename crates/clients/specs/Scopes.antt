@@ -1,14 +1,11 @@
 -- The scope names of a registry, and the scope of a client (RFC 6749, section 3.3).
-use Rattle.std.specs.Prelude.{ℕ, List, [], ◌∷◌, ◌++◌, Option, Some, None, Result, Ok, Err}
-use Rattle.std.specs.Option.{ok_or}
-use Rattle.serde_json.specs.Data.{Data, Items, no_items, item}
-use Rattle.params.specs.Scope.{name_fault, scope_mask}
-use Rattle.params.specs.declared.catalogue.CatalogueFault.{CatalogueFault}
+use Rattle.std.specs.Prelude.{ℕ, List, [], ◌∷◌, ◌++◌, length, Option, Some, None, Result, Ok, Err}
+use Rattle.clients.specs.Names.{ok_or, Data, Items, no_items, item, name_fault, scope_mask, CatalogueFault, ConfigFault, BadScope, Twice, OutOfRange, Refusal, Scopes}
 use Rattle.params.specs.declared.catalogue.CatalogueFault.TheVariants as name
 use Rattle.clients.specs.Faults.{◌>>=◌}
 use Rattle.clients.specs.Json.{text_of}
-use Rattle.clients.specs.declared.fault.ConfigFault.{ConfigFault}
-use Rattle.clients.specs.declared.fault.ConfigFault.TheVariants.{BadScope, Twice, OutOfRange, Memory}
+use Rattle.clients.specs.Spots.{located}
+use Rattle.clients.specs.declared.fault.ConfigFault.TheVariants.{Memory}
 
 -- the registry's fault for a scope name that its catalogue does not take
 abbrev pub fault_of_name : CatalogueFault → ConfigFault
@@ -23,12 +20,17 @@ abbrev pub with_name : List (List ℕ) → List ℕ → Option CatalogueFault �
 with_name names name None = Ok (names ++ name ∷ [])
 with_name names name (Some fault) = Err (fault_of_name fault)
 
+-- the names with that of an item
+abbrev pub name_after : List (List ℕ) → Data → Result (List (List ℕ)) ConfigFault
+name_after names value = do
+  name ← text_of value
+  with_name names name (name_fault names name)
+
 -- the names so far, and the scope names of these items after them
-abbrev pub scopes_after : List (List ℕ) → Items → Result (List (List ℕ)) ConfigFault
+abbrev pub scopes_after : List (List ℕ) → Items → Result (List (List ℕ)) Refusal
 scopes_after names no_items = Ok names
 scopes_after names (item d ds) = do
-  name ← text_of d
-  more ← with_name names name (name_fault names name)
+  more ← located (Scopes (Some (length names))) (name_after names d)
   scopes_after more ds
 
 -- a string that is a scope text of these names: its mask

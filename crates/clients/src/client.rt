@@ -1,6 +1,6 @@
 //! The clients of a registry (RFC 6749, section 2).
 
-ghost use Rattle.std.specs.Prelude.{◌≡◌, ◌<◌, ◌≤◌, [], ◌∷◌, ◌++◌, length, map, string_bytes, None, Some, IfSome, IfOk, IsOk, IsTrue, option_copied, OnOk, OnErr};
+ghost use Rattle.std.specs.Prelude.{◌≡◌, ◌<◌, ◌≤◌, [], ◌∷◌, ◌++◌, length, map, string_bytes, None, Some, IfSome, IsOk, IsTrue, option_copied, OnOk, OnErr};
 ghost use Rattle.std.specs.List.{list_any};
 ghost use Rattle.std.specs.Str.{bytes_eq};
 ghost use Rattle.serde_json.specs.View.{view, items_view};
@@ -9,15 +9,15 @@ ghost use Rattle.clients.specs.FaultsParts.{seen_by};
 ghost use Rattle.clients.specs.Limits.{client_limit, identifier_limit, redirect_limit};
 ghost use Rattle.clients.specs.Grants.{has_grant};
 ghost use Rattle.clients.specs.Numbers.{number_among};
-ghost use Rattle.clients.specs.Clients.{ids, has_secret, has_redirect, id_member, secret_member, redirects_member, scope_member, grants_member, client_at, client_of, clients_after};
-ghost use Rattle.clients.specs.Spots.{item_at, redirect_at_fault, grant_at_fault, redirects_in, grants_in, client_spot, clients_spot};
+ghost use Rattle.clients.specs.Clients.{ids, has_secret, has_redirect, id_member, secret_member, redirects_member, scope_member, grants_in, grants_member, client_at, client_of, clients_after};
+ghost use Rattle.clients.specs.declared.fault.Refusal.TheVariants as refusal;
 
 use crate::digest::sent_digest;
-use crate::fault::ConfigFault;
-use crate::grant::{GrantType, Grants, grant_at_fault, grant_set};
+use crate::fault::{ConfigFault, Refusal, located};
+use crate::grant::{GrantType, Grants, grant_set};
 use crate::json::{items, list, member};
 use crate::numbering::Numbering;
-use crate::redirect::{redirect_at_fault, redirect_list};
+use crate::redirect::redirect_list;
 use crate::scope::scope;
 use crate::secret::{Secrets, client_secrets};
 use crate::spot::{ClientSpot, Spot};
@@ -196,26 +196,14 @@ fn secret_member(value: &Value) -> Result<Secrets, ConfigFault>
     client_secrets(member(value, "secret")?)
 }
 
-// The list of the member `redirects`.
-fn redirects_in(value: &Value) -> Result<&[Value], ConfigFault>
-    ensures { seen_by (λ list. items_view list.now) result ≡ redirects_in (view value.now) }
+// The member `redirects` of the client with the number.
+fn redirects_member(alloc: Global, client: usize, value: &Value) -> Result<Vec<String>, Refusal>
+    ensures { GivesUnless refusal.Memory Unit (seen_by (λ v. map string_bytes v.items) result)
+        (redirects_member client (view value.now)) }
 {
-    items(member(value, "redirects")?, 0, MOST_REDIRECTS)
-}
-
-// The list of the member `grants`.
-fn grants_in(value: &Value) -> Result<&[Value], ConfigFault>
-    ensures { seen_by (λ list. items_view list.now) result ≡ grants_in (view value.now) }
-{
-    list(member(value, "grants")?)
-}
-
-// The member `redirects`.
-fn redirects_member(alloc: Global, value: &Value) -> Result<Vec<String>, ConfigFault>
-    ensures { GivesUnless ConfigFault.Memory Unit (seen_by (λ v. map string_bytes v.items) result)
-        (redirects_member (view value.now)) }
-{
-    redirect_list(alloc, redirects_in(value)?)
+    let spot = Spot::Client(client, ClientSpot::Redirects(None));
+    let list = located(spot, items(value, "redirects", 0, MOST_REDIRECTS))?;
+    redirect_list(alloc, client, list)
 }
 
 // The member `scope`.
@@ -225,80 +213,19 @@ fn scope_member(catalogue: &Catalogue, value: &Value) -> Result<ScopeSet, Config
     scope(catalogue, member(value, "scope")?)
 }
 
-// The member `grants`.
-fn grants_member(value: &Value) -> Result<Grants, ConfigFault>
-    ensures { result ≡ grants_member (view value.now) }
+// The list of the member `grants`.
+fn grants_in(value: &Value) -> Result<&[Value], ConfigFault>
+    ensures { seen_by (λ list. items_view list.now) result ≡ grants_in (view value.now) }
 {
-    grant_set(grants_in(value)?)
+    list(member(value, "grants")?)
 }
 
-// The first redirect URI at fault of a member that is a list of few enough.
-fn redirects_item(alloc: Global, value: &Value) -> Result<Option<usize>, AllocError>
-    ensures { IfOk result (λ number. number ≡ item_at (redirect_at_fault 0) (redirects_in (view value.now))) }
+// The member `grants` of the client with the number.
+fn grants_member(client: usize, value: &Value) -> Result<Grants, Refusal>
+    ensures { result ≡ grants_member client (view value.now) }
 {
-    match redirects_in(value) {
-        Ok(list) => Ok(Some(redirect_at_fault(alloc, list)?)),
-        Err(_) => Ok(None),
-    }
-}
-
-// The first grant type at fault of a member that is a list.
-fn grants_item(value: &Value) -> Option<usize>
-    ensures { result ≡ item_at (grant_at_fault 0) (grants_in (view value.now)) }
-{
-    match grants_in(value) {
-        Ok(list) => Some(grant_at_fault(list)),
-        Err(_) => None,
-    }
-}
-
-// The first member at fault of what is no client after these.
-fn client_spot(
-    alloc: Global,
-    catalogue: &Catalogue,
-    clients: &Clients,
-    value: &Value,
-) -> Result<ClientSpot, AllocError>
-    ensures { IfOk result (λ spot. spot ≡ client_spot catalogue.now clients.now (view value.now)) }
-{
-    if id_member(clients, value).is_err() {
-        return Ok(ClientSpot::Id);
-    }
-    if secret_member(value).is_err() {
-        return Ok(ClientSpot::Secret);
-    }
-    match redirects_member(alloc, value) {
-        Ok(_) => {}
-        Err(ConfigFault::Memory) => return Err(AllocError),
-        Err(_) => return Ok(ClientSpot::Redirects(redirects_item(alloc, value)?)),
-    }
-    if scope_member(catalogue, value).is_err() {
-        return Ok(ClientSpot::Scope);
-    }
-    Ok(ClientSpot::Grants(grants_item(value)))
-}
-
-// The first item at fault of a list of clients, and where in it. Where none is, the list.
-pub(crate) fn clients_spot(
-    alloc: Global,
-    catalogue: &Catalogue,
-    list: &[Value],
-) -> Result<Spot, AllocError>
-    requires { length list.now ≤ client_limit }
-    ensures { IfOk result (λ spot. spot ≡ clients_spot catalogue.now [] (items_view list.now)) }
-{
-    let mut clients = Clients::new(alloc);
-    for value in list {
-        match read_client(alloc, catalogue, &clients, value) {
-            Ok(client) => clients.push(alloc, client)?,
-            Err(ConfigFault::Memory) => return Err(AllocError),
-            Err(_) => {
-                let within = client_spot(alloc, catalogue, &clients, value)?;
-                return Ok(Spot::Client(clients.list.len(), within));
-            }
-        }
-    }
-    Ok(Spot::Clients)
+    let spot = Spot::Client(client, ClientSpot::Grants(None));
+    grant_set(client, located(spot, grants_in(value))?)
 }
 
 // A client after these.
@@ -307,15 +234,23 @@ fn read_client(
     catalogue: &Catalogue,
     clients: &Clients,
     value: &Value,
-) -> Result<Client, ConfigFault>
-    ensures { GivesUnless ConfigFault.Memory (IsOk (id_member clients.now (view value.now)) × IsOk (secret_member (view value.now))) result
+) -> Result<Client, Refusal>
+    ensures { GivesUnless refusal.Memory (IsOk (id_member clients.now (view value.now)) × IsOk (secret_member (view value.now))) result
         (client_of catalogue.now clients.now (view value.now)) }
 {
-    let id = id_member(clients, value)?;
-    let secrets = secret_member(value)?;
-    let redirects = redirects_member(alloc, value)?;
-    let allowed = scope_member(catalogue, value)?;
-    let grants = grants_member(value)?;
+    let number = clients.list.len();
+    let id = located(
+        Spot::Client(number, ClientSpot::Id),
+        id_member(clients, value),
+    )?;
+    let secrets = located(
+        Spot::Client(number, ClientSpot::Secret),
+        secret_member(value),
+    )?;
+    let redirects = redirects_member(alloc, number, value)?;
+    let allowed = scope_member(catalogue, value);
+    let allowed = located(Spot::Client(number, ClientSpot::Scope), allowed)?;
+    let grants = grants_member(number, value)?;
     let own_id = String::from_str(alloc, id)?;
     Ok(Client {
         id: own_id,
@@ -331,9 +266,9 @@ pub(crate) fn client_list(
     alloc: Global,
     catalogue: &Catalogue,
     list: &[Value],
-) -> Result<Clients, ConfigFault>
+) -> Result<Clients, Refusal>
     requires { length list.now ≤ client_limit }
-    ensures { GivesUnless ConfigFault.Memory (0 < length list.now) result
+    ensures { GivesUnless refusal.Memory (0 < length list.now) result
         (clients_after catalogue.now [] (items_view list.now)) }
 {
     let mut clients = Clients::new(alloc);

@@ -1,10 +1,12 @@
 //! Why a registry is refused.
 
-ghost use Rattle.std.specs.Prelude.{◌≡◌, Some};
-ghost use Rattle.clients.specs.FaultTexts.{config_fault_text};
+ghost use Rattle.std.specs.Prelude.{◌≡◌};
 ghost use Rattle.clients.specs.Scopes.{fault_of_name};
+ghost use Rattle.clients.specs.Spots.{fault_of, located};
 ghost use Rattle.clients.specs.declared.fault.ConfigFault.TheVariants.{Memory};
+ghost use Rattle.clients.specs.declared.fault.Refusal.TheVariants as refusal;
 
+use crate::spot::Spot;
 use params::CatalogueFault;
 use std::alloc::{AllocError, AllocFailed};
 use std::error::Error;
@@ -30,18 +32,8 @@ pub enum ConfigFault {
 }
 
 impl fmt::Display for ConfigFault {
-    ghost output = { λ fault. Some (config_fault_text fault) };
-
     fn fmt<W: fmt::Write>(&self, f: &mut fmt::Formatter<W>) -> fmt::Result {
-        match self {
-            ConfigFault::NotJson => write!(f, "NotJson"),
-            ConfigFault::BadShape => write!(f, "BadShape"),
-            ConfigFault::BadScope => write!(f, "BadScope"),
-            ConfigFault::BadRedirect => write!(f, "BadRedirect"),
-            ConfigFault::Twice => write!(f, "Twice"),
-            ConfigFault::OutOfRange => write!(f, "OutOfRange"),
-            ConfigFault::Memory => write!(f, "Memory"),
-        }
+        write!(f, "{self:?}")
     }
 }
 
@@ -73,5 +65,53 @@ impl From<CatalogueFault> for ConfigFault {
             CatalogueFault::Twice => ConfigFault::Twice,
             CatalogueFault::Memory => ConfigFault::Memory,
         }
+    }
+}
+
+// Why a registry is refused, and where.
+#[derive(Clone, Copy)]
+pub(crate) enum Refusal {
+    // This fault is there.
+    At(ConfigFault, Spot),
+    // Memory was refused.
+    Memory,
+}
+
+impl Refusal {
+    // The fault.
+    pub(crate) fn fault(self) -> ConfigFault
+        ensures { result ≡ fault_of self }
+    {
+        match self {
+            Refusal::At(fault, _) => fault,
+            Refusal::Memory => ConfigFault::Memory,
+        }
+    }
+}
+
+impl From<AllocError> for Refusal {
+    ghost from_gives = { λ _ fault. fault ≡ refusal.Memory };
+
+    fn from(_refused: AllocError) -> Refusal {
+        Refusal::Memory
+    }
+}
+
+impl<T: Drop> From<AllocFailed<T>> for Refusal {
+    ghost from_gives = { λ _ fault. fault ≡ refusal.Memory };
+
+    fn from(_refused: AllocFailed<T>) -> Refusal {
+        Refusal::Memory
+    }
+}
+
+// What was read there, or why it is refused.
+pub(crate) fn located<T>(spot: Spot, read: Result<T, ConfigFault>) -> Result<T, Refusal>
+    ensures { result ≡ located spot read }
+{
+    match read {
+        Ok(value) => Ok(value),
+        Err(ConfigFault::Memory) => Err(Refusal::Memory),
+        Err(fault) => Err(Refusal::At(fault, spot)),
     }
 }

@@ -3,10 +3,10 @@
 ghost use Rattle.std.specs.Prelude.{◌≡◌};
 ghost use Rattle.serde_json.specs.View.{view, items_view};
 ghost use Rattle.clients.specs.Grants.{grant_named, no_grants, with_grant, has_grant, grant_type_of, grants_after};
-ghost use Rattle.clients.specs.Spots.{grant_at_fault};
 
-use crate::fault::ConfigFault;
+use crate::fault::{ConfigFault, Refusal, located};
 use crate::json::text;
+use crate::spot::{ClientSpot, Spot};
 use serde_json::Value;
 
 /// A grant type that a client may use (RFC 6749, section 1.3; refresh tokens, section 1.5).
@@ -90,27 +90,16 @@ fn grant(value: &Value) -> Result<GrantType, ConfigFault>
     GrantType::named(text(value)?).ok_or(ConfigFault::BadShape)
 }
 
-// The first item of a list that names no grant type: where each names one, how many there are.
-pub(crate) fn grant_at_fault(list: &[Value]) -> usize
-    ensures { result ≡ grant_at_fault 0 (items_view list.now) }
-{
-    let mut number = 0;
-    for value in list {
-        if grant(value).is_err() {
-            return number;
-        }
-        number += 1;
-    }
-    number
-}
-
-// The grant types that a list names.
-pub(crate) fn grant_set(list: &[Value]) -> Result<Grants, ConfigFault>
-    ensures { result ≡ grants_after no_grants (items_view list.now) }
+// The grant types that a list of the client's names.
+pub(crate) fn grant_set(client: usize, list: &[Value]) -> Result<Grants, Refusal>
+    ensures { result ≡ grants_after client 0 no_grants (items_view list.now) }
 {
     let mut grants = Grants::none();
+    let mut number = 0;
     for value in list {
-        grants = grants.with(grant(value)?);
+        let spot = Spot::Client(client, ClientSpot::Grants(Some(number)));
+        grants = grants.with(located(spot, grant(value))?);
+        number += 1;
     }
     Ok(grants)
 }

@@ -3,7 +3,7 @@
 ghost use Rattle.std.specs.Prelude.{◌≡◌, ◌≤◌, length, IfOk};
 ghost use Rattle.serde_json.specs.View.{view, items_view};
 ghost use Rattle.clients.specs.FaultsParts.{seen_by};
-ghost use Rattle.clients.specs.Json.{member_of, text_of, life_of, list_of, items_within};
+ghost use Rattle.clients.specs.Json.{member_of, text_of, life_of, list_of, items_in};
 
 use crate::fault::ConfigFault;
 use serde_json::Value;
@@ -41,13 +41,18 @@ pub(crate) fn list(value: &Value) -> Result<&[Value], ConfigFault>
     Ok(list.as_slice())
 }
 
-// The items of a list, of which there are from the least to the most.
+// The items of the list of this name, of which there are from the least to the most.
 #[tactic(auto, using(crate::proofs::Items::item_count_of))]
-pub(crate) fn items(value: &Value, least: usize, most: usize) -> Result<&[Value], ConfigFault>
-    ensures value { seen_by (λ list. items_view list.now) result ≡ items_within least most (view value.now) }
+pub(crate) fn items<'v>(
+    value: &'v Value,
+    name: &str,
+    least: usize,
+    most: usize,
+) -> Result<&'v [Value], ConfigFault>
+    ensures value { seen_by (λ list. items_view list.now) result ≡ items_in name.now least most (view value.now) }
     ensures at_most { IfOk result (λ list. length list.now ≤ most) }
 {
-    let list = list(value)?;
+    let list = list(member(value, name)?)?;
     if least <= list.len() && list.len() <= most {
         Ok(list)
     } else {

@@ -1,6 +1,6 @@
 //! The owners of a registry.
 
-ghost use Rattle.std.specs.Prelude.{◌≡◌, ◌<◌, ◌≤◌, [], ◌∷◌, ◌++◌, length, map, string_bytes, option_map, option_copied, bytes_eq, is_some, None, IfSome, IfOk, IsOk, OnOk, OnErr};
+ghost use Rattle.std.specs.Prelude.{◌≡◌, ◌<◌, ◌≤◌, [], ◌∷◌, ◌++◌, length, map, string_bytes, option_map, option_copied, bytes_eq, is_some, None, IfSome, OnOk, OnErr};
 ghost use Rattle.serde_json.specs.View.{view, items_view};
 ghost use Rattle.clients.specs.Limits.{owner_limit, key_limit};
 ghost use Rattle.clients.specs.Faults.{GivesUnless};
@@ -8,10 +8,11 @@ ghost use Rattle.clients.specs.FaultsParts.{seen_by};
 ghost use Rattle.clients.specs.Keys.{key_digest};
 ghost use Rattle.clients.specs.Numbers.{number_among};
 ghost use Rattle.clients.specs.Owners.{keys, owner_with, sub_of, key_in, new_key, sub_member, owner_of, owners_after};
-ghost use Rattle.clients.specs.Spots.{owner_at_fault};
+ghost use Rattle.clients.specs.declared.fault.Refusal.TheVariants as refusal;
 
 use crate::digest::{are_same, key_digest, sent_digest};
-use crate::fault::ConfigFault;
+use crate::fault::{ConfigFault, Refusal, located};
+use crate::spot::Spot;
 use crate::text::key;
 use consent::{Digest, OwnerNo};
 use serde_json::Value;
@@ -190,30 +191,15 @@ fn read_owner(alloc: Global, owners: &Owners, value: &Value) -> Result<Owner, Co
     Ok(Owner { key, sub })
 }
 
-// The first item of a list that is no owner after those before it: where each is one, how many there are.
-pub(crate) fn owner_at_fault(alloc: Global, list: &[Value]) -> Result<usize, AllocError>
-    requires { length list.now ≤ owner_limit }
-    ensures { IfOk result (λ number. number ≡ owner_at_fault [] (items_view list.now)) }
-{
-    let mut owners = Owners::new(alloc);
-    for value in list {
-        match read_owner(alloc, &owners, value) {
-            Ok(owner) => owners.push(owner)?,
-            Err(ConfigFault::Memory) => return Err(AllocError),
-            Err(_) => return Ok(owners.list.len()),
-        }
-    }
-    Ok(owners.list.len())
-}
-
 // The owners of a list.
-pub(crate) fn owner_list(alloc: Global, list: &[Value]) -> Result<Owners, ConfigFault>
+pub(crate) fn owner_list(alloc: Global, list: &[Value]) -> Result<Owners, Refusal>
     requires { length list.now ≤ owner_limit }
-    ensures { GivesUnless ConfigFault.Memory (0 < length list.now) result (owners_after [] (items_view list.now)) }
+    ensures { GivesUnless refusal.Memory (0 < length list.now) result (owners_after [] (items_view list.now)) }
 {
     let mut owners = Owners::new(alloc);
     for value in list {
-        owners.push(read_owner(alloc, &owners, value)?)?;
+        let spot = Spot::Owners(Some(owners.list.len()));
+        owners.push(located(spot, read_owner(alloc, &owners, value))?)?;
     }
     Ok(owners)
 }

@@ -7,10 +7,11 @@ ghost use Rattle.clients.specs.Json.{text_of};
 ghost use Rattle.clients.specs.Faults.{GivesUnless};
 ghost use Rattle.clients.specs.FaultsParts.{seen_by};
 ghost use Rattle.clients.specs.Redirect.{is_plain_web, is_redirect, redirect_of, redirects_after};
-ghost use Rattle.clients.specs.Spots.{redirect_at_fault};
+ghost use Rattle.clients.specs.declared.fault.Refusal.TheVariants as refusal;
 
-use crate::fault::ConfigFault;
+use crate::fault::{ConfigFault, Refusal, located};
 use crate::json::text;
+use crate::spot::{ClientSpot, Spot};
 use serde_json::Value;
 use std::alloc::{AllocError, Global};
 use url::{ParseError, Url};
@@ -51,29 +52,19 @@ pub(crate) fn redirect(alloc: Global, value: &Value) -> Result<&str, ConfigFault
     }
 }
 
-// The first item of a list that is no redirect URI: where each is one, how many there are.
-pub(crate) fn redirect_at_fault(alloc: Global, list: &[Value]) -> Result<usize, AllocError>
-    ensures { IfOk result (λ number. number ≡ redirect_at_fault 0 (items_view list.now)) }
-{
-    let mut number = 0;
-    for value in list {
-        match redirect(alloc, value) {
-            Ok(_) => number += 1,
-            Err(ConfigFault::Memory) => return Err(AllocError),
-            Err(_) => return Ok(number),
-        }
-    }
-    Ok(number)
-}
-
-// The redirect URIs of a list.
-pub(crate) fn redirect_list(alloc: Global, list: &[Value]) -> Result<Vec<String>, ConfigFault>
-    ensures { GivesUnless ConfigFault.Memory (0 < length list.now) (seen_by (λ v. map string_bytes v.items) result)
-        (redirects_after [] (items_view list.now)) }
+// The redirect URIs of a list of the client's.
+pub(crate) fn redirect_list(
+    alloc: Global,
+    client: usize,
+    list: &[Value],
+) -> Result<Vec<String>, Refusal>
+    ensures { GivesUnless refusal.Memory (0 < length list.now) (seen_by (λ v. map string_bytes v.items) result)
+        (redirects_after client [] (items_view list.now)) }
 {
     let mut redirects = Vec::new(alloc);
     for value in list {
-        let redirect = redirect(alloc, value)?;
+        let spot = Spot::Client(client, ClientSpot::Redirects(Some(redirects.len())));
+        let redirect = located(spot, redirect(alloc, value))?;
         redirects.push(String::from_str(alloc, redirect)?)?;
     }
     Ok(redirects)

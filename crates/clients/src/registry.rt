@@ -1,23 +1,23 @@
 //! The registry: owners, scope names and clients, and the lives of tokens.
 
-ghost use Rattle.std.specs.Prelude.{◌≡◌, ◌<◌, ◌≤◌, [], true, length, Some, IfOk, OnOk, OnErr, IfSome, option_copied, IsUtf8};
-ghost use Rattle.serde_json.specs.View.{view, items_view};
+ghost use Rattle.std.specs.Prelude.{◌≡◌, ◌<◌, ◌≤◌, length, Some, IfOk, OnOk, OnErr, IfSome, option_copied, IsUtf8};
+ghost use Rattle.serde_json.specs.View.{view};
 ghost use Rattle.clients.specs.Faults.{GivesUnless};
 ghost use Rattle.clients.specs.FaultsParts.{seen_by};
 ghost use Rattle.clients.specs.Numbers.{number_among};
-ghost use Rattle.clients.specs.Limits.{key_limit, owner_limit, client_limit};
+ghost use Rattle.clients.specs.Limits.{key_limit, owner_limit};
 ghost use Rattle.clients.specs.Owners.{owner_with, sub_of};
 ghost use Rattle.clients.specs.Clients.{ids, client_at};
-ghost use Rattle.clients.specs.Registry.{IsReadable, AreLivesAndOperatorRight, life_member, operator_member, owners_member, scopes_member, clients_member, registry_of, data_of, registry_in, is_operator_key, has_operator_among_owners};
-ghost use Rattle.clients.specs.Spots.{item_at, owner_at_fault, scope_at_fault, owners_in, scopes_in, clients_in, list_spot, spot_of, spot_in};
+ghost use Rattle.clients.specs.Registry.{IsReadable, AreLivesAndOperatorRight, life_member, operator_member, owners_member, scopes_member, clients_member, registry_of, data_of, registry_in, spot_in, is_operator_key, has_operator_among_owners};
+ghost use Rattle.clients.specs.declared.fault.Refusal.TheVariants as refusal;
 ghost use Rattle.clients.specs.RegistryRules.{IsRegistry};
 
-use crate::client::{Client, Clients, client_list, clients_spot};
+use crate::client::{Client, Clients, client_list};
 use crate::digest::{are_same, key_digest, sent_digest};
-use crate::fault::ConfigFault;
+use crate::fault::{ConfigFault, Refusal, located};
 use crate::json::{items, life, member};
-use crate::owner::{Owners, owner_at_fault, owner_list};
-use crate::scope::{scope_at_fault, scope_list};
+use crate::owner::{Owners, owner_list};
+use crate::scope::scope_list;
 use crate::spot::Spot;
 use consent::{ClientNo, Digest, OwnerNo};
 use params::Catalogue;
@@ -83,10 +83,13 @@ impl Registry {
         if bytes.len() > MOST_BYTES {
             return Err(ConfigFault::OutOfRange);
         }
-        read_registry(alloc, &read_data(alloc, bytes)?)
+        match read_registry(alloc, &read_data(alloc, bytes)?) {
+            Ok(registry) => Ok(registry),
+            Err(refusal) => Err(refusal.fault()),
+        }
     }
 
-    /// Where in JSON text of no registry its first fault lies. None: the text as a whole is at fault.
+    /// Where in JSON text of no registry its first fault lies. None: the text as a whole is at fault, or nothing is.
     #[tactic(auto, using(crate::proofs::Data::data_takes_no_memory))]
     pub fn spot_of_fault(alloc: Global, bytes: &[u8]) -> Result<Option<Spot>, AllocError>
         ensures value { IfOk result (λ spot. spot ≡ spot_in bytes.now) }
@@ -96,7 +99,11 @@ impl Registry {
             return Ok(None);
         }
         match read_data(alloc, bytes) {
-            Ok(value) => Ok(Some(spot_of(alloc, &value)?)),
+            Ok(value) => match read_registry(alloc, &value) {
+                Err(Refusal::At(_, spot)) => Ok(Some(spot)),
+                Err(Refusal::Memory) => Err(AllocError),
+                Ok(_) => Ok(None),
+            },
             Err(ConfigFault::Memory) => Err(AllocError),
             Err(_) => Ok(None),
         }
@@ -232,117 +239,37 @@ fn operator_member(value: &Value) -> Result<Digest, ConfigFault>
     key_digest(member(value, "operator")?)
 }
 
-// The list of the member `owners`.
-fn owners_in(value: &Value) -> Result<&[Value], ConfigFault>
-    ensures value { seen_by (λ list. items_view list.now) result ≡ owners_in (view value.now) }
-    ensures at_most { IfOk result (λ list. length list.now ≤ owner_limit) }
-{
-    items(member(value, "owners")?, 0, MOST_OWNERS)
-}
-
-// The list of the member `scopes`.
-fn scopes_in(value: &Value) -> Result<&[Value], ConfigFault>
-    ensures { seen_by (λ list. items_view list.now) result ≡ scopes_in (view value.now) }
-{
-    items(member(value, "scopes")?, 1, MOST_SCOPES)
-}
-
-// The list of the member `clients`.
-fn clients_in(value: &Value) -> Result<&[Value], ConfigFault>
-    ensures value { seen_by (λ list. items_view list.now) result ≡ clients_in (view value.now) }
-    ensures at_most { IfOk result (λ list. length list.now ≤ client_limit) }
-{
-    items(member(value, "clients")?, 0, MOST_CLIENTS)
-}
-
 // The member `owners`.
-fn owners_member(alloc: Global, value: &Value) -> Result<Owners, ConfigFault>
-    ensures { GivesUnless ConfigFault.Memory Unit result (owners_member (view value.now)) }
+fn owners_member(alloc: Global, value: &Value) -> Result<Owners, Refusal>
+    ensures { GivesUnless refusal.Memory Unit result (owners_member (view value.now)) }
 {
-    owner_list(alloc, owners_in(value)?)
+    let list = items(value, "owners", 0, MOST_OWNERS);
+    owner_list(alloc, located(Spot::Owners(None), list)?)
 }
 
 // The member `scopes`.
-fn scopes_member(alloc: Global, value: &Value) -> Result<Catalogue, ConfigFault>
-    ensures { GivesUnless ConfigFault.Memory Unit result (scopes_member (view value.now)) }
+fn scopes_member(alloc: Global, value: &Value) -> Result<Catalogue, Refusal>
+    ensures { GivesUnless refusal.Memory Unit result (scopes_member (view value.now)) }
 {
-    scope_list(alloc, scopes_in(value)?)
+    let list = items(value, "scopes", 1, MOST_SCOPES);
+    scope_list(alloc, located(Spot::Scopes(None), list)?)
 }
 
 // The member `clients`.
-fn clients_member(
-    alloc: Global,
-    catalogue: &Catalogue,
-    value: &Value,
-) -> Result<Clients, ConfigFault>
-    ensures { GivesUnless ConfigFault.Memory Unit result (clients_member catalogue.now (view value.now)) }
+fn clients_member(alloc: Global, catalogue: &Catalogue, value: &Value) -> Result<Clients, Refusal>
+    ensures { GivesUnless refusal.Memory Unit result (clients_member catalogue.now (view value.now)) }
 {
-    client_list(alloc, catalogue, clients_in(value)?)
-}
-
-// The first owner at fault of a member that is a list of few enough.
-fn owners_item(alloc: Global, value: &Value) -> Result<Option<usize>, AllocError>
-    ensures { IfOk result (λ number. number ≡ item_at (owner_at_fault []) (owners_in (view value.now))) }
-{
-    match owners_in(value) {
-        Ok(list) => Ok(Some(owner_at_fault(alloc, list)?)),
-        Err(_) => Ok(None),
-    }
-}
-
-// The first scope name at fault of a member that is a list of as many as may be.
-fn scopes_item(alloc: Global, value: &Value) -> Result<Option<usize>, AllocError>
-    ensures { IfOk result (λ number. number ≡ item_at (scope_at_fault []) (scopes_in (view value.now))) }
-{
-    match scopes_in(value) {
-        Ok(list) => Ok(Some(scope_at_fault(alloc, list)?)),
-        Err(_) => Ok(None),
-    }
-}
-
-// Where in the lists of a registry, the last of its members, the first fault lies.
-fn list_spot(alloc: Global, value: &Value) -> Result<Spot, AllocError>
-    ensures { IfOk result (λ spot. spot ≡ list_spot (view value.now)) }
-{
-    match owners_member(alloc, value) {
-        Ok(_) => {}
-        Err(ConfigFault::Memory) => return Err(AllocError),
-        Err(_) => return Ok(Spot::Owners(owners_item(alloc, value)?)),
-    }
-    let catalogue = match scopes_member(alloc, value) {
-        Ok(catalogue) => catalogue,
-        Err(ConfigFault::Memory) => return Err(AllocError),
-        Err(_) => return Ok(Spot::Scopes(scopes_item(alloc, value)?)),
-    };
-    match clients_in(value) {
-        Ok(list) => clients_spot(alloc, &catalogue, list),
-        Err(_) => Ok(Spot::Clients),
-    }
-}
-
-// Where in JSON data of no registry the first fault lies.
-fn spot_of(alloc: Global, value: &Value) -> Result<Spot, AllocError>
-    ensures { IfOk result (λ spot. spot ≡ spot_of (view value.now)) }
-{
-    if life_member(value, "access_life").is_err() {
-        return Ok(Spot::AccessLife);
-    }
-    if life_member(value, "refresh_life").is_err() {
-        return Ok(Spot::RefreshLife);
-    }
-    if operator_member(value).is_err() {
-        return Ok(Spot::Operator);
-    }
-    list_spot(alloc, value)
+    let list = items(value, "clients", 0, MOST_CLIENTS);
+    client_list(alloc, catalogue, located(Spot::Clients, list)?)
 }
 
 // The registry of JSON data.
-fn read_registry(alloc: Global, value: &Value) -> Result<Registry, ConfigFault>
-    ensures { GivesUnless ConfigFault.Memory (AreLivesAndOperatorRight (view value.now)) result (registry_of (view value.now)) }
+fn read_registry(alloc: Global, value: &Value) -> Result<Registry, Refusal>
+    ensures { GivesUnless refusal.Memory (AreLivesAndOperatorRight (view value.now)) result (registry_of (view value.now)) }
 {
-    let access_life = life_member(value, "access_life")?;
-    let refresh_life = life_member(value, "refresh_life")?;
-    let operator = operator_member(value)?;
+    let access_life = located(Spot::AccessLife, life_member(value, "access_life"))?;
+    let refresh_life = located(Spot::RefreshLife, life_member(value, "refresh_life"))?;
+    let operator = located(Spot::Operator, operator_member(value))?;
     let owners = owners_member(alloc, value)?;
     let catalogue = scopes_member(alloc, value)?;
     let clients = clients_member(alloc, &catalogue, value)?;

@@ -1,7 +1,7 @@
 //! Where in a registry its first fault lies, and the names of what it has.
 
-ghost use Rattle.std.specs.Prelude.{◌≡◌, Some};
-ghost use Rattle.clients.specs.Spots.{is_of_registry, is_of_client, client_spot_text, item_text, item_text_if_any, spot_text};
+ghost use Rattle.std.specs.Prelude.{◌≡◌};
+ghost use Rattle.clients.specs.Spots.{is_of_registry, is_of_client};
 
 use std::fmt;
 
@@ -58,59 +58,40 @@ pub fn is_of_client(name: &str) -> bool
     name == "id" || name == "secret" || name == "redirects" || name == "scope" || name == "grants"
 }
 
-// An item of a list.
-#[derive(Clone, Copy)]
-struct Item(usize);
-
-impl fmt::Display for Item {
-    ghost output = { λ item. Some (item_text item.0) };
-
-    fn fmt<W: fmt::Write>(&self, f: &mut fmt::Formatter<W>) -> fmt::Result {
-        write!(f, "[{}]", self.0)
-    }
-}
-
-// An item of a list, or the list.
-#[derive(Clone, Copy)]
-struct ItemIfAny(Option<usize>);
-
-impl fmt::Display for ItemIfAny {
-    ghost output = { λ item. Some (item_text_if_any item.0) };
-
-    fn fmt<W: fmt::Write>(&self, f: &mut fmt::Formatter<W>) -> fmt::Result {
-        match self.0 {
-            Some(number) => write!(f, "{}", Item(number)),
-            None => Ok(()),
-        }
+// A list, or an item of it.
+fn write_item<W: fmt::Write>(
+    f: &mut fmt::Formatter<W>,
+    list: &str,
+    number: Option<usize>,
+) -> fmt::Result {
+    match number {
+        Some(number) => write!(f, "{list}[{number}]"),
+        None => write!(f, "{list}"),
     }
 }
 
 impl fmt::Display for ClientSpot {
-    ghost output = { λ spot. Some (client_spot_text spot) };
-
     fn fmt<W: fmt::Write>(&self, f: &mut fmt::Formatter<W>) -> fmt::Result {
         match self {
             ClientSpot::Id => write!(f, "id"),
             ClientSpot::Secret => write!(f, "secret"),
-            ClientSpot::Redirects(number) => write!(f, "redirects{}", ItemIfAny(*number)),
+            ClientSpot::Redirects(number) => write_item(f, "redirects", *number),
             ClientSpot::Scope => write!(f, "scope"),
-            ClientSpot::Grants(number) => write!(f, "grants{}", ItemIfAny(*number)),
+            ClientSpot::Grants(number) => write_item(f, "grants", *number),
         }
     }
 }
 
 impl fmt::Display for Spot {
-    ghost output = { λ spot. Some (spot_text spot) };
-
     fn fmt<W: fmt::Write>(&self, f: &mut fmt::Formatter<W>) -> fmt::Result {
         match self {
             Spot::AccessLife => write!(f, "access_life"),
             Spot::RefreshLife => write!(f, "refresh_life"),
             Spot::Operator => write!(f, "operator"),
-            Spot::Owners(number) => write!(f, "owners{}", ItemIfAny(*number)),
-            Spot::Scopes(number) => write!(f, "scopes{}", ItemIfAny(*number)),
+            Spot::Owners(number) => write_item(f, "owners", *number),
+            Spot::Scopes(number) => write_item(f, "scopes", *number),
             Spot::Clients => write!(f, "clients"),
-            Spot::Client(number, within) => write!(f, "clients{}.{within}", Item(*number)),
+            Spot::Client(number, within) => write!(f, "clients[{number}].{within}"),
         }
     }
 }

@@ -1,5 +1,5 @@
 -- How changes are spelled.
-use Rattle.std.proofs.Common.{◌≡◌, ◌<◌, ◌≤◌, ◌^◌, ℕ, Bool, true, false, cond, eqb, ltb, List, Option, None, Some, ◌⊎◌, inl, inr, refl, sym, ap, ◌∙◌, arith}
+use Rattle.std.proofs.Common.{◌≡◌, ◌<◌, ◌≤◌, ◌^◌, ℕ, Bool, true, false, cond, eqb, ltb, List, None, Some, ◌⊎◌, inl, inr, refl, sym, ap, ◌∙◌, arith}
 use Rattle.std.proofs.lemmas.Bool.{ltb-true, lt-ltb, eqb-true}
 use Rattle.consent.specs.declared.grant.TokenKind.{TokenKind}
 use Rattle.consent.specs.declared.grant.TokenKind.TheVariants.{Access, Refresh}
@@ -10,7 +10,7 @@ use Rattle.consent.specs.declared.change.NewToken.{NewToken}
 use Rattle.consent.specs.declared.kept_consent.KeptConsent.{KeptConsent}
 use Rattle.wire.specs.declared.fault.Fault.TheVariants as faults
 use Rattle.wire.specs.Format.{Format, Decides, Picks, Same, only, picked, seen, fixed, ◌then◌, u32_format, u64_format, text_format, bytes_format}
-use Rattle.wire.specs.Lists.{told, ◌or◌, no_more, nothing, list_of}
+use Rattle.wire.specs.Lists.{told, ◌or◌, no_more, nothing}
 use Rattle.consent.specs.Facts.{GivenCode, Fact, Consented, CodeGiven, IssuedAlone, Issued, Spent, FamilyEnded, HookSet, HookGone}
 
 pub from_1 : Decides (λ n. ltb 0 n) (λ n. 1 ≤ n)
@@ -119,25 +119,10 @@ fact_from (HookSet name version code) = inr (inr (inr (inr (inr (inr (inl (name,
 fact_from (HookGone name) = inr (inr (inr (inr (inr (inr (inr (inl name)))))))
 
 pub fact_from_to : (v : Variants) → fact_from (fact_to v) ≡ v
-fact_from_to (inl p) = refl
-fact_from_to (inr (inl p)) = refl
-fact_from_to (inr (inr (inl p))) = refl
-fact_from_to (inr (inr (inr (inl p)))) = refl
-fact_from_to (inr (inr (inr (inr (inl digest))))) = refl
-fact_from_to (inr (inr (inr (inr (inr (inl of)))))) = refl
-fact_from_to (inr (inr (inr (inr (inr (inr (inl p))))))) = refl
-fact_from_to (inr (inr (inr (inr (inr (inr (inr (inl name)))))))) = refl
-fact_from_to (inr (inr (inr (inr (inr (inr (inr (inr none)))))))) = absurd none
+fact_from_to v = grind arith
 
 pub fact_to_from : (f : Fact) → fact_to (fact_from f) ≡ f
-fact_to_from (Consented owner client mask) = refl
-fact_to_from (CodeGiven code digest) = refl
-fact_to_from (IssuedAlone client token) = refl
-fact_to_from (Issued of token) = refl
-fact_to_from (Spent digest) = refl
-fact_to_from (FamilyEnded of) = refl
-fact_to_from (HookSet name version code) = refl
-fact_to_from (HookGone name) = refl
+fact_to_from f = grind arith
 
 abbrev pub as_fact : Same Variants Fact
 as_fact = record { to = fact_to; from = fact_from; from_to = fact_from_to; to_from = fact_to_from }

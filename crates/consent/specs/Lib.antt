@@ -5,7 +5,6 @@ pub mod History
 pub mod Consents
 pub mod Changes
 pub mod Seen
-pub mod FaultTexts
 pub mod Facts
 pub mod RecordFacts
 pub mod Formats

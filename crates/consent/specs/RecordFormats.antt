@@ -1,6 +1,6 @@
 -- How a code or token that a store keeps is spelled.
 use Rattle.std.specs.Prelude.{◌≡◌, ◌⊎◌, ℕ, List, Bool, Option, refl}
-use Rattle.std.proofs.Common.{inl, inr}
+use Rattle.std.proofs.Common.{inl, inr, arith}
 use Rattle.consent.specs.declared.grant.TokenKind.TheVariants.{Access, Refresh}
 use Rattle.consent.specs.Formats.{party_format, moment_format}
 use Rattle.consent.specs.RecordFacts.{KindFact, Code, Token, RecordFact}
@@ -23,15 +23,10 @@ kind_from (Token Refresh) = inr (inl tt)
 kind_from (Code owner redirect challenge) = inr (inr (inl (owner, (redirect, challenge))))
 
 pub kind_from_to : (p : KindParts) → kind_from (kind_to p) ≡ p
-kind_from_to (inl _) = refl
-kind_from_to (inr (inl _)) = refl
-kind_from_to (inr (inr (inl p))) = refl
-kind_from_to (inr (inr (inr none))) = absurd none
+kind_from_to p = grind arith
 
 pub kind_to_from : (k : KindFact) → kind_to (kind_from k) ≡ k
-kind_to_from (Token Access) = refl
-kind_to_from (Token Refresh) = refl
-kind_to_from (Code owner redirect challenge) = refl
+kind_to_from k = grind arith
 
 abbrev pub as_kept_kind : Same KindParts KindFact
 as_kept_kind = record { to = kind_to; from = kind_from; from_to = kind_from_to; to_from = kind_to_from }

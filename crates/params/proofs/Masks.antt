@@ -53,12 +53,7 @@ mask_of-cons_other (n ∷ names) t ts other =
 
 place_after : (t : List ℕ → Bool) (k : ℕ) (names : List (List ℕ)) → position_from t (k + 1) names ≡ option_map (λ j. j + 1) (position_from t k names)
 place_after t k [] = refl
-place_after t k (n ∷ names) = by (t n) (place_after t (k + 1) names)
-  where
-    by : (b : Bool) → position_from t (k + 1 + 1) names ≡ option_map (λ j. j + 1) (position_from t (k + 1) names)
-        → cond b (Some (k + 1)) (position_from t (k + 1 + 1) names) ≡ option_map (λ j. j + 1) (cond b (Some k) (position_from t (k + 1) names))
-    by true e = refl
-    by false e = e
+place_after t k (n ∷ names) = let later = place_after t (k + 1) names in grind (arith, later)
 
 -- one more token sets the bit of its place
 pub mask_of-cons : (names : List (List ℕ)) (t : List ℕ) (ts : List (List ℕ)) (i : ℕ) → any_twice names ≡ false → place_among t names ≡ Some i → mask_of names (t ∷ ts) ≡ bit_or (2 ^ i) (mask_of names ts)
@@ -86,11 +81,7 @@ mask_of-cons (n ∷ names) t ts i once at = by (bytes_eq t n) refl (position_fro
 
 place_before : (t : List ℕ → Bool) (k : ℕ) (names : List (List ℕ)) (i : ℕ) → position_from t k names ≡ Some i → i < k + length names
 place_before t k [] i at = cc at
-place_before t k (n ∷ names) i at = by (t n) at (place_before t (k + 1) names i)
-  where
-    by : (b : Bool) → cond b (Some k) (position_from t (k + 1) names) ≡ Some i → (position_from t (k + 1) names ≡ Some i → i < k + 1 + length names) → i < k + length (n ∷ names)
-    by true e later = let here : k ≡ i = cc e in omega arith
-    by false e later = omega (arith, later e)
+place_before t k (n ∷ names) i at = let later = place_before t (k + 1) names i in grind (arith, later, at)
 
 -- a place is one of the list
 pub place-lt : (names : List (List ℕ)) (t : List ℕ) (i : ℕ) → place_among t names ≡ Some i → i < length names

@@ -1,6 +1,6 @@
 -- The items of a list one by one, and parameters and names among them.
-use Rattle.std.proofs.Common.{◌≡◌, ◌<◌, ℕ, ◌+◌, add-one, suc, List, [], ◌∷◌, ◌++◌, length, drop, get_or, map, Bool, true, false, ◌||◌, cond, refl, sym, ap, ◌∙◌, Option, Some, is_some}
-use Rattle.params.proofs.Names.{bytes_eq, list_any, or_left, or_right, drop-map, list_any-append, value_sent, bytes_eq-sym}
+use Rattle.std.proofs.Common.{◌≡◌, ◌<◌, ℕ, ◌+◌, add-one, suc, List, [], ◌∷◌, ◌++◌, length, drop, get_or, map, Bool, cond, sym, ap, ◌∙◌, arith, Option, Some, is_some}
+use Rattle.params.proofs.Names.{bytes_eq, list_any, drop-map, list_any-append, value_sent, bytes_eq-sym}
 use Rattle.std.proofs.Math.Seq.{drop-cons}
 
 -- the next item of a list, and of what it is mapped to
@@ -23,12 +23,7 @@ value_at name params i p b next so_far test =
 -- a name is among those taken, and then among those with one more
 pub taken_with : {X : Type 0} (q name : List ℕ) (taken : List (List ℕ)) (o : Option X) (w : X) → is_some o ≡ list_any (bytes_eq q) taken
     → is_some (cond (bytes_eq name q) (Some w) o) ≡ list_any (bytes_eq q) (taken ++ name ∷ [])
-taken_with q name taken o w so_far = by (bytes_eq name q) refl
-  where
-    or_none : (a : Bool) → (a || false) ≡ a
-    or_none true = refl
-    or_none false = refl
-
-    by : (b : Bool) → bytes_eq name q ≡ b → is_some (cond b (Some w) o) ≡ list_any (bytes_eq q) (taken ++ name ∷ [])
-    by true e = sym (list_any-append (bytes_eq q) taken (name ∷ []) ∙ or_right _ _ (or_left _ _ (bytes_eq-sym q name ∙ e)))
-    by false e = so_far ∙ sym (list_any-append (bytes_eq q) taken (name ∷ []) ∙ rw (bytes_eq-sym q name, e) (or_none _))
+taken_with q name taken o w so_far =
+    let any = list_any-append (bytes_eq q) taken (name ∷ []) in
+    let same = bytes_eq-sym q name in
+    grind (arith, any, same, so_far)

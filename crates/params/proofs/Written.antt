@@ -1,11 +1,12 @@
 -- The written text of a set of names, and that it is read back as that set.
-use Rattle.std.proofs.Common.{◌≡◌, ◌≢◌, ◌≤◌, ℕ, ◌+◌, ◌/◌, ◌%◌, ◌^◌, ◌<◌, List, [], ◌∷◌, ◌++◌, length, Bool, true, false, ◌&&◌, ◌==◌, refl, sym, ap, ◌∙◌, arith, append_assoc, drop, take, not, nat_le, nat_lt, Some, if◌then◌else◌}
-use Rattle.params.proofs.Names.{bytes_eq, All, list_all, join_with_byte, pow-succ', or_parts, or_from, or_left, or_right, and_parts, and_from, ne_eqb, eq-eqb, eqb-true, eqb-false, leb-true}
+use Rattle.std.proofs.Common.{◌≡◌, ◌≢◌, ◌≤◌, ℕ, ◌+◌, ◌/◌, ◌%◌, ◌^◌, ◌<◌, List, [], ◌∷◌, ◌++◌, length, Bool, true, false, ◌==◌, refl, sym, ap, ◌∙◌, arith, append_assoc, drop, take, nat_le, nat_lt, Some, if◌then◌else◌}
+use Rattle.params.proofs.Names.{bytes_eq, All, list_all, join_with_byte, pow-succ', or_parts, or_left, or_right, and_parts, and_from, ne_eqb, eq-eqb}
 use Rattle.params.proofs.Names.{take-append-drop, drop_all, list_all-append, list_any-append, bytes_eq-Decides, any_twice, is_scope_character, is_scope_token, is_scope_name, is_among, IsCatalogue}
 use Rattle.params.proofs.Names.{tokens_of, mask_of, names_in_mask, scope_mask, scope_text, text_with_name, list_all-names_of}
 use Rattle.std.proofs.lemmas.List.Elements.{All-nil, All-cons}
 use Rattle.std.proofs.lemmas.List.Splits.{slice_split_none, slice_split_at}
 use Rattle.params.proofs.Masks.{mask_of-cons_other, mask_of-nil}
+use Rattle.std.proofs.lemmas.Bool.Decides.{nat_tests}
 
 -- the written text, when the names so far have this text and those are left
 abbrev pub text_after : List ℕ → List (List ℕ) → List ℕ
@@ -62,11 +63,7 @@ text_after-some text names i left name all at odd =
 -- ---- read back
 
 space_free : (b : ℕ) → is_scope_character b ≡ true → (b == 0x20) ≡ false
-space_free b is = ne_eqb b 0x20 (λ e. omega (arith, leb-true 0x21 b (first (nat_le 0x21 b) (nat_le b 0x7E) (not (b == 0x22)) (not (b == 0x5C)) is), e))
-  where
-    first : (p q r s : Bool) → (p && q && r && s) ≡ true → p ≡ true
-    first true q r s e = refl
-    first false q r s e = cc e
+space_free b is = grind (arith, nat_tests, is)
 
 -- a scope name has no space
 no_space : (name : List ℕ) → list_all is_scope_character name ≡ true → All (λ b. (b == 0x20) ≡ false) name
@@ -93,30 +90,18 @@ all_among front (n ∷ names) = and_from _ _
 -- a name that is not in the list is not among those of a mask
 among-names_of : (q : List ℕ) (names : List (List ℕ)) (mask : ℕ) → is_among q names ≡ false → is_among q (names_in_mask names mask) ≡ false
 among-names_of q [] mask new = refl
-among-names_of q (n ∷ names) mask new = by (mask % 2 == 1) (among-names_of q names (mask / 2) parts.1)
-  where
-    parts : (bytes_eq q n ≡ false) × (is_among q names ≡ false)
-    parts = or_parts (bytes_eq q n) (is_among q names) new
-
-    by : (b : Bool) → is_among q (names_in_mask names (mask / 2)) ≡ false → is_among q (if b then n ∷ names_in_mask names (mask / 2) else names_in_mask names (mask / 2)) ≡ false
-    by true later = or_from _ _ parts.0 later
-    by false later = later
+among-names_of q (n ∷ names) mask new = let later = among-names_of q names (mask / 2) in grind (arith, later, new)
 
 -- the mask of the names of a mask is that mask
 mask_of-names_of : (names : List (List ℕ)) (mask : ℕ) → any_twice names ≡ false → mask < 2 ^ length names → mask_of names (names_in_mask names mask) ≡ mask
 mask_of-names_of [] mask once fits = omega arith
 mask_of-names_of (n ∷ names) mask once fits =
-    by (mask % 2 == 1) refl (mask_of-names_of names (mask / 2) parts.1 (omega (arith, pow-succ' 2 (length names))))
-  where
-    parts : (is_among n names ≡ false) × (any_twice names ≡ false)
-    parts = or_parts (is_among n names) (any_twice names) once
-
-    by : (b : Bool) → (mask % 2 == 1) ≡ b → mask_of names (names_in_mask names (mask / 2)) ≡ mask / 2
-        → mask_of (n ∷ names) (if b then n ∷ names_in_mask names (mask / 2) else names_in_mask names (mask / 2)) ≡ mask
-    by true e later =
-        rw (or_left (bytes_eq n n) (is_among n (names_in_mask names (mask / 2))) ((bytes_eq-Decides n n).1 refl), mask_of-cons_other names n (names_in_mask names (mask / 2)) parts.0, later) (omega (arith, eqb-true (mask % 2) 1 e))
-    by false e later =
-        rw (among-names_of n names (mask / 2) parts.0, later) (omega (arith, eqb-false (mask % 2) 1 e))
+    let parts = or_parts (is_among n names) (any_twice names) once in
+    let itself = (bytes_eq-Decides n n).1 refl in
+    let other = mask_of-cons_other names n (names_in_mask names (mask / 2)) parts.0 in
+    let none = among-names_of n names (mask / 2) parts.0 in
+    let later = mask_of-names_of names (mask / 2) parts.1 (omega (arith, pow-succ' 2 (length names))) in
+    grind (arith, nat_tests, itself, other, none, later)
 
 pub read_back : (names : List (List ℕ)) (mask : ℕ) → IsCatalogue names → 0 < mask → mask < 2 ^ length names → scope_mask names (scope_text names mask) ≡ Some mask
 read_back names mask is some fits =

@@ -1,9 +1,10 @@
 -- Laws of parameters.
-use Rattle.std.proofs.Common.{◌≡◌, ◌≤◌, ℕ, zero, suc, ◌+◌, List, [], ◌∷◌, ◌++◌, length, length-drop, map, take, Bool, true, false, ◌||◌, ◌==◌, cond, refl, sym, ap, ◌∙◌, arith, Some, Ok, Err, if◌then◌else◌, nat_eq}
+use Rattle.std.proofs.Common.{◌≡◌, ◌≤◌, ℕ, zero, suc, ◌+◌, List, [], ◌∷◌, ◌++◌, length, length-drop, map, take, Bool, true, false, ◌||◌, ◌==◌, refl, sym, ap, ◌∙◌, arith, Some, Ok, if◌then◌else◌, nat_eq}
 use Rattle.std.specs.Prelude.{bytes_eq, All}
 use Rattle.std.specs.List.{list_any, starts_with, position_or_len}
 use Rattle.std.specs.Str.Lossy.{utf8_lossy, utf8_lossy_within, utf8_valid_len, replacement_bytes, after_first_chunk}
-use Rattle.std.proofs.lemmas.Bool.{false≢true, eq-eqb, or_right, or_parts, or_from}
+use Rattle.std.proofs.lemmas.Bool.{or_right}
+use Rattle.std.proofs.lemmas.Bool.Decides.{nat_tests}
 use Rattle.std.specs.Bool.{one_answer}
 use Rattle.std.proofs.lemmas.List.{length-map}
 use Rattle.std.proofs.lemmas.List.Folds.{list_any-append}
@@ -12,8 +13,7 @@ use Rattle.std.proofs.lemmas.List.Elements.{All-nil, All-cons, All-head, All-tai
 use Rattle.std.proofs.lemmas.Str.{utf8_lossy_step}
 use Rattle.percent_encoding.proofs.PercentLemmas.{length-percent_decode}
 use Rattle.form_urlencoded.specs.Form.{raw_pairs, split, onto_first, split_pair, ampersand, decode, plus_to_space, is_nonempty}
-use Rattle.params.specs.Form.{lossy_text, sent, pairs, has_replacement, is_damaged, any_twice, names_of_pairs, checked, read_params, value_sent}
-use Rattle.params.specs.declared.params.ParamFault.TheVariants.{Twice, NotUtf8}
+use Rattle.params.specs.Form.{lossy_text, sent, pairs, has_replacement, is_damaged, any_twice, checked, read_params, value_sent}
 
 pub same_bytes : (a b : List ℕ) → bytes_eq a b ≡ true → a ≡ b
 same_bytes a b e = (bytes_eq-Decides a b).0 e
@@ -25,11 +25,10 @@ bytes_eq-sym a b = one_answer _ _ (bytes_eq-Decides a b) (λ e. sym (same_bytes 
 pub any_twice-append : (names : List (List ℕ)) (name : List ℕ) → any_twice names ≡ false → list_any (bytes_eq name) names ≡ false → any_twice (names ++ name ∷ []) ≡ false
 any_twice-append [] name once new = refl
 any_twice-append (n ∷ names) name once new =
-    let parts = or_parts (list_any (bytes_eq n) names) (any_twice names) once in
-    let news = or_parts (bytes_eq name n) (list_any (bytes_eq name) names) new in
-    or_from _ _
-    (list_any-append (bytes_eq n) names (name ∷ []) ∙ or_from _ _ parts.0 (or_from _ _ (bytes_eq-sym n name ∙ news.0) refl))
-    (any_twice-append names name parts.1 news.1)
+    let any = list_any-append (bytes_eq n) names (name ∷ []) in
+    let same = bytes_eq-sym n name in
+    let later = any_twice-append names name in
+    grind (arith, any, same, later, once, new)
 
 -- where U+FFFD doesn't stand in the text its bytes are those that were sent
 has_replacement-after : (a b : List ℕ) → has_replacement b ≡ true → has_replacement (a ++ b) ≡ true
@@ -39,18 +38,15 @@ has_replacement-after (x ∷ a) b h =
 
 undamaged : (bytes : List ℕ) → has_replacement (utf8_lossy bytes) ≡ false → utf8_lossy bytes ≡ bytes
 unfolding utf8_lossy
-undamaged bytes h = by_test (utf8_valid_len bytes == length bytes) refl
+undamaged bytes h =
+    let step = utf8_lossy_step bytes in
+    let damaged = has_replacement-after (take (utf8_valid_len bytes) bytes) (replacement_bytes ++ utf8_lossy (after_first_chunk bytes)) refl in
+    let same = whole (length bytes) in
+    grind (arith, nat_tests, step, damaged, same, h)
   where
     whole : (n : ℕ) → (utf8_valid_len bytes == length bytes) ≡ true → utf8_lossy_within n bytes ≡ bytes
     whole zero is = refl
     whole (suc n) is = ap (λ b. if b then bytes else take (utf8_valid_len bytes) bytes ++ (replacement_bytes ++ utf8_lossy_within n (after_first_chunk bytes))) is
-
-    by_test : (b : Bool) → (utf8_valid_len bytes == length bytes) ≡ b → utf8_lossy bytes ≡ bytes
-    by_test true is = whole (length bytes) is
-    by_test false is =
-        let other : utf8_valid_len bytes ≡ length bytes → ⊥ = λ same. false≢true (sym is ∙ eq-eqb (utf8_valid_len bytes) (length bytes) same) in
-        absurd (false≢true (sym h ∙ ap has_replacement (utf8_lossy_step bytes other)
-        ∙ has_replacement-after (take (utf8_valid_len bytes) bytes) (replacement_bytes ++ utf8_lossy (after_first_chunk bytes)) refl))
 
 -- a text without U+FFFD is no longer than the bytes that were sent for it
 pub length-text_of : (bytes : List ℕ) → has_replacement (lossy_text bytes) ≡ false → length (lossy_text bytes) ≤ length bytes
@@ -99,31 +95,13 @@ value_among : (name value : List ℕ) (n : ℕ) (raw : List (List ℕ × List �
     → list_any is_damaged (sent raw) ≡ false → value_sent name (sent raw) ≡ Some value → length value ≤ n
 value_among name value n [] short whole found = cc found
 value_among name value n (p ∷ raw) short whole found =
-    sent_or_not (is_nonempty (lossy_text p.1)) whole found (value_among name value n raw (All-tail (HasShortValue n) p raw short))
-  where
-    here : has_replacement (lossy_text p.1) ≡ false → lossy_text p.1 ≡ value → length value ≤ n
-    here plain is = omega (arith, ap (λ (l : List ℕ). length l) is, length-text_of p.1 plain, All-head (HasShortValue n) p raw short)
-
-    of_it : (same : Bool) → (is_damaged (lossy_text p.0, lossy_text p.1) || list_any is_damaged (sent raw)) ≡ false
-        → cond same (Some (lossy_text p.1)) (value_sent name (sent raw)) ≡ Some value
-        → (list_any is_damaged (sent raw) ≡ false → value_sent name (sent raw) ≡ Some value → length value ≤ n) → length value ≤ n
-    of_it true whole found later = here (or_parts _ _ (or_parts _ _ whole).0).1 (cc found)
-    of_it false whole found later = later (or_parts _ _ whole).1 found
-
-    sent_or_not : (some : Bool) → list_any is_damaged (if some then (lossy_text p.0, lossy_text p.1) ∷ sent raw else sent raw) ≡ false
-        → value_sent name (if some then (lossy_text p.0, lossy_text p.1) ∷ sent raw else sent raw) ≡ Some value
-        → (list_any is_damaged (sent raw) ≡ false → value_sent name (sent raw) ≡ Some value → length value ≤ n) → length value ≤ n
-    sent_or_not true whole found later = of_it (bytes_eq name (lossy_text p.0)) whole found later
-    sent_or_not false whole found later = later whole found
+    let here = length-text_of p.1 in
+    let first = All-head (HasShortValue n) p raw short in
+    let later = value_among name value n raw (All-tail (HasShortValue n) p raw short) in
+    grind (arith, here, first, later, whole, found)
 
 checked_parts : (ps params : List (List ℕ × List ℕ)) → checked ps ≡ Ok params → (list_any is_damaged ps ≡ false) × (ps ≡ params)
-checked_parts ps params ok = by (list_any is_damaged ps) refl (any_twice (names_of_pairs ps)) ok
-  where
-    by : (damaged : Bool) → list_any is_damaged ps ≡ damaged → (twice : Bool)
-        → (if damaged then Err NotUtf8 else (if twice then Err Twice else Ok ps)) ≡ Ok params → (list_any is_damaged ps ≡ false) × (ps ≡ params)
-    by true e twice is = cc is
-    by false e true is = cc is
-    by false e false is = (e, cc is)
+checked_parts ps params ok = grind (arith, ok)
 
 -- the value of a parameter is no longer than its form
 pub length-value_of : (input name value : List ℕ) (params : List (List ℕ × List ℕ)) → read_params input ≡ Ok params

@@ -2,7 +2,6 @@
 pub mod Limits
 pub mod Form
 pub mod Scope
-pub mod FaultTexts
 -- Laws, each proved: a reader may skip them.
 pub mod FormLaws
 pub mod ScopeLaws

@@ -1,7 +1,6 @@
 // The catalogue of scope names, and sets of them as masks.
-ghost use Rattle.std.specs.Prelude.{◌≡◌, ◌⊎◌, ◌<◌, ◌≤◌, ◌^◌, ℕ, List, [], ◌∷◌, ◌++◌, length, OnOk, OnErr, IfOk, IfErr, IfSome, Some, None, is_some, map, string_bytes};
+ghost use Rattle.std.specs.Prelude.{◌≡◌, ◌<◌, ◌≤◌, ◌^◌, ℕ, List, [], ◌∷◌, ◌++◌, length, OnOk, OnErr, IfOk, IfErr, IfSome, Some, None, is_some, map, string_bytes};
 ghost use Rattle.params.specs.declared.catalogue.CatalogueFault.TheVariants.{Memory};
-ghost use Rattle.params.specs.FaultTexts.{catalogue_fault_text};
 ghost use Rattle.params.specs.Limits.{scope_text_limit};
 ghost use Rattle.params.specs.Scope.{IsNameRefusal, IsReadBack, name_fault, scope_mask, scope_text, text_with_name, place_among, is_among, is_scope_token, is_scope_character};
 
@@ -31,16 +30,8 @@ pub enum CatalogueFault {
 }
 
 impl fmt::Display for CatalogueFault {
-    ghost output = { λ fault. Some (catalogue_fault_text fault) };
-
     fn fmt<W: fmt::Write>(&self, f: &mut fmt::Formatter<W>) -> fmt::Result {
-        match self {
-            CatalogueFault::BadScope => write!(f, "BadScope"),
-            CatalogueFault::TooLong => write!(f, "TooLong"),
-            CatalogueFault::Twice => write!(f, "Twice"),
-            CatalogueFault::Full => write!(f, "Full"),
-            CatalogueFault::Memory => write!(f, "Memory"),
-        }
+        write!(f, "{self:?}")
     }
 }
 

@@ -1,7 +1,6 @@
 // The parameters of a query or a form.
 ghost use Rattle.std.specs.Prelude.{◌≡◌, ◌<◌, length, IfOk, IfErr, Ok, Some, option_copied};
 ghost use Rattle.params.specs.declared.params.ParamFault.TheVariants.{Memory};
-ghost use Rattle.params.specs.FaultTexts.{param_fault_text};
 ghost use Rattle.params.specs.Form.{IsFormRefusal, read_params, value_sent, has_replacement, any_twice, names_of_pairs, texts_of};
 
 use form_urlencoded::parse;
@@ -23,14 +22,8 @@ pub enum ParamFault {
 }
 
 impl fmt::Display for ParamFault {
-    ghost output = { λ fault. Some (param_fault_text fault) };
-
     fn fmt<W: fmt::Write>(&self, f: &mut fmt::Formatter<W>) -> fmt::Result {
-        match self {
-            ParamFault::Twice => write!(f, "Twice"),
-            ParamFault::NotUtf8 => write!(f, "NotUtf8"),
-            ParamFault::Memory => write!(f, "Memory"),
-        }
+        write!(f, "{self:?}")
     }
 }
 

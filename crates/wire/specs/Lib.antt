@@ -3,4 +3,3 @@ pub mod Reading
 pub mod Format
 pub mod Lists
 pub mod Whole
-pub mod FaultTexts

@@ -1,7 +1,6 @@
 //! Why bytes are not read, and why values are not written.
 
-ghost use Rattle.std.specs.Prelude.{◌≡◌, Some};
-ghost use Rattle.wire.specs.FaultTexts.{decode_fault_text, fault_text};
+ghost use Rattle.std.specs.Prelude.{◌≡◌};
 ghost use Rattle.wire.specs.declared.fault.DecodeFault.TheVariants as decoding;
 ghost use Rattle.wire.specs.declared.fault.EncodeFault.TheVariants as encoding;
 
@@ -33,20 +32,8 @@ pub enum Fault {
 }
 
 impl Display for Fault {
-    ghost output = { λ fault. Some (fault_text fault) };
-
     fn fmt<W: Write>(&self, f: &mut Formatter<W>) -> fmt::Result {
-        match self {
-            Fault::Version => write!(f, "Version"),
-            Fault::Short => write!(f, "Short"),
-            Fault::Moment => write!(f, "Moment"),
-            Fault::Variant => write!(f, "Variant"),
-            Fault::Number => write!(f, "Number"),
-            Fault::Kind => write!(f, "Kind"),
-            Fault::RecordVersion => write!(f, "RecordVersion"),
-            Fault::NotText => write!(f, "NotText"),
-            Fault::Behind => write!(f, "Behind"),
-        }
+        write!(f, "{self:?}")
     }
 }
 
@@ -62,8 +49,6 @@ pub enum DecodeFault {
 }
 
 impl Display for DecodeFault {
-    ghost output = { λ fault. Some (decode_fault_text fault) };
-
     fn fmt<W: Write>(&self, f: &mut Formatter<W>) -> fmt::Result {
         match *self {
             DecodeFault::Bytes(fault) => write!(f, "{fault}"),

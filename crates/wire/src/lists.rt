@@ -4,7 +4,7 @@ ghost use Rattle.std.specs.Prelude.{◌≡◌, map, OnOk, IsErrOf};
 ghost use Rattle.std.specs.List.{AllByRecursion};
 ghost use Rattle.wire.specs.declared.fault.EncodeFault.TheVariants.{TooLong};
 ghost use Rattle.wire.specs.Reading.{Reads};
-ghost use Rattle.wire.specs.Lists.{each_at, each_onto, list_of};
+ghost use Rattle.wire.specs.Lists.{each_at, each_onto};
 
 use crate::fault::{DecodeFault, EncodeFault, Fault};
 use crate::reader::Reader;
@@ -77,19 +77,6 @@ fn take_each<'a, T: FromWire<'a> + Drop>(
     Ok(items)
 }
 
-// Writes how many there are, and each of them.
-fn put_list<T: Wire>(items: &[T], out: &mut Vec<u8>) -> Result<(), EncodeFault>
-    ensures written { OnOk result (out.new.items ≡ (list_of T.format).onto out.old.items (map T.value items.now)) }
-    ensures fits { OnOk result ((list_of T.format).Fits (map T.value items.now)) }
-    ensures too_long { IsErrOf result TooLong → ¬ ((list_of T.format).Counts (map T.value items.now)) }
-{
-    if items.len() >= 1 << 32 {
-        return Err(EncodeFault::TooLong);
-    }
-    (items.len() as u32).put(out)?;
-    put_each(items, out)
-}
-
 impl<T: Wire> Wire for Vec<T> {
     ghost use Rattle.std.specs.Prelude.{List, map};
     ghost use Rattle.wire.specs.Lists.{list_of};
@@ -101,7 +88,11 @@ impl<T: Wire> Wire for Vec<T> {
     ghost format = { list_of T.format };
 
     fn put(&self, out: &mut Vec<u8>) -> Result<(), EncodeFault> {
-        put_list(self.as_slice(), out)
+        if self.len() >= 1 << 32 {
+            return Err(EncodeFault::TooLong);
+        }
+        (self.len() as u32).put(out)?;
+        put_each(self.as_slice(), out)
     }
 }
 

@@ -5,4 +5,5 @@ use Rattle.clients.proofs.grant.grant_set.Given as goal
 
 abbrev pub invariant-loop-value : goal.invariant-loop-value
 invariant-loop-value l =
-    grants_after no_grants (items_view l.list) ≡ grants_after l.grants (items_view (drop l.value-index l.list))
+    (l.number ≡ l.value-index)
+    × (grants_after l.client 0 no_grants (items_view l.list) ≡ grants_after l.client l.number l.grants (items_view (drop l.value-index l.list)))
