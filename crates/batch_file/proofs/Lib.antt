@@ -1,4 +1,3 @@
-mod Kept
 mod Moments
 mod Reading
 mod Steps

@@ -1,7 +1,9 @@
 -- Laws of what a file stands for: a reader may skip the proofs.
 use Rattle.std.proofs.Common.{◌≡◌, ◌≢◌, ◌⊎◌, inl, inr, ℕ, zero, suc, ◌+◌, ◌^◌, ◌<◌, ◌≤◌, List, [], ◌∷◌, ◌++◌, length, get_or, take, drop, refl, sym, ◌∙◌, ap, subst, arith, append_assoc, length-append, length-drop, length-take}
 use Rattle.std.proofs.lemmas.List.{take_at, drop_at, drop-drop, append-nil, append_cancel_left}
-use Rattle.std.proofs.lemmas.Bool.{cases_eq, cases_lt}
+use Rattle.std.specs.Prelude.{bytes_eq}
+use Rattle.std.proofs.lemmas.Bool.{cases_Bool, cases_lt}
+use Rattle.std.proofs.lemmas.Slice.Eq.{bytes_eq-Decides}
 use Rattle.std.proofs.lemmas.Nat.{from_be_bytes-to_be_bytes_4}
 use Rattle.sha2.specs.Sha256.{sha256}
 use Rattle.sha2.proofs.Facts256.{length-sha256}
@@ -15,6 +17,10 @@ length-seal bytes = omega (arith, length-take 16 (sha256 bytes), length-sha256 b
 
 -- WHAT IS READ
 
+-- behind a frame there are fewer bytes
+shorter : (bytes : List ℕ) (n : ℕ) → length bytes ≤ n → length (drop (size_at bytes) (drop 20 bytes)) ≤ n
+shorter bytes n le = omega (arith, length-drop (size_at bytes) (drop 20 bytes), length-drop 20 bytes)
+
 -- it doesn't matter by how much the count of frames is too high
 enough : (n m : ℕ) (file : List ℕ) → length file ≤ n → length file ≤ m → batches_in n file ≡ batches_in m file
 unfolding batches_in
@@ -27,46 +33,35 @@ enough (suc n) (suc m) [] p q = refl
 enough (suc n) (suc m) (zero ∷ bytes) p q = refl
 enough (suc n) (suc m) (suc latch ∷ bytes) p q =
     let rest = drop (size_at bytes) (drop 20 bytes) in
-    let short : length rest ≤ length bytes = omega (arith, length-drop (size_at bytes) (drop 20 bytes), length-drop (size_at bytes) (drop 20 bytes), length-drop 20 bytes) in
-    let same : batches_in n rest ≡ batches_in m rest = enough n m rest (omega arith) (omega arith) in
+    let same : batches_in n rest ≡ batches_in m rest = enough n m rest (shorter bytes n (omega arith)) (shorter bytes m (omega arith)) in
     ap (λ (l : List (List ℕ)). take (size_at bytes) (drop 20 bytes) ∷ l) same
 
 -- the batches from here on
 abbrev pub parsed : List ℕ → List (List ℕ)
 parsed bytes = batches_in (length bytes) bytes
 
-pub parsed-closed : (torn : List ℕ) → parsed (0 ∷ torn) ≡ []
-unfolding batches_in
-parsed-closed torn = refl
-
-parsed-open : (latch : ℕ) (bytes : List ℕ) → parsed (suc latch ∷ bytes) ≡ take (size_at bytes) (drop 20 bytes) ∷ parsed (drop (size_at bytes) (drop 20 bytes))
-unfolding batches_in
-parsed-open latch bytes =
-    let rest = drop (size_at bytes) (drop 20 bytes) in
-    let short : length rest ≤ length bytes = omega (arith, length-drop (size_at bytes) (drop 20 bytes), length-drop (size_at bytes) (drop 20 bytes), length-drop 20 bytes) in
-    ap (λ (l : List (List ℕ)). take (size_at bytes) (drop 20 bytes) ∷ l) (enough (length bytes) (length rest) rest short (omega arith))
-
--- the batch of a frame, and what stands behind it, by the bytes behind the latch
-parts : (before batch rest : List ℕ) → length batch < 2 ^ 32
-    → (take (size_at (sealed before batch ++ rest)) (drop 20 (sealed before batch ++ rest)) ≡ batch) × (drop (size_at (sealed before batch ++ rest)) (drop 20 (sealed before batch ++ rest)) ≡ rest)
-parts before batch rest small =
-    let tail = sealed before batch ++ rest in
-    let says : size_at tail ≡ length batch = from_be_bytes-to_be_bytes_4 (length batch) small in
-    let behind : drop 20 tail ≡ batch ++ rest = ap (λ (l : List ℕ). drop 16 l) (append_assoc (digest before batch) batch rest) ∙ drop_at (digest before batch) (batch ++ rest) 16 (length-seal _) in (
-      ap (λ (n : ℕ). take n (drop 20 tail)) says ∙ ap (λ (l : List ℕ). take (length batch) l) behind ∙ take_at batch rest (length batch) refl,
-      ap (λ (n : ℕ). drop n (drop 20 tail)) says ∙ ap (λ (l : List ℕ). drop (length batch) l) behind ∙ drop_at batch rest (length batch) refl,
-    )
-
-parsed-latch : (latch : ℕ) (before batch rest : List ℕ) → 0 < latch → length batch < 2 ^ 32 → parsed (latch ∷ sealed before batch ++ rest) ≡ batch ∷ parsed rest
-parsed-latch zero before batch rest counts small = absurd (omega arith)
-parsed-latch (suc latch) before batch rest counts small =
-    let two = parts before batch rest small in
-    parsed-open latch (sealed before batch ++ rest)
-    ∙ ap (λ (l : List ℕ). l ∷ parsed (drop (size_at (sealed before batch ++ rest)) (drop 20 (sealed before batch ++ rest)))) two.0
-    ∙ ap (λ (l : List ℕ). batch ∷ parsed l) two.1
+-- the batch behind a latch is told by the bytes there, and what stands behind it
+parts : (before batch rest bytes : List ℕ) → IsSealed before batch rest bytes
+    → (take (size_at bytes) (drop 20 bytes) ≡ batch) × (drop (size_at bytes) (drop 20 bytes) ≡ rest)
+parts before batch rest bytes s =
+    let says : size_at bytes ≡ length batch = ap size_at s.1 ∙ from_be_bytes-to_be_bytes_4 (length batch) s.0 in
+    let behind : drop 20 bytes ≡ batch ++ rest =
+    ap (drop 20) s.1 ∙ ap (drop 16) (append_assoc (digest before batch) batch rest) ∙ drop_at (digest before batch) (batch ++ rest) 16 (length-seal _) in
+    (rw (says, behind) (take_at batch rest (length batch) refl), rw (says, behind) (drop_at batch rest (length batch) refl))
 
 frame_parsed : (before batch rest bytes : List ℕ) → IsFrame before batch rest bytes → parsed bytes ≡ batch ∷ parsed rest
-frame_parsed before batch rest bytes f = ap parsed f.is ∙ parsed-latch f.latch before batch rest f.counts f.short
+unfolding batches_in
+frame_parsed before batch rest bytes f = ap parsed f.is ∙ behind f.latch f.counts
+  where
+    behind : (latch : ℕ) → 0 < latch → parsed (latch ∷ sealed before batch ++ rest) ≡ batch ∷ parsed rest
+    behind zero counts = absurd (omega arith)
+    behind (suc latch) counts =
+        let tail = sealed before batch ++ rest in
+        let two = parts before batch rest tail (f.short, refl) in
+        let fewer : length rest ≤ length tail = omega (arith, length-append (sealed before batch) rest) in
+        ap (λ (l : List ℕ). l ∷ batches_in (length tail) (drop (size_at tail) (drop 20 tail))) two.0
+        ∙ ap (λ (l : List ℕ). batch ∷ batches_in (length tail) l) two.1
+        ∙ ap (λ (l : List (List ℕ)). batch ∷ l) (enough (length tail) (length rest) rest fewer (omega arith))
 
 pub further : (before batch rest bytes more : List ℕ) → IsFrame before batch rest bytes → IsFrame before batch (rest ++ more) (bytes ++ more)
 further before batch rest bytes more f = record {
@@ -89,11 +84,11 @@ recovered-header rest = enough (length (header ++ rest)) (length rest) rest (ome
 
 -- the header, frames and a closed latch stand for the batches of the frames
 pub framed_is : (batches : List (List ℕ)) (last frames torn file : List ℕ) → AreFrames header batches last frames → file ≡ header ++ (frames ++ 0 ∷ torn) → recovered file ≡ batches
+unfolding batches_in
 framed_is batches last frames torn file are is =
     ap recovered is
     ∙ recovered-header (frames ++ 0 ∷ torn)
     ∙ frames_parsed batches header last frames (0 ∷ torn) are
-    ∙ ap (λ (bs : List (List ℕ)). batches ++ bs) (parsed-closed torn)
     ∙ append-nil batches
 
 -- a file that is read as batches stands for these, and for no other
@@ -114,28 +109,15 @@ length-frames (batch ∷ later) before last frames are =
 
 -- WHAT IS REFUSED
 
--- the batch behind a latch is told by the bytes there
-pub sealed_parts : (before batch rest bytes : List ℕ) → IsSealed before batch rest bytes
-    → (batch ≡ take (size_at bytes) (drop 20 bytes)) × (rest ≡ drop (size_at bytes) (drop 20 bytes))
-sealed_parts before batch rest bytes s =
-    let two = parts before batch rest s.0 in (
-      sym (ap (λ (l : List ℕ). take (size_at l) (drop 20 l)) s.1 ∙ two.0),
-      sym (ap (λ (l : List ℕ). drop (size_at l) (drop 20 l)) s.1 ∙ two.1),
-    )
-
 pub two_sealed : (before batch other rest more bytes : List ℕ) → IsSealed before batch rest bytes → IsSealed before other more bytes → (batch ≡ other) × (rest ≡ more)
 two_sealed before batch other rest more bytes s t =
-    let a = sealed_parts before batch rest bytes s in
-    let b = sealed_parts before other more bytes t in
-    (a.0 ∙ sym b.0, a.1 ∙ sym b.1)
+    let a = parts before batch rest bytes s in
+    let b = parts before other more bytes t in
+    (sym a.0 ∙ b.0, sym a.1 ∙ b.1)
 
 -- behind the latch of a frame
 pub behind_latch : (before batch rest bytes : List ℕ) → IsFrame before batch rest bytes → IsSealed before batch rest (drop 1 bytes)
 behind_latch before batch rest bytes f = (f.short, ap (λ (l : List ℕ). drop 1 l) f.is)
-
-two_frames : (before batch other rest more bytes : List ℕ) → IsFrame before batch rest bytes → IsFrame before other more bytes → (batch ≡ other) × (rest ≡ more)
-two_frames before batch other rest more bytes f g =
-    two_sealed before batch other rest more (drop 1 bytes) (behind_latch before batch rest bytes f) (behind_latch before other more bytes g)
 
 -- behind right frames no other ones begin, where no frame stands behind them
 none_begin : (batch : List ℕ) (later : List (List ℕ)) (before last other frames more rest : List ℕ)
@@ -157,7 +139,8 @@ one_run (x ∷ xs) [] before last other frames found rest more are had same no_f
 one_run (x ∷ xs) (y ∷ ys) before last other frames found rest more are had same no_frame none =
     let f = further before x are.0 frames rest are.1 in
     let g = further before y had.0 found more had.1 in
-    let two = two_frames before x y (are.0 ++ rest) (had.0 ++ more) (frames ++ rest) f (subst (λ (l : List ℕ). IsFrame before y (had.0 ++ more) l) (sym same) g) in
+    let two = two_sealed before x y (are.0 ++ rest) (had.0 ++ more) (drop 1 (frames ++ rest)) (behind_latch before x (are.0 ++ rest) (frames ++ rest) f)
+    (behind_latch before y (had.0 ++ more) (frames ++ rest) (subst (λ (l : List ℕ). IsFrame before y (had.0 ++ more) l) (sym same) g)) in
     let moved : AreFrames (digest before x) ys other had.0 = subst (λ (l : List ℕ). AreFrames (digest before l) ys other had.0) (sym two.0) had.2 in
     let one = one_run xs ys (digest before x) last other are.0 had.0 rest more are.2 moved two.1 no_frame none in
     (ap (λ (l : List ℕ). l ∷ xs) two.0 ∙ ap (λ (l : List (List ℕ)). y ∷ l) one.0, one.1, one.2)
@@ -213,17 +196,11 @@ pub record Collision : Type 0 where
   pub meet : seal one ≡ seal other
 
 same_list : (a b : List ℕ) → (a ≡ b) ⊎ (a ≢ b)
-same_list [] [] = inl refl
-same_list [] (y ∷ b) = inr (λ is. absurd (cc))
-same_list (x ∷ a) [] = inr (λ is. absurd (cc))
-same_list (x ∷ a) (y ∷ b) =
-    elim (cases_eq x y) [
-      | inl head ↦
-          elim (same_list a b) [
-            | inl tail ↦ inl (ap (λ (n : ℕ). n ∷ a) head ∙ ap (λ (l : List ℕ). y ∷ l) tail)
-            | inr differ ↦ inr (λ is. let tail : a ≡ b = cc in differ tail)
-          ]
-      | inr differ ↦ inr (λ is. let head : x ≡ y = cc in differ head)
+same_list a b =
+    let told = bytes_eq-Decides a b in
+    elim (cases_Bool (bytes_eq a b)) [
+      | inl is ↦ inl (told.0 is)
+      | inr not ↦ inr (λ is. let same = told.1 is in absurd cc)
     ]
 
 -- where the digest of a frame stands
@@ -276,7 +253,7 @@ pub hides_or_not : (last torn : List ℕ) → HidesFrame last torn ⊎ (HidesFra
 hides_or_not last torn =
     let batch = take (size_at torn) (drop 20 torn) in
     let rest = drop (size_at torn) (drop 20 torn) in
-    let told : (h : HidesFrame last torn) → (h.batch ≡ batch) × (h.rest ≡ rest) = λ h. sealed_parts last h.batch h.rest torn h.is in
+    let told : (h : HidesFrame last torn) → (batch ≡ h.batch) × (rest ≡ h.rest) = λ h. parts last h.batch h.rest torn h.is in
     elim (cases_lt (length batch) (2 ^ 32)) [
       | inr long ↦ inr (λ h. let short = h.is.0 in absurd (omega (arith, ap length (told h).0)))
       | inl short ↦
@@ -285,8 +262,7 @@ hides_or_not last torn =
             | inl more ↦
                 elim (same_list torn (sealed last batch ++ rest)) [
                   | inl is ↦ inl (record { batch = batch; rest = rest; is = (short, is); more = more })
-                  | inr differ ↦ inr (λ h.
-                      differ (h.is.1 ∙ ap (λ (l : List ℕ). sealed last l ++ h.rest) (told h).0 ∙ ap (λ (l : List ℕ). sealed last batch ++ l) (told h).1))
+                  | inr differ ↦ inr (λ h. differ (rw ((told h).0, (told h).1) h.is.1))
                 ]
           ]
     ]

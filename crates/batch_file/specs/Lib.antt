@@ -1,11 +1,9 @@
 -- What public clauses cite. docs/DEFINITIONS.md says what to read in which order.
 pub mod Calls
 pub mod Crashes
-pub mod FaultTexts
+pub mod Faults
 pub mod Frames
-pub mod InMemory
 pub mod Moments
-pub mod Past
 pub mod Version1
 -- What only the contracts of this crate's own parts and their proofs cite.
 pub mod CallsParts

@@ -1,8 +1,8 @@
 //! A file of batches: they are added one by one, or another file is put in the place of all.
 
-ghost use Rattle.std.specs.Prelude.{◌≡◌, ◌<◌, ◌≤◌, ◌^◌, ◌+◌, ◌++◌, [], ◌∷◌, length, IfOk, IfErr, OnOk, IsErrOf, Some};
+ghost use Rattle.std.specs.Prelude.{◌≡◌, ◌<◌, ◌≤◌, ◌^◌, ◌+◌, ◌++◌, [], ◌∷◌, length, IfOk, IfErr, OnOk, IsErrOf};
 ghost use Rattle.batch_file.specs.Crashes.{HasCause, IsFailure, IsReplaceFailure, IsUnplaced, IsWrittenAt, LeavesOnly, Only, Torn};
-ghost use Rattle.batch_file.specs.FaultTexts.{batch_fault_text, of_device};
+ghost use Rattle.batch_file.specs.Faults.{of_device};
 ghost use Rattle.batch_file.specs.Frames.{file_size, limit, recovered, IsAsBefore, IsBeforeOrAfter, IsOldOrNew, IsBatchFailure, IsOnDisk, IsReadable, IsReadableOrChance};
 
 use crate::device::{Device, DeviceFault, ReplaceFault};
@@ -31,8 +31,6 @@ pub enum BatchFault {
 }
 
 impl Display for BatchFault {
-    ghost output = { λ fault. Some (batch_fault_text fault) };
-
     fn fmt<W: Write>(&self, f: &mut Formatter<W>) -> fmt::Result {
         match self {
             BatchFault::Memory => write!(f, "Memory"),

@@ -4,7 +4,7 @@ ghost use Rattle.std.specs.Prelude.{◌≡◌, ◌≤◌, List, ℕ, length, OnO
 ghost use Rattle.batch_file.specs.declared.device.DeviceFault.TheVariants.{Memory};
 ghost use Rattle.batch_file.specs.declared.device.ReplaceFault.TheVariants as replacing;
 ghost use Rattle.batch_file.specs.Crashes.{Elapses, ComesOfStep, HasCause, IsFailure, IsUnplaced, IsReplaceFailure, IsWrittenAt, Only, Swapped, Torn};
-ghost use Rattle.batch_file.specs.FaultTexts.{of_replacing};
+ghost use Rattle.batch_file.specs.Faults.{of_replacing};
 
 use crate::system::SystemFault;
 use std::alloc::AllocError;

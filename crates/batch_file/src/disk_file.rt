@@ -12,7 +12,7 @@ ghost use Rattle.batch_file.specs.declared.disk_file.OpenFault.TheVariants as op
 ghost use Rattle.batch_file.specs.declared.disk_file.MakeFault.TheVariants as making;
 ghost use Rattle.batch_file.specs.Calls.{content, failures, only_opened, LeftSince, MayLeave};
 ghost use Rattle.batch_file.specs.CallsParts.{RenamesNothing};
-ghost use Rattle.batch_file.specs.FaultTexts.{make_fault_text, of_error, of_making, of_lock, open_fault_text};
+ghost use Rattle.batch_file.specs.Faults.{of_error, of_making, of_lock};
 ghost use Rattle.batch_file.specs.Folders.{folder_of};
 ghost use Rattle.batch_file.specs.Moments.{counts_now_of, only_now_of};
 
@@ -55,8 +55,6 @@ pub enum OpenFault {
 }
 
 impl Display for OpenFault {
-    ghost output = { λ fault. Some (open_fault_text fault) };
-
     fn fmt<W: std::fmt::Write>(&self, f: &mut Formatter<W>) -> fmt::Result {
         match self {
             OpenFault::Memory => write!(f, "Memory"),
@@ -114,8 +112,6 @@ pub enum MakeFault {
 }
 
 impl Display for MakeFault {
-    ghost output = { λ fault. Some (make_fault_text fault) };
-
     fn fmt<W: std::fmt::Write>(&self, f: &mut Formatter<W>) -> fmt::Result {
         match self {
             MakeFault::Memory => write!(f, "Memory"),

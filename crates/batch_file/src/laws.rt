@@ -6,6 +6,7 @@ ghost use Rattle.batch_file.specs.Frames.{digest, recovered, IsChance, IsFileOf,
 ghost use Rattle.batch_file.specs.FramesLaws.{Collision};
 
 /// A file that is readable is never refused, so none is that a crash leaves.
+#[tactic(auto, using(crate::specs::FramesLaws::readable_is_kept))]
 pub fn readable_is_kept()
     ensures { (file : List ℕ) (fault : ReadFault) → IsReadable file → RefusesFile file fault → ⊥ }
 {}

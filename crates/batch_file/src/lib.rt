@@ -2,7 +2,7 @@
 //!
 //! Read `device` first: what a file does, and what a crash may leave of it. `framing` reads a file's bytes, `frames` makes
 //! those of a new one, and `appending` has `BatchFile`, which adds a batch or puts another file in the place of all.
-//! Two devices are here: `in_memory`, and `disk_file` over a file of the system. `version_1` reads files of the first kind.
+//! `disk_file` is a device over a file of the system. `version_1` reads files of the first kind.
 #![tactic(auto)]
 
 pub mod appending;
@@ -11,7 +11,6 @@ pub mod device;
 pub mod disk_file;
 pub mod frames;
 pub mod framing;
-pub mod in_memory;
 pub mod laws;
 pub mod system;
 pub mod version_1;

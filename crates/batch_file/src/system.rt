@@ -1,7 +1,7 @@
 //! Why the system refused a call on a file.
 
 ghost use Rattle.std.specs.Prelude.{◌≡◌, Some};
-ghost use Rattle.batch_file.specs.FaultTexts.{fault_of_kind, system_fault, system_fault_text};
+ghost use Rattle.batch_file.specs.Faults.{fault_of_kind, system_fault};
 
 use std::fmt::{self, Display, Formatter, Write};
 use std::io::{self, ErrorKind};
@@ -79,8 +79,6 @@ impl SystemFault {
 }
 
 impl Display for SystemFault {
-    ghost output = { λ fault. Some (system_fault_text fault) };
-
     fn fmt<W: Write>(&self, f: &mut Formatter<W>) -> fmt::Result {
         match self {
             SystemFault::NotFound => write!(f, "not found"),

@@ -12,5 +12,4 @@ pub mod Spending
 pub mod Telling
 pub mod Timing
 pub mod Tying
-pub mod Waiting
 pub mod Names

@@ -5,7 +5,7 @@ pub use Rattle.consent.specs.GrowthLaws.{grant_at-push, unexpired_count-push, is
 pub use Rattle.consent.specs.GrowthLaws.{unexpired_count-push_none, code_terms-push_none, is_spent-push, has_ended-push}
 pub use Rattle.consent.specs.History.{Event, Grant, grant_of, grant_at, is_named, is_unexpired, spends, has_ended, code_terms, IsHistory, terms_of, with_change, CanFollow, grants, is_spent}
 pub use Rattle.consent.specs.History.{is_beyond, is_placed, event_at, is_code, is_code_of, opener, is_of, IsHome, Change as told}
-pub use Rattle.consent.specs.HistoryLaws.{grant_at-placed, code_terms-fresh, has_ended-fresh, is_history-push, grant_at-now, is_history-push_none, grant_at-kin, opener-of_one, code_terms-kin}
+pub use Rattle.consent.specs.HistoryLaws.{grant_at-placed, code_terms-fresh, has_ended-fresh, is_history-push, grant_at-now, is_history-push_none, grant_at-kin, code_terms-kin}
 pub use Rattle.consent.specs.ListLaws.{count_by-none, find-some, find-passes, count_by-cons, find-map, find-one, find-uncounted}
 pub use Rattle.consent.specs.declared.change.Change.{Change as Made}
 pub use Rattle.consent.specs.declared.change.Change.TheVariants.{CodeGiven, IssuedAlone, Issued}
@@ -37,16 +37,16 @@ pub use Rattle.std.specs.Vec.{with_items, vec_len}
 pub use Rattle.token_store.specs.Agenda.{deadlines_of, is_deadline, IsExact, least_from, least, IsBounded, deadlines_in}
 pub use Rattle.token_store.specs.AgendaParts.{is_ahead, is_filled}
 pub use Rattle.token_store.specs.Fits.{FitsBy, to_keep, FitsHistory, MakesChanges}
-pub use Rattle.token_store.specs.FitsParts.{with_family_number, MakesChange, IsMember}
+pub use Rattle.token_store.specs.FitsParts.{with_family_number, MakesChange}
 pub use Rattle.token_store.specs.Homes.{AreHomes, HasHome, AllHome, HasGrown, number_of_family, renumber_by}
 pub use Rattle.token_store.specs.Image.{HasDigestTwice, as_kept, kept_record}
 pub use Rattle.token_store.specs.ImageParts.{is_unexpired_record, renumbered, IsRestored}
-pub use Rattle.token_store.specs.Kept.{Kept, kept_at, is_in, HasFamily, Expected, kept_unexpired, Room, Held}
+pub use Rattle.token_store.specs.Kept.{Kept, kept_at, kept_unexpired, Room, Held}
 pub use Rattle.token_store.specs.Records.{shared_at, all_kept, Tied, kept_of, IsTied, kept_in, kept_under, member_count, IsCounted, is_coded, IsOwned, own_shared, kind_in, owner_in, terms_by, expiry}
 pub use Rattle.token_store.specs.Records.{expiry_of, AllListed, or_nothing, owner_cmp, code_shared, texts_given}
 pub use Rattle.token_store.specs.RecordsParts.{code_kept, IsUnused, TellsSame, is_live_at, HasLeft, RecordChange, changed, HasEnded, HasLowered, IsNextOwned, lowered_by, lowered_shared, token_kept}
 pub use Rattle.token_store.specs.RecordsParts.{HasOpened, HasEntered, SharesSame, spent_in, HasTaken, IsNoneExpired, AllGone, Sheds, AllLive, IsAfter, start_of}
-pub use Rattle.token_store.specs.Room.{Waits, NextIs, expected_of, AreReady, HasRoomFor, room_of, records_of}
+pub use Rattle.token_store.specs.Room.{Waits, HasRoomFor, room_of, records_of}
 pub use Rattle.token_store.specs.declared.agenda.Agenda.{Agenda}
 pub use Rattle.token_store.specs.declared.agenda.Deadline.{Deadline}
 pub use Rattle.token_store.specs.declared.agenda.Page.{Page}

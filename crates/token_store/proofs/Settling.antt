@@ -4,11 +4,10 @@ use Rattle.token_store.proofs.Names.{◌==◌, is_some, slice_index_or, count_by
 use Rattle.token_store.proofs.Names.{values_of, keys_of, find-append, list_any-append, count_by-le-length, length-map, nat_list_eq_equiv, lookup-remove_entry, IsDistinct-head, IsDistinct-tail}
 use Rattle.token_store.proofs.Names.{IsDistinct-cons, sum_by_values_permutation, bytes_eq-Decides, count_by-cons, is_named, is_unexpired, Record, Shared, Agenda, Deadline, deadlines_of, is_deadline}
 use Rattle.token_store.proofs.Names.{IsExact, Kept, kept_at, shared_at, expiry, expiry_of, kept_under, all_kept, AllListed, IsCounted, IsOwned, Tied, is_live_at, HasLeft, HasEntered, TellsSame}
-use Rattle.token_store.proofs.Names.{SharesSame, Waits, nat_tests}
+use Rattle.token_store.proofs.Names.{SharesSame, nat_tests}
 use Rattle.std.proofs.lemmas.List.Sorted.{IsPermutation-refl, IsPermutation-trans, IsPermutation-swap, IsPermutation-cons, IsPermutation-map, sum_by_pushed}
 use Rattle.token_store.proofs.Looking.{shown, found, count-push, same_as_is, same_on, same_push, absent_on}
-use Rattle.token_store.proofs.Waiting.{waits_other}
-use Rattle.token_store.proofs.Dropping.{counted_without, dropped_one, same_shared, count_seen, member_counted}
+use Rattle.token_store.proofs.Dropping.{counted_without, dropped_one, same_shared, count_seen}
 
 -- FORGETTING
 
@@ -91,15 +90,6 @@ replaced digest (Some x) old r es es' some is puts = rw puts (anew es (sym is))
             IsPermutation-trans ((digest, r) ∷ e ∷ remove_entry (bytes_eq digest) xs) (e ∷ (digest, r) ∷ remove_entry (bytes_eq digest) xs) (e ∷ set_value (bytes_eq digest) xs r)
             (IsPermutation-swap ((digest, r) ∷ e ∷ remove_entry (bytes_eq digest) xs) (e ∷ (digest, r) ∷ remove_entry (bytes_eq digest) xs) 0 1 (omega arith) (omega arith) refl)
             (IsPermutation-cons e ((digest, r) ∷ remove_entry (bytes_eq digest) xs) (set_value (bytes_eq digest) xs r) (more at))
-
--- a family that waits still does
-pub waits_left : (families families' : List (Option Shared)) (es : List (List ℕ × Record)) (awaited : List ℕ) (digest : List ℕ) (r : Record) (n : ℕ) (s : Shared) → IsCounted families es awaited →
-    lookup (bytes_eq digest) es ≡ Some r → HasLeft families families' r.family → Waits families n s → Waits families' n s
-waits_left families families' es awaited digest r n s counted at left waits =
-    let some = member_counted digest es r at in
-    let count = counted r.family in
-    let empty = waits.empty in
-    waits_other families families' n s (left.others n (λ same. grind (arith, some, count, empty))) waits
 
 -- COMING
 

@@ -1,7 +1,7 @@
 -- Beside Fits: only the contracts of this crate's own parts and their proofs cite this, no public clause.
 use Rattle.std.specs.Prelude.{◌≡◌, ◌+◌, ℕ, List, Bool, Option, Some, if◌then◌else◌, ◌==◌, nat_le, is_some, length}
 use Rattle.consent.specs.Limits.{record_limit}
-use Rattle.consent.specs.History.{Event, Grant, grant_at, are_taken, with_change, CanFollow, Change as told}
+use Rattle.consent.specs.History.{Event, are_taken, with_change, CanFollow, Change as told}
 use Rattle.consent.specs.Changes.{change_of}
 use Rattle.consent.specs.declared.change.Change.{Change}
 use Rattle.token_store.specs.declared.fault.StoreFault.{StoreFault}
@@ -28,9 +28,3 @@ kept_refusal kept moment digests = refusal_by (has_kept_room kept moment (length
 -- the numbers of the families, with that of one more
 abbrev pub with_family_number : (ℕ → ℕ) → ℕ → ℕ → ℕ → ℕ
 with_family_number number place n family = if family == place then n else number family
-
--- the code or token is unexpired, and the number is that of its family
-pub record IsMember (history : List Event) (number : ℕ → ℕ) (moment family : ℕ) (g : Grant) : Type 0 where
-  pub digest : List ℕ
-  pub is_named : grant_at history digest moment ≡ Some g
-  pub number_is : number g.family ≡ family

@@ -1,7 +1,8 @@
 -- What a store answers from: its records, in any order and with any that no longer count.
-use Rattle.std.specs.Prelude.{◌≡◌, ℕ, List, Bool, true, Option, find, count_by, is_some, ◌&&◌, ◌==◌}
+use Rattle.std.specs.Prelude.{ℕ, List, Bool, Option, find, count_by}
 use Rattle.consent.specs.History.{Grant, Terms, is_named, is_unexpired}
 use Rattle.token_store.specs.declared.record.Shared.{Shared}
+use Rattle.token_store.specs.declared.tables.Coming.{Coming}
 
 -- a code or token as it is kept: its family by the store's number, its family's code's terms, spent or not, ended or not
 pub record Kept : Type 0 where
@@ -16,16 +17,11 @@ pub record Texts : Type 0 where
   pub redirect : List ℕ
   pub challenge : List ℕ
 
--- a family's number and, of a code, the texts, for what is about to come
-pub record Expected : Type 0 where
-  pub number : ℕ
-  pub texts : Option Texts
-
--- for how many records more there is memory, the families, and what is expected, the first at the end
+-- for how many records more there is memory, the families, and what is expected, if anything is
 pub record Room : Type 0 where
   pub records : ℕ
   pub families : List (Option Shared)
-  pub coming : List Expected
+  pub coming : Option Coming
 
 -- what a store keeps, and what room it has for more
 pub record Held : Type 0 where
@@ -38,11 +34,3 @@ kept_at kept digest moment = find (λ k. is_named digest moment k.grant) kept
 
 abbrev pub kept_unexpired : List Kept → ℕ → ℕ
 kept_unexpired kept moment = count_by (λ k. is_unexpired moment k.grant) kept
-
--- it is unexpired and of the family with the number
-abbrev pub is_in : ℕ → ℕ → Kept → Bool
-is_in family moment k = (k.grant.family == family) && is_unexpired moment k.grant
-
--- something unexpired is kept of the family with the number
-abbrev pub HasFamily : List Kept → ℕ → ℕ → Type 0
-HasFamily kept family moment = is_some (find (is_in family moment) kept) ≡ true

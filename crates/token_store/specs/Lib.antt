@@ -6,10 +6,8 @@ pub mod Room
 pub mod Agenda
 pub mod Records
 pub mod Image
-pub mod FaultTexts
 -- What only the contracts of this crate's own parts and their proofs cite.
 pub mod FitsParts
-pub mod RoomParts
 pub mod AgendaParts
 pub mod RecordsParts
 pub mod ImageParts

@@ -147,8 +147,6 @@ pub record Tied (families : List (Option Shared)) (records : List (List ℕ × R
 abbrev pub IsTied : Tables → List ℕ → Type 0
 IsTied t awaited = Tied t.families.slots t.records.entries t.agenda t.owners.keys awaited
 
--- CHANGES
-
 -- NEW RECORDS
 
 -- the texts that are kept

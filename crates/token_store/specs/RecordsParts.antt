@@ -19,7 +19,7 @@ use Rattle.consent.specs.declared.change.CodeFacts.{CodeFacts}
 use Rattle.consent.specs.declared.change.NewToken.{NewToken}
 use Rattle.token_store.specs.Agenda.{is_deadline}
 use Rattle.token_store.specs.Kept.{Kept, kept_at, kept_unexpired}
-use Rattle.token_store.specs.Records.{terms_by, kept_under, kept_in, family_numbered, shared_at, kept_of, all_kept, expiry, expiry_of, owner_cmp, has_owner, code_shared, IsCounted, IsOwned}
+use Rattle.token_store.specs.Records.{terms_by, kept_under, kept_in, family_numbered, shared_at, kept_of, all_kept, expiry_of, owner_cmp, has_owner, code_shared, IsCounted, IsOwned}
 use Rattle.std.specs.Option.{option_and_then}
 
 abbrev pub is_live_at : ℕ → Record → Bool
@@ -61,10 +61,6 @@ IsNoneExpired moment (Some r) = is_live_at moment r ≡ true
 -- none has expired
 abbrev pub AllLive : List (List ℕ × Record) → ℕ → Type 0
 AllLive records moment = (digest : List ℕ) (t : ℕ) → expiry_of (lookup (bytes_eq digest) records) ≡ Some t → moment < t
-
--- when the record under the digest expires
-abbrev pub deadline_of : List ℕ → Record → Deadline
-deadline_of digest r = record { digest = digest; moment = expiry r }
 
 -- those of these deadlines that are there expire after the moment
 abbrev pub AllGone : List Deadline → List (List ℕ × Record) → ℕ → Type 0

@@ -1,6 +1,5 @@
 -- What room a store has for changes.
-use Rattle.std.specs.Prelude.{◌≡◌, ◌≢◌, ◌+◌, ◌≤◌, ℕ, List, [], ◌∷◌, ◌++◌, true, Option, Some, is_some, map, min, option_map}
-use Rattle.std.specs.List.{AllByRecursion}
+use Rattle.std.specs.Prelude.{◌≡◌, ◌+◌, ◌≤◌, ℕ, List, [], ◌∷◌, true, Option, Some, None, is_some, min, option_map}
 use Rattle.std.specs.HashMap.{spare}
 use Rattle.consent.specs.declared.change.Change.{Change}
 use Rattle.consent.specs.declared.change.Change.TheVariants.{CodeGiven, IssuedAlone, Issued}
@@ -8,7 +7,7 @@ use Rattle.token_store.specs.declared.record.Shared.{Shared}
 use Rattle.token_store.specs.declared.tables.Coming.{Coming}
 use Rattle.token_store.specs.declared.tables.Tables.{Tables}
 use Rattle.token_store.specs.Agenda.{agenda_room}
-use Rattle.token_store.specs.Kept.{Texts, Expected, Room, Held}
+use Rattle.token_store.specs.Kept.{Texts, Room, Held}
 use Rattle.token_store.specs.Records.{family_numbered, shared_at, is_coded, code_shared, own_shared, texts_seen, texts_given}
 
 -- how many codes and tokens the change gives
@@ -23,8 +22,8 @@ records_of [] = 0
 records_of (c ∷ cs) = records_by c + records_of cs
 
 -- so many records more can be kept
-pub record HasSpare (room : Room) (n : ℕ) : Type 0 where
-  pub records : n ≤ room.records
+abbrev pub HasSpare : Room → ℕ → Type 0
+HasSpare room n = n ≤ room.records
 
 -- the family is there without records, and is of whom the one that comes is
 pub record Waits (families : List (Option Shared)) (n : ℕ) (s : Shared) : Type 0 where
@@ -32,50 +31,32 @@ pub record Waits (families : List (Option Shared)) (n : ℕ) (s : Shared) : Type
   pub empty : (shared_at families n).count ≡ 0
   pub alike : (owner client : ℕ) → is_coded owner client (family_numbered families n) ≡ is_coded owner client (Some s)
 
--- the last that is expected is this, in a family of its own
-pub record NextIs (families : List (Option Shared)) (items front : List Expected) (e : Expected) (s : Shared) : Type 0 where
-  pub is : items ≡ front ++ e ∷ []
-  pub waits : Waits families e.number s
-  pub apart : AllByRecursion (λ (d : Expected). d.number ≢ e.number) front
+-- such a one is expected, in a family of its own
+pub record IsExpected (room : Room) (s : Shared) (texts : Option Texts) : Type 0 where
+  pub coming : Coming
+  pub is : room.coming ≡ Some coming
+  pub texts_are : option_map texts_seen coming.texts ≡ texts
+  pub waits : Waits room.families coming.number s
 
--- so it is of a code with its texts
-pub record CodeNext (families : List (Option Shared)) (items : List Expected) (s : Shared) (texts : Texts) : Type 0 where
-  pub front : List Expected
-  pub number : ℕ
-  pub next : NextIs families items front (record { number = number; texts = Some texts }) s
-
--- and of a token
-pub record OwnNext (families : List (Option Shared)) (items : List Expected) (s : Shared) : Type 0 where
-  pub front : List Expected
-  pub number : ℕ
-  pub texts : Option Texts
-  pub next : NextIs families items front (record { number = number; texts = texts }) s
-
--- each that comes has its family, the first at the end
-abbrev pub AreReady : List (Option Shared) → List Expected → List Change → Type 0
-AreReady families items [] = items ≡ []
-AreReady families items (CodeGiven facts digest ∷ cs) =
-    (n : CodeNext families items (code_shared facts 0) (texts_given facts)) × AreReady families n.front cs
-AreReady families items (IssuedAlone client token ∷ cs) =
-    (n : OwnNext families items (own_shared client 0)) × AreReady families n.front cs
-AreReady families items (_ ∷ cs) = AreReady families items cs
+-- the first of the changes has its family, where it opens one
+abbrev pub IsReady : Room → List Change → Type 0
+IsReady room (CodeGiven facts digest ∷ cs) = IsExpected room (code_shared facts 0) (Some (texts_given facts))
+IsReady room (IssuedAlone client token ∷ cs) = IsExpected room (own_shared client 0) None
+IsReady room _ = Unit {0}
 
 -- there is room for the changes
 pub record HasRoomFor (room : Room) (changes : List Change) : Type 0 where
   pub spare : HasSpare room (records_of changes)
-  pub ready : AreReady room.families room.coming changes
+  pub ready : IsReady room changes
 
 -- the store has room for the changes
 abbrev pub HasRoom : Held → List Change → Type 0
 HasRoom store changes = HasRoomFor store.room changes
-
-abbrev pub expected_of : Coming → Expected
-expected_of c = record { number = c.number; texts = option_map texts_seen c.texts }
 
 -- what room the tables have
 abbrev pub room_of : Tables → Room
 room_of t = record {
   records = min (spare t.records) (agenda_room t.agenda);
   families = t.families.slots;
-  coming = map expected_of t.coming.items;
+  coming = t.coming;
 }

@@ -1,51 +1,49 @@
 //! Changes are made.
-ghost use Rattle.std.specs.Prelude.{[]};
+ghost use Rattle.std.specs.Prelude.{◌≤◌, ◌+◌, [], ◌∷◌};
 ghost use Rattle.consent.specs.Changes.{as_list};
 ghost use Rattle.consent.specs.declared.change.Change.{Change};
 ghost use Rattle.token_store.specs.Fits.{MakesChanges};
 ghost use Rattle.token_store.specs.FitsParts.{MakesChange};
 ghost use Rattle.token_store.specs.Records.{IsTied, kept_of};
 ghost use Rattle.token_store.specs.Room.{HasRoomFor, HasSpare, room_of};
-ghost use Rattle.token_store.specs.RoomParts.{HasRoomFirst, KeepsRoom, LeavesRoom};
 
 use crate::record::{Record, Shared};
-use crate::tables::{Coming, Tables, renew};
+use crate::tables::{Coming, Tables};
 use consent::{Change, Changes, ClientNo, CodeFacts, Digest, Moment, NewToken};
 
 impl Tables {
     // Gives a code.
     fn give_code(&mut self, facts: &CodeFacts<'_>, digest: &Digest, moment: Moment)
         requires tied { IsTied self.old [] }
-        requires room { HasRoomFirst (room_of self.old) (Change.CodeGiven facts.now digest.now) }
+        requires room { HasRoomFor (room_of self.old) (Change.CodeGiven facts.now digest.now ∷ []) }
         ensures tied { IsTied self.new [] }
         ensures makes { MakesChange (kept_of self.old) (kept_of self.new) moment (Change.CodeGiven facts.now digest.now) }
-        ensures room { LeavesRoom (room_of self.old) (room_of self.new) (Change.CodeGiven facts.now digest.now) }
     {
-        let Some(coming) = self.coming.pop() else {
+        let Some(
+            Coming {
+                number,
+                texts: Some(texts),
+            },
+        ) = self.coming.take()
+        else {
             unreachable!()
         };
-        let Coming { number, texts } = coming;
-        let Some(texts) = texts else { unreachable!() };
-        renew(&mut self.families, number, Shared::of_code(facts));
-        self.put(digest, Record::of_code(texts, facts, moment, number));
+        let record = Record::of_code(texts, facts, moment, number);
+        self.put_expected(Shared::of_code(facts), digest, record);
     }
 
     // Issues a token in a new family of the client's own.
     fn issue_alone(&mut self, client: ClientNo, token: &NewToken, moment: Moment)
         requires tied { IsTied self.old [] }
-        requires room { HasRoomFirst (room_of self.old) (Change.IssuedAlone client token.now) }
+        requires room { HasRoomFor (room_of self.old) (Change.IssuedAlone client token.now ∷ []) }
         ensures tied { IsTied self.new [] }
         ensures makes { MakesChange (kept_of self.old) (kept_of self.new) moment (Change.IssuedAlone client token.now) }
-        ensures room { LeavesRoom (room_of self.old) (room_of self.new) (Change.IssuedAlone client token.now) }
     {
-        let Some(coming) = self.coming.pop() else {
+        let Some(coming) = self.coming.take() else {
             unreachable!()
         };
-        renew(&mut self.families, coming.number, Shared::of_client(client));
-        self.put(
-            &token.digest,
-            Record::of_token(token, moment, coming.number),
-        );
+        let record = Record::of_token(token, moment, coming.number);
+        self.put_expected(Shared::of_client(client), &token.digest, record);
     }
 
     // Issues a token in the family of what has the digest.
@@ -54,7 +52,7 @@ impl Tables {
         requires room { HasSpare (room_of self.old) 1 }
         ensures tied { IsTied self.new [] }
         ensures makes { MakesChange (kept_of self.old) (kept_of self.new) moment (Change.Issued of.now token.now) }
-        ensures room { LeavesRoom (room_of self.old) (room_of self.new) (Change.Issued of.now token.now) }
+        ensures room { (room_of self.old).records ≤ (room_of self.new).records + 1 }
     {
         let Some(record) = self.record_at(of, moment) else {
             return;
@@ -68,7 +66,6 @@ impl Tables {
         requires tied { IsTied self.old [] }
         ensures tied { IsTied self.new [] }
         ensures makes { MakesChange (kept_of self.old) (kept_of self.new) moment (Change.Spent digest.now) }
-        ensures room { KeepsRoom (room_of self.old) (room_of self.new) }
     {
         if self.record_at(digest, moment).is_some() {
             self.spend(digest);
@@ -80,7 +77,6 @@ impl Tables {
         requires tied { IsTied self.old [] }
         ensures tied { IsTied self.new [] }
         ensures makes { MakesChange (kept_of self.old) (kept_of self.new) moment (Change.FamilyEnded of.now) }
-        ensures room { KeepsRoom (room_of self.old) (room_of self.new) }
     {
         let Some(record) = self.record_at(of, moment) else {
             return;
@@ -92,10 +88,9 @@ impl Tables {
     // Makes a change.
     fn apply_one(&mut self, change: &Change<'_>, moment: Moment)
         requires tied { IsTied self.old [] }
-        requires room { HasRoomFirst (room_of self.old) change.now }
+        requires room { HasRoomFor (room_of self.old) (change.now ∷ []) }
         ensures tied { IsTied self.new [] }
         ensures makes { MakesChange (kept_of self.old) (kept_of self.new) moment change.now }
-        ensures room { LeavesRoom (room_of self.old) (room_of self.new) change.now }
     {
         match change {
             Change::Consented {

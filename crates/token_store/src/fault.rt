@@ -1,8 +1,5 @@
 //! Why codes and tokens are refused.
 
-ghost use Rattle.std.specs.Prelude.{Some};
-ghost use Rattle.token_store.specs.FaultTexts.{store_fault_text};
-
 use std::fmt::{self, Display, Formatter, Write};
 
 /// Why a code or a token may not be given.
@@ -15,12 +12,7 @@ pub enum StoreFault {
 }
 
 impl Display for StoreFault {
-    ghost output = { λ fault. Some (store_fault_text fault) };
-
     fn fmt<W: Write>(&self, f: &mut Formatter<W>) -> fmt::Result {
-        match self {
-            StoreFault::Full => write!(f, "Full"),
-            StoreFault::DrawTaken => write!(f, "DrawTaken"),
-        }
+        write!(f, "{self:?}")
     }
 }

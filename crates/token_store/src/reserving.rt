@@ -1,13 +1,11 @@
 //! Room for changes.
-ghost use Rattle.std.specs.Prelude.{◌≡◌, ◌+◌, ℕ, List, [], OnOk, option_map};
+ghost use Rattle.std.specs.Prelude.{◌≡◌, ℕ, List, [], ◌∷◌, OnOk, option_map};
 ghost use Rattle.std.specs.Str.{bytes_eq};
 ghost use Rattle.std.specs.Map.{lookup};
 ghost use Rattle.consent.specs.Changes.{as_list};
-ghost use Rattle.token_store.specs.Agenda.{deadlines_of};
 ghost use Rattle.token_store.specs.Records.{IsTied, kept_of, texts_seen};
 ghost use Rattle.token_store.specs.RecordsParts.{TellsSame};
-ghost use Rattle.token_store.specs.Room.{records_by, records_of, AreReady, HasRoomFor, HasSpare, room_of};
-ghost use Rattle.token_store.specs.RoomParts.{ExpectsNext, MakesReady};
+ghost use Rattle.token_store.specs.Room.{records_by, records_of, HasRoomFor, HasSpare, IsExpected, IsReady, room_of};
 
 use crate::record::{CodeTexts, Shared};
 use crate::tables::{Coming, Tables};
@@ -44,19 +42,18 @@ fn records_of(changes: &Changes<'_>) -> usize
 }
 
 impl Tables {
-    // Lets go of families that nothing came to.
+    // Lets go of the family that nothing came to.
     fn forget_coming(&mut self)
         requires tied { IsTied self.old [] }
         ensures tied { IsTied self.new [] }
         ensures same { kept_of self.new ≡ kept_of self.old }
-        ensures none { self.new.coming.items ≡ [] }
     {
-        while let Some(coming) = self.coming.pop() {
+        if let Some(coming) = self.coming.take() {
             self.close_if_empty(coming.number);
         }
     }
 
-    // Opens a family without records, for what comes before all that room was made for.
+    // Opens a family without records, for what is about to come.
     fn expect(&mut self, shared: Shared, texts: Option<Box<CodeTexts>>) -> Result<(), AllocError>
         requires tied { IsTied self.old [] }
         requires empty { shared.count ≡ 0 }
@@ -64,24 +61,21 @@ impl Tables {
         ensures same { kept_of self.new ≡ kept_of self.old }
         ensures records { self.new.records ≡ self.old.records }
         ensures agenda { self.new.agenda ≡ self.old.agenda }
-        ensures next { OnOk result (ExpectsNext (room_of self.old) (room_of self.new) shared (option_map texts_seen texts)) }
+        ensures expected { OnOk result (IsExpected (room_of self.new) shared (option_map texts_seen texts)) }
     {
-        self.coming.reserve(1)?;
         let number = self.open_family(shared)?;
-        let Ok(()) = self.coming.push(Coming { number, texts }) else {
-            unreachable!()
-        };
+        self.coming = Some(Coming { number, texts });
         Ok(())
     }
 
-    // Makes ready for a change before all that are ready.
+    // Makes ready for a change.
     fn prepare(&mut self, alloc: Global, change: &Change<'_>) -> Result<(), AllocError>
         requires tied { IsTied self.old [] }
         ensures tied { IsTied self.new [] }
         ensures same { kept_of self.new ≡ kept_of self.old }
         ensures records { self.new.records ≡ self.old.records }
         ensures agenda { self.new.agenda ≡ self.old.agenda }
-        ensures ready { OnOk result (MakesReady (room_of self.old) (room_of self.new) change.now) }
+        ensures ready { OnOk result (IsReady (room_of self.new) (change.now ∷ [])) }
     {
         match change {
             Change::CodeGiven { facts, .. } => {
@@ -98,30 +92,12 @@ impl Tables {
         }
     }
 
-    // Makes ready for the changes. No family is opened for what is issued with something that is used.
-    fn prepare_all(&mut self, alloc: Global, changes: &Changes<'_>) -> Result<(), AllocError>
-        requires tied { IsTied self.old [] }
-        requires none { self.old.coming.items ≡ [] }
-        ensures tied { IsTied self.new [] }
-        ensures same { kept_of self.new ≡ kept_of self.old }
-        ensures records { self.new.records ≡ self.old.records }
-        ensures agenda { self.new.agenda ≡ self.old.agenda }
-        ensures ready { OnOk result (AreReady self.new.families.slots (room_of self.new).coming (as_list changes.now)) }
-    {
-        match changes {
-            Changes::One(one) => self.prepare(alloc, one),
-            Changes::Nothing | Changes::Used { .. } => Ok(()),
-        }
-    }
-
     /// Takes the memory for so many records more.
     pub(crate) fn make_room(&mut self, alloc: Global, more: usize) -> Result<(), AllocError>
         requires { IsTied self.old [] }
         ensures tied { IsTied self.new [] }
         ensures same { (moment : ℕ) → TellsSame (kept_of self.old) (kept_of self.new) moment }
         ensures families { self.new.families ≡ self.old.families }
-        ensures coming { self.new.coming ≡ self.old.coming }
-        ensures deadlines { deadlines_of self.new.agenda ≡ deadlines_of self.old.agenda }
         ensures found { (digest : List ℕ) → lookup (bytes_eq digest) self.new.records.entries ≡ lookup (bytes_eq digest) self.old.records.entries }
         ensures room { OnOk result (HasSpare (room_of self.new) more) }
     {
@@ -139,6 +115,10 @@ impl Tables {
         let count = records_of(changes);
         self.forget_coming();
         self.make_room(alloc, count)?;
-        self.prepare_all(alloc, changes)
+        match changes {
+            Changes::One(one) => self.prepare(alloc, one),
+            // No family is opened for what is issued with something that is used.
+            Changes::Nothing | Changes::Used { .. } => Ok(()),
+        }
     }
 }

@@ -4,10 +4,9 @@ ghost use Rattle.std.specs.Str.{bytes_eq};
 ghost use Rattle.std.specs.Map.{lookup};
 ghost use Rattle.consent.specs.Limits.{record_limit};
 ghost use Rattle.consent.specs.History.{is_unexpired};
-ghost use Rattle.token_store.specs.Agenda.{deadlines_of};
 ghost use Rattle.token_store.specs.Kept.{kept_unexpired};
 ghost use Rattle.token_store.specs.Records.{family_numbered, kept_of, IsTied};
-ghost use Rattle.token_store.specs.RecordsParts.{deadline_of, kept_with, HasEntered, HasPut, TellsSame};
+ghost use Rattle.token_store.specs.RecordsParts.{kept_with, HasEntered, HasPut, TellsSame};
 ghost use Rattle.token_store.specs.Image.{as_kept, HasDigestTwice};
 ghost use Rattle.token_store.specs.ImageParts.{FindsAtMost, IsRestored, IsSecond, is_unexpired_record};
 ghost use Rattle.token_store.specs.Homes.{AreHomes, HasHome, AllHome, HasGrown, HomesStay, as_numbered};
@@ -47,7 +46,6 @@ impl Tables {
         requires absent { lookup (bytes_eq digest.now) self.old.records.entries ≡ None }
         ensures tied { OnOk result (IsTied self.new []) }
         ensures tells { OnOk result ((moment : ℕ) → TellsSame (kept_with self.old digest.now new) (kept_of self.new) moment) }
-        ensures noted { OnOk result (deadlines_of self.new.agenda ≡ deadlines_of self.old.agenda ++ deadline_of digest.now new ∷ []) }
         ensures entered { OnOk result (HasEntered self.old.families.slots self.new.families.slots new.family 1) }
         ensures found { OnOk result (HasPut self.old.records.entries self.new.records.entries digest.now new) }
     {

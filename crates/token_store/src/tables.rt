@@ -1,17 +1,15 @@
 //! The tables: records by digest, the families, and those of each owner and client.
-ghost use Rattle.std.specs.Prelude.{◌≡◌, ◌≢◌, ◌+◌, ◌<◌, ◌≤◌, ◌^◌, ℕ, [], ◌∷◌, ◌++◌, None, Some, true, false, not, nat_lt, length, count_by, is_some, option_map, option_copied, IfOk, OnOk, OnErr};
+ghost use Rattle.std.specs.Prelude.{◌≡◌, ◌+◌, ◌<◌, ◌≤◌, ◌^◌, ℕ, [], ◌∷◌, ◌++◌, None, Some, true, false, not, nat_lt, length, count_by, is_some, option_map, option_copied, IfOk, OnOk, OnErr};
 ghost use Rattle.std.specs.List.{list_any, IsDistinct};
 ghost use Rattle.std.specs.Str.{bytes_eq};
 ghost use Rattle.std.specs.Map.{lookup, keys_of, values_of};
-ghost use Rattle.std.specs.HashMap.{spare};
 ghost use Rattle.token_store.specs.Agenda.{deadlines_of, least};
 ghost use Rattle.token_store.specs.AgendaParts.{HasCome};
 ghost use Rattle.token_store.specs.Kept.{kept_at, kept_unexpired};
 ghost use Rattle.token_store.specs.FitsParts.{are_kept, has_kept_room, kept_refusal};
-ghost use Rattle.token_store.specs.Room.{HasSpare, room_of};
-ghost use Rattle.token_store.specs.RoomParts.{KeepsRoom, WaitsStill};
-ghost use Rattle.token_store.specs.Records.{family_numbered, kept_under, kept_of, shared_at, IsCounted, IsOwned, IsTied};
-ghost use Rattle.token_store.specs.RecordsParts.{deadline_of, is_live_at, IsNextOwned, start_of, kept_found, HasEntered, HasLeft, HasClosed, HasEnded, HasIndexed, HasOpened, HasLowered, HasPut, HasSpent, lowered_by, AllLive, KeepsToo, OthersStay, RecordChange, all_changed, spent_in};
+ghost use Rattle.token_store.specs.Room.{HasSpare, Waits, room_of};
+ghost use Rattle.token_store.specs.Records.{family_numbered, kept_under, kept_of, shared_at, IsOwned, IsTied};
+ghost use Rattle.token_store.specs.RecordsParts.{is_live_at, IsNextOwned, start_of, kept_found, HasEntered, HasLeft, HasClosed, HasEnded, HasIndexed, HasOpened, HasLowered, HasPut, HasSpent, lowered_by, AllLive, KeepsToo, OthersStay, RecordChange, TellsSame, all_changed, spent_in};
 
 use crate::agenda::Agenda;
 use crate::fault::StoreFault;
@@ -41,8 +39,8 @@ pub(crate) struct Tables {
     pub(crate) families: Slab<Shared>,
     /// The families that a code opened, by its owner and client.
     pub(crate) owners: Owners,
-    /// What room was made for, the first to come at the end.
-    pub(crate) coming: Vec<Coming>,
+    /// What room was made for.
+    pub(crate) coming: Option<Coming>,
 }
 
 impl Tables {
@@ -55,7 +53,7 @@ impl Tables {
             agenda: Agenda::new(alloc),
             families: Slab::new(alloc),
             owners: BTreeSet::new(alloc),
-            coming: Vec::new(alloc),
+            coming: None,
         }
     }
 
@@ -171,7 +169,6 @@ impl Tables {
         requires { IsTied self.old [] }
         ensures tied { IsTied self.new [] }
         ensures changed { kept_of self.new ≡ all_changed (RecordChange.Ended number) (kept_of self.old) }
-        ensures room { KeepsRoom (room_of self.old) (room_of self.new) }
     {
         end_one(&mut self.families, number);
     }
@@ -181,7 +178,6 @@ impl Tables {
         requires { IsTied self.old [] }
         ensures tied { IsTied self.new [] }
         ensures changed { kept_of self.new ≡ all_changed (RecordChange.Lowered owner client mask) (kept_of self.old) }
-        ensures room { KeepsRoom (room_of self.old) (room_of self.new) }
     {
         lower_all(
             &mut self.families,
@@ -197,7 +193,6 @@ impl Tables {
         requires { IsTied self.old [] }
         ensures tied { IsTied self.new [] }
         ensures changed { HasSpent (kept_of self.old) (kept_of self.new) digest.now }
-        ensures room { room_of self.new ≡ room_of self.old }
     {
         spend_one(&mut self.records, digest);
     }
@@ -211,7 +206,6 @@ impl Tables {
         ensures same { kept_of self.new ≡ kept_of self.old }
         ensures records { self.new.records ≡ self.old.records }
         ensures agenda { self.new.agenda ≡ self.old.agenda }
-        ensures coming { self.new.coming ≡ self.old.coming }
     {
         self.families.reserve(1)?;
         let number = self.families.vacant_key();
@@ -226,7 +220,6 @@ impl Tables {
         requires { IsTied self.old [] }
         ensures tied { IsTied self.new [] }
         ensures same { kept_of self.new ≡ kept_of self.old }
-        ensures coming { self.new.coming ≡ self.old.coming }
     {
         let Some(shared) = self.families.get(number) else {
             return;
@@ -243,12 +236,9 @@ impl Tables {
         requires room { HasSpare (room_of self.old) 1 }
         ensures tied { IsTied self.new [] }
         ensures keeps { KeepsToo self.old self.new digest.now new }
-        ensures room { (n : ℕ) → HasSpare (room_of self.old) (n + 1) → HasSpare (room_of self.new) n }
-        ensures noted { deadlines_of self.new.agenda ≡ deadlines_of self.old.agenda ++ deadline_of digest.now new ∷ [] }
+        ensures room { (room_of self.old).records ≤ (room_of self.new).records + 1 }
         ensures found { HasPut self.old.records.entries self.new.records.entries digest.now new }
         ensures entered { lookup (bytes_eq digest.now) self.old.records.entries ≡ None → HasEntered self.old.families.slots self.new.families.slots new.family 1 }
-        ensures waiting { (n : ℕ) → n ≢ new.family → WaitsStill self.old.families.slots self.new.families.slots n }
-        ensures coming { self.new.coming ≡ self.old.coming }
     {
         // There are fewer than 2^63, and so there are of the family.
         let _ = self.records.len();
@@ -260,6 +250,22 @@ impl Tables {
         if let Some(expired) = replaced {
             leave(&mut self.families, &mut self.owners, expired.family);
         }
+    }
+}
+
+impl Tables {
+    /// Keeps the record in its family, which waited for it and is as it is given.
+    pub(crate) fn put_expected(&mut self, shared: Shared, digest: &Digest, new: Record)
+        requires tied { IsTied self.old [] }
+        requires waits { Waits self.old.families.slots new.family shared }
+        requires empty { shared.count ≡ 0 }
+        requires room { HasSpare (room_of self.old) 1 }
+        ensures tied { IsTied self.new [] }
+        ensures keeps { (moment : ℕ) → kept_at (kept_of self.old) digest.now moment ≡ None →
+            TellsSame (kept_of self.old ++ kept_under shared digest.now new ∷ []) (kept_of self.new) moment }
+    {
+        renew(&mut self.families, new.family, shared);
+        self.put(digest, new);
     }
 }
 
@@ -292,7 +298,7 @@ fn enter(families: &mut Slab<Shared>, number: usize, more: usize)
 }
 
 // The family, which has no records, is as it is given.
-pub(crate) fn renew(families: &mut Slab<Shared>, number: usize, shared: Shared)
+fn renew(families: &mut Slab<Shared>, number: usize, shared: Shared)
     ensures here { is_some (family_numbered families.old.slots number) ≡ true → family_numbered families.new.slots number ≡ Some shared }
     ensures others { OthersStay families.old.slots families.new.slots number }
 {
@@ -310,7 +316,6 @@ fn end_one(families: &mut Slab<Shared>, number: usize)
 }
 
 fn spend_one(records: &mut HashMap<Digest, Record>, digest: &Digest)
-    ensures spare { spare records.new ≡ spare records.old }
     ensures spent { records.new.entries ≡ spent_in digest.now records.old.entries (lookup (bytes_eq digest.now) records.old.entries) }
 {
     if let Some(record) = records.get_mut(digest) {

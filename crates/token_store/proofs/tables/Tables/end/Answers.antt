@@ -1,20 +1,13 @@
 use Rattle.std.proofs.Common.{arith}
 use Rattle.token_store.proofs.Families.{tied_ended, view_ended}
-use Rattle.token_store.specs.Room.{room_of}
-use Rattle.token_store.proofs.Waiting.{ready_all, waits_ended}
 use Rattle.token_store.proofs.tables.Tables.end.Goals as goal
 
 pub returns : goal.returns
 returns c =
     let t = c.args.self.now in
     let slots' = c.end_one.new.families.slots in
-    let n = c.args.number in
     let ended = c.end_one.ensures.ended in
     record {
-      tied = tied_ended t.families.slots slots' n t.records.entries t.agenda t.owners.keys ended c.requires;
-      changed = view_ended t.families.slots slots' n t.records.entries ended (λ k. (let same = c.requires.counted k in omega (arith, same)));
-      room = λ changes has. record {
-        spare = record { records = has.spare.records };
-        ready = ready_all t.families.slots slots' (room_of t).coming changes (λ k s waits. waits_ended t.families.slots slots' n k s ended waits) has.ready;
-      };
+      tied = tied_ended t.families.slots slots' c.args.number t.records.entries t.agenda t.owners.keys ended c.requires;
+      changed = view_ended t.families.slots slots' c.args.number t.records.entries ended (λ k. (let same = c.requires.counted k in omega (arith, same)));
     }

@@ -1,55 +1,28 @@
-use Rattle.std.proofs.Common.{◌≡◌, ◌∙◌, ap, refl, ℕ, Some, length, arith}
-use Rattle.token_store.proofs.Names.{same_Some, code_given, with_change, Shared, Expected, with_family_number, records_of, or_nothing, shared_at, kept_of, kept_under, code_shared, texts_given}
-use Rattle.token_store.proofs.Names.{code_kept}
+use Rattle.std.proofs.Common.{◌≡◌, ◌∙◌, ap, ℕ, length, arith}
+use Rattle.token_store.proofs.Names.{same_Some, code_given, with_change, with_family_number, kept_of, kept_under, shared_at}
 use Rattle.token_store.proofs.Adding.{fits_opened}
 use Rattle.token_store.proofs.Telling.{unused_empty}
-use Rattle.token_store.proofs.Waiting.{waits_other, taken, ready_taken}
-use Rattle.token_store.proofs.Changing.{comes, fits_put, means_so}
+use Rattle.token_store.proofs.Changing.{fits_put, means_so}
 use Rattle.token_store.proofs.tables.Tables.give_code.Goals as goal
 
-pub unreachable-requires-in_default-texts : goal.unreachable-requires-in_default-texts
-unreachable-requires-in_default-texts c =
+pub returns-clause-makes : goal.returns-clause-makes
+returns-clause-makes c = λ history next fits means follows.
     let t = c.args.self.now in
-    let first = c.requires.room.first in
-    let both = taken t.families.slots t.coming.items c.pop.new.self.items c.in-Some.coming first.front (record { number = first.number; texts = Some (texts_given c.args.facts.now) }) (code_shared c.args.facts.now 0) c.in-Some.ensures.items first.next in
-    let texts = ap (λ (x : Expected). x.texts) both.1 in
-    let none = c.in_default-texts.is in
-    grind (arith, texts, none)
-
-pub put-requires-clause-tied : goal.put-requires-clause-tied
-put-requires-clause-tied c =
-    let t = c.args.self.now in
-    let s : Shared = code_shared c.args.facts.now 0 in
-    let n : ℕ = c.in-Some.coming.number in
-    let slots' = c.renew.new.families.slots in
-    let first = c.requires.room.first in
-    let came = comes t c.pop.new.self.items c.in-Some.coming first.front (record { number = first.number; texts = Some (texts_given c.args.facts.now) }) s _ slots' c.requires.tied c.in-Some.ensures.items first.next refl c.of_code.ensures c.renew.ensures.here c.renew.ensures.others in
-    came.tied
-
-pub returns : goal.returns
-returns c =
-    let t = c.args.self.now in
-    let s : Shared = code_shared c.args.facts.now 0 in
-    let n : ℕ = c.in-Some.coming.number in
-    let slots' = c.renew.new.families.slots in
-    let first = c.requires.room.first in
-    let came = comes t c.pop.new.self.items c.in-Some.coming first.front (record { number = first.number; texts = Some (texts_given c.args.facts.now) }) s _ slots' c.requires.tied c.in-Some.ensures.items first.next refl c.of_code.ensures c.renew.ensures.here c.renew.ensures.others in
+    let t' = c.put_expected.new.self in
+    let facts = c.args.facts.now in
     let d = c.args.digest.now in
     let m = c.args.moment in
-    let r = c.of_code-2.result in
-    let is : kept_under (shared_at slots' r.family) d r ≡ code_kept n d c.args.facts.now m =
-    ap (λ i. kept_under (shared_at slots' i) d r) c.of_code-2.ensures.family ∙ ap (λ o. kept_under (or_nothing o) d r) came.here ∙ c.of_code-2.ensures.kept d 0 in
-    record {
-      tied = c.put.ensures.tied;
-      makes = λ history next fits means follows. means_so (kept_of c.put.new.self) history m _ next (same_Some _ _ means) follows (λ can. record {
-        number = with_family_number fits.number (length history) n;
-        fits = fits_put (kept_of t) _ _ _ c.put.new.self history (with_change history m (code_given (length history) c.args.facts.now d)) m fits.number (with_family_number fits.number (length history) n) d came.same is (c.put.ensures.keeps m) fits.fits can.1 c.put.ensures.tied
-            (fits_opened (kept_of t) history fits.number n m c.args.facts.now d (unused_empty t n m c.requires.tied came.waits.empty) can.1 fits.fits);
-      });
-      room = λ changes has. (let after = has.ready.0 in
-          record {
-            spare = c.put.ensures.room (records_of changes) (record { records = (let le = has.spare.records in omega (arith, le)) });
-            ready = rw c.put.ensures.coming (ready_taken t.families.slots c.put.new.self.families.slots t.coming.items c.pop.new.self.items c.in-Some.coming after.front (record { number = after.number; texts = Some (texts_given c.args.facts.now) }) s changes c.in-Some.ensures.items after.next has.ready.1
-                (λ k x ne waits. c.put.ensures.waiting k (λ e. ne (e ∙ c.of_code-2.ensures.family)) x (waits_other t.families.slots slots' k x (c.renew.ensures.others k ne) waits)));
-          });
-    }
+    let n : ℕ = c.in-Some-Some.field-0.number in
+    let ready = c.requires.room.ready in
+    let expected = ready.is in
+    let taken = c.take.ensures in
+    let here = c.in-Some-Some.is in
+    let waits = ready.waits.empty in
+    let empty : (shared_at t.families.slots n).count ≡ 0 = grind (arith, expected, taken, here, waits) in
+    let number = with_family_number fits.number (length history) n in
+    let is = ap (λ s. kept_under s d c.of_code-record.result) c.of_code.ensures ∙ c.of_code-record.ensures.kept d 0 in
+    means_so (kept_of t') history m _ next (same_Some _ _ means) follows (λ can. record {
+      number = number;
+      fits = fits_put (kept_of t) _ _ t' history (with_change history m (code_given (length history) facts d)) m fits.number number d is (c.put_expected.ensures.keeps m) fits.fits can.1 c.put_expected.ensures.tied
+          (fits_opened (kept_of t) history fits.number n m facts d (unused_empty t n m c.requires.tied empty) can.1 fits.fits);
+    })

@@ -1,6 +1,4 @@
 use Rattle.token_store.proofs.Families.{tied_lowered, view_lowered}
-use Rattle.token_store.specs.Room.{room_of}
-use Rattle.token_store.proofs.Waiting.{ready_all, waits_lowered}
 use Rattle.token_store.proofs.tables.Tables.lower.Goals as goal
 
 pub returns : goal.returns
@@ -12,8 +10,4 @@ returns c =
     record {
       tied = tied_lowered t.families.slots slots' a.owner a.client a.mask t.records.entries t.agenda t.owners.keys lowered c.requires;
       changed = view_lowered t.families.slots slots' t.records.entries a.owner a.client a.mask lowered;
-      room = λ changes has. record {
-        spare = record { records = has.spare.records };
-        ready = ready_all t.families.slots slots' (room_of t).coming changes (λ k s waits. waits_lowered t.families.slots slots' a.owner a.client a.mask k s lowered waits) has.ready;
-      };
     }

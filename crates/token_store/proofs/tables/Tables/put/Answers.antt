@@ -1,7 +1,6 @@
-use Rattle.std.proofs.Common.{◌≡◌, ◌∙◌, ◌∷◌, [], sym, None, Some, rules, arith}
+use Rattle.std.proofs.Common.{◌≡◌, ◌∙◌, sym, None, Some, arith}
 use Rattle.token_store.proofs.Names.{bytes_eq, remove_entry}
-use Rattle.token_store.proofs.Waiting.{waits_other}
-use Rattle.token_store.proofs.Settling.{forgotten, forgot_none, replaced, settled, tied_awaiting, waits_left, count_few}
+use Rattle.token_store.proofs.Settling.{forgotten, forgot_none, replaced, settled, tied_awaiting, count_few}
 use Rattle.token_store.proofs.tables.Tables.put.Goals as goal
 
 pub enter-requires : goal.enter-requires
@@ -26,12 +25,9 @@ returns-in-Some c =
     record {
       tied = all.tied;
       keeps = all.keeps;
-      room = search rules;
-      noted = added;
+      room = (let records = c.insert.ensures in grind (arith, records));
       found = c.in-Ok.ensures.updates.0;
       entered = λ none. absurd (let both : None ≡ Some c.in-Some.expired = sym none ∙ found in cc);
-      waiting = λ n other s waits. waits_left slots slots' es (r.family ∷ []) d c.in-Some.expired n s tied.counted found c.leave.ensures.left (waits_other t.families.slots slots n s (c.enter.ensures.entered.others n other) waits);
-      coming = search rules;
     }
 
 -- nothing was
@@ -51,10 +47,7 @@ returns-in_default-replaced c =
     record {
       tied = all.tied;
       keeps = all.keeps;
-      room = search rules;
-      noted = added;
+      room = (let records = c.insert.ensures in grind (arith, records));
       found = c.in-Ok.ensures.updates.0;
       entered = λ none. c.enter.ensures.entered;
-      waiting = λ n other s waits. waits_other t.families.slots slots n s (c.enter.ensures.entered.others n other) waits;
-      coming = search rules;
     }

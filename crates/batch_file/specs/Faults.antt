@@ -1,5 +1,5 @@
--- The faults of devices and of files of batches, and how they are printed.
-use Rattle.std.specs.Prelude.{ℕ, ℤ, pos, List, ◌++◌, codes, Option, Some, None, if◌then◌else◌}
+-- Which fault of a device or of a file of batches an error of the system is.
+use Rattle.std.specs.Prelude.{ℤ, pos, Option, Some, None, if◌then◌else◌}
 use Rattle.std.specs.Ordering.{int_eq}
 use Rattle.std.specs.IoError.{error_kind, raw_os_error}
 use Rattle.std.specs.declared.io.Error.{Error}
@@ -19,8 +19,6 @@ use Rattle.batch_file.specs.declared.disk_file.OpenFault.{OpenFault}
 use Rattle.batch_file.specs.declared.disk_file.OpenFault.TheVariants as opening
 use Rattle.batch_file.specs.declared.disk_file.MakeFault.{MakeFault}
 use Rattle.batch_file.specs.declared.disk_file.MakeFault.TheVariants as making
-
--- WHICH FAULT IT IS
 
 -- the fault of a kind of error
 abbrev pub fault_of_kind : ErrorKind → SystemFault
@@ -78,43 +76,3 @@ of_making_kind kind reason = making.Make reason
 
 abbrev pub of_making : Error → MakeFault
 of_making error = of_making_kind (error_kind error) (system_fault error)
-
--- HOW IT IS PRINTED
-
-abbrev pub system_fault_text : SystemFault → List ℕ
-system_fault_text system.NotFound = codes "not found"
-system_fault_text system.PermissionDenied = codes "permission denied"
-system_fault_text system.AlreadyExists = codes "already exists"
-system_fault_text system.NotADirectory = codes "not a directory"
-system_fault_text system.IsADirectory = codes "is a directory"
-system_fault_text system.ReadOnlyFilesystem = codes "read-only filesystem"
-system_fault_text system.FilesystemLoop = codes "filesystem loop"
-system_fault_text system.StorageFull = codes "no storage space"
-system_fault_text system.QuotaExceeded = codes "quota exceeded"
-system_fault_text system.FileTooLarge = codes "file too large"
-system_fault_text system.ResourceBusy = codes "resource busy"
-system_fault_text system.CrossesDevices = codes "cross-device rename"
-system_fault_text system.InvalidFilename = codes "invalid filename"
-system_fault_text system.InputOutput = codes "input/output error"
-system_fault_text system.Other = codes "other error"
-
-abbrev pub batch_fault_text : BatchFault → List ℕ
-batch_fault_text batch.Memory = codes "Memory"
-batch_fault_text (batch.Failed reason) = codes "Failed: " ++ system_fault_text reason
-batch_fault_text batch.Full = codes "Full"
-batch_fault_text batch.TooLong = codes "TooLong"
-
-abbrev pub open_fault_text : OpenFault → List ℕ
-open_fault_text opening.Memory = codes "Memory"
-open_fault_text opening.Missing = codes "Missing"
-open_fault_text opening.Link = codes "Link"
-open_fault_text opening.NotAFile = codes "NotAFile"
-open_fault_text opening.SecondLink = codes "SecondLink"
-open_fault_text opening.WritableByOthers = codes "WritableByOthers"
-open_fault_text opening.InUse = codes "InUse"
-open_fault_text (opening.Open reason) = codes "Open: " ++ system_fault_text reason
-
-abbrev pub make_fault_text : MakeFault → List ℕ
-make_fault_text making.Memory = codes "Memory"
-make_fault_text making.Exists = codes "Exists"
-make_fault_text (making.Make reason) = codes "Make: " ++ system_fault_text reason
