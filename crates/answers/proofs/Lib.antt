@@ -1,4 +1,3 @@
-pub mod FaultSizes
 pub mod Listing
 pub mod Sizes
 pub mod Names

@@ -1,5 +1,5 @@
 -- The names of the hooks, one after the other.
-use Rattle.std.proofs.Common.{◌≡◌, ◌≤◌, ◌+◌, inl, inr, ℕ, List, [], ◌∷◌, ◌++◌, Some, None, length, Bor, map, take, take_all, refl, sym, ap, ◌∙◌, arith}
+use Rattle.std.proofs.Common.{◌≡◌, ◌≤◌, ◌+◌, ℕ, List, [], ◌∷◌, ◌++◌, Some, None, length, Bor, map, take, take_all, refl, sym, ap, ◌∙◌, arith}
 use Rattle.answers.proofs.Names.{◌*◌, All, slice_get, AreHookNames, IsHookName, plain, Texts, Told, IsSmallReply, texts_size}
 use Rattle.std.specs.Prelude.{codes}
 use Rattle.std.proofs.lemmas.List.{map-append}
@@ -24,8 +24,7 @@ one_more names now n name is found =
 -- there is no next one
 pub all_named : (names now : List (List ℕ)) (n : ℕ) → now ≡ take n names → slice_get names n ≡ None → now ≡ names
 all_named names now n is none =
-    let past : length names ≤ n = elim (slice_get_cases names n).1 [ inl p ↦ (let found = p.2 in absurd (cc)) | inr p ↦ p.0 ] in
-    is ∙ take_all n names past
+    let cases = slice_get_cases names n in is ∙ take_all n names (grind (arith, cases, none))
 
 -- names are short
 names_size : (names : List (List ℕ)) → All IsHookName names → texts_size names ≤ 65 * length names

@@ -1,9 +1,8 @@
 -- Replies are short where their texts are.
 use Rattle.std.proofs.Common.{◌≡◌, ◌≤◌, true, ℕ, List, Ok, Err, refl, length, arith}
+use Rattle.answers.specs.Names.{ErrorName, InvalidRequest}
 use Rattle.answers.proofs.Names.{Result, IfOk, Reply, plain, sent_back, Failure, Written, in_writing, error_text, IsSmallReply, is_reply_status, status_of}
 use Rattle.std.specs.Prelude.{codes, Option}
-use Rattle.messages.specs.declared.error.ErrorName.{ErrorName}
-use Rattle.messages.specs.declared.error.ErrorName.TheVariants.{InvalidRequest, InvalidClient, InvalidGrant, InvalidScope, UnauthorizedClient, UnsupportedGrantType, UnsupportedResponseType, AccessDenied}
 use Rattle.messages.specs.SmallLaws.{small_bytes, small_sent_back}
 use Rattle.answers.specs.Short.{IsShortReply, IsShortReturn}
 
@@ -18,26 +17,14 @@ if_short (Err e) reply small is = tt
 
 failure_status : (error : ErrorName) → is_reply_status (status_of error) ≡ true
 failure_status InvalidRequest = refl
-failure_status InvalidClient = refl
-failure_status InvalidGrant = refl
-failure_status InvalidScope = refl
-failure_status UnauthorizedClient = refl
-failure_status UnsupportedGrantType = refl
-failure_status UnsupportedResponseType = refl
-failure_status AccessDenied = refl
+failure_status _ = refl
 
 pub failure_small : (error : ErrorName) → IsSmallReply (plain (status_of error) (Failure error))
 failure_small error = record { status = failure_status error; short = tt }
 
 error_short : (error : ErrorName) → length (error_text error) ≤ 40
 error_short InvalidRequest = omega arith
-error_short InvalidClient = omega arith
-error_short InvalidGrant = omega arith
-error_short InvalidScope = omega arith
-error_short UnauthorizedClient = omega arith
-error_short UnsupportedGrantType = omega arith
-error_short UnsupportedResponseType = omega arith
-error_short AccessDenied = omega arith
+error_short _ = omega arith
 
 -- the user agent is sent back with an error
 pub turned_small : (uri : List ℕ) (error : ErrorName) (state : Option (List ℕ)) → IsShortReturn uri state → IsSmallReply (sent_back uri (codes "error") (error_text error) state)

@@ -1,10 +1,6 @@
 -- What was found under a digest, as the history has it.
 use Rattle.std.specs.Prelude.{◌≡◌, ◌&&◌, ℕ, List, Bool, not, Some}
-use Rattle.std.specs.Option.{option_map_or}
-use Rattle.consent.specs.History.{Event, Grant, grant_at, is_spent, has_ended, has_room, is_taken}
-use Rattle.consent.specs.Seen.{Seen}
-use Rattle.token_store.specs.Found.{found_seen}
-use Rattle.token_store.specs.declared.found.Found.{Found}
+use Rattle.answers.specs.Names.{option_map_or, Event, Grant, grant_at, is_spent, has_ended, has_room, is_taken, Seen, found_seen, Found}
 
 -- what is seen, under its digest and in its family
 abbrev pub grant_seen : List ℕ → ℕ → Seen → Grant

@@ -17,4 +17,5 @@ pub mod Found
 pub mod ToldParts
 -- Laws, each proved: a reader may skip them.
 pub mod FoundLaws
-pub mod FollowsLaws
+-- What these files import, passed on.
+pub mod Names

@@ -1,12 +1,8 @@
 -- The reply to a request and what happens with it, as the first point of a list that holds.
 use Rattle.std.specs.Prelude.{ℕ, List, [], Bool, true, false, not, Option, Some, None}
-use Rattle.consent.specs.History.{Change, has_room, is_taken}
-use Rattle.messages.specs.declared.error.ErrorName.{ErrorName}
-use Rattle.messages.specs.declared.error.ErrorName.TheVariants.{InvalidRequest, InvalidClient, InvalidGrant, InvalidScope, UnauthorizedClient, UnsupportedGrantType, UnsupportedResponseType, AccessDenied}
-use Rattle.messages.specs.Reply.{Reply, plain}
-use Rattle.messages.specs.Reply.Body.{Empty, Failure}
-use Rattle.hook_record.specs.declared.Narrowed.{Narrowed}
-use Rattle.hook_record.specs.declared.Narrowed.TheVariants.{Allowed, Denied, EmptyScope}
+use Rattle.answers.specs.Names.{Change, has_room, is_taken, ErrorName, InvalidClient, AccessDenied, Reply, plain, Empty, Narrowed, Allowed, EmptyScope}
+use Rattle.messages.specs.Reply.Body.{Failure}
+use Rattle.hook_record.specs.declared.Narrowed.TheVariants.{Denied}
 use Rattle.answers.specs.Setting.{Setting}
 
 pub record Outcome : Type 0 where
@@ -29,14 +25,9 @@ only reply = record { reply = reply; changes = [] }
 
 -- the status of an error that is answered as JSON (RFC 6749, section 5.2)
 abbrev pub status_of : ErrorName → ℕ
-status_of InvalidRequest = 400
 status_of InvalidClient = 401
-status_of InvalidGrant = 400
-status_of InvalidScope = 400
-status_of UnauthorizedClient = 400
-status_of UnsupportedGrantType = 400
-status_of UnsupportedResponseType = 400
 status_of AccessDenied = 403
+status_of _ = 400
 
 -- an error with which nothing happens
 abbrev pub refuse : ErrorName → Outcome

@@ -39,13 +39,8 @@ place_of (Read Hooks) = 7
 
 abbrev pub method_at : Endpoint → List ℕ
 method_at Authorize = codes "GET"
-method_at GiveConsent = codes "POST"
-method_at IssueToken = codes "POST"
-method_at RevokeToken = codes "POST"
-method_at Introspect = codes "POST"
-method_at InstallHook = codes "POST"
-method_at RemoveHook = codes "POST"
 method_at (Read document) = codes "GET"
+method_at _ = codes "POST"
 
 -- the endpoint of a path, byte by byte
 abbrev pub endpoint_at : List ℕ → Option Endpoint

@@ -1,21 +1,11 @@
 -- The reply that an answer is.
 use Rattle.std.specs.Prelude.{ℕ, List, [], ◌∷◌, codes, Option, Some, None, option_copied}
-use Rattle.params.specs.Scope.{scope_text}
-use Rattle.pkce.specs.Token.{token_text}
-use Rattle.std.specs.Option.{option_map_or}
-use Rattle.clients.specs.RegistryRecord.{RegistryRecord}
-use Rattle.clients.specs.Clients.{client_at}
-use Rattle.clients.specs.Owners.{sub_of}
-use Rattle.token_store.specs.Found.{owner_number}
+use Rattle.answers.specs.Names.{scope_text, token_text, option_map_or, RegistryRecord, client_at, sub_of, owner_number, Draws, ErrorName, Reply, body, consent_body, hook_body, plain, refused_body}
+use Rattle.answers.specs.Names.{sent_back, error_text, Answer, Done, Unavailable, Access, Both, Consented, CodeSent, TurnedBack, Active, Inactive, HookDone, HookRefused}
 use Rattle.hook_host.specs.Faults.{hook_fault_text}
-use Rattle.messages.specs.declared.request.Draws.{Draws}
-use Rattle.messages.specs.declared.error.ErrorName.{ErrorName}
 use Rattle.messages.specs.Members.Member.{Texts}
-use Rattle.messages.specs.Reply.{Reply, Body as body, consent_body, hook_body, plain, refused_body, sent_back}
-use Rattle.messages.specs.Written.{error_text}
 use Rattle.answers.specs.Outcomes.{status_of}
-use Rattle.answers.specs.declared.answer.Answer.{Answer}
-use Rattle.answers.specs.declared.answer.Answer.TheVariants.{Done, Failure, Denied, Unavailable, NotFound, NotAllowed, Access, Both, Consented, CodeSent, TurnedBack, Active, Inactive, HookDone, HookRefused, Hooks}
+use Rattle.answers.specs.declared.answer.Answer.TheVariants.{Failure, Denied, Hooks}
 
 -- the reply with an access token
 abbrev pub access_reply : RegistryRecord → List ℕ → ℕ → ℕ → Reply
@@ -43,8 +33,6 @@ reply_of rules names Done = plain 200 body.Empty
 reply_of rules names (Failure error) = plain (status_of error) (body.Failure error)
 reply_of rules names (Denied error) = plain (status_of error) (body.Failure error)
 reply_of rules names (Unavailable want) = plain 503 body.Empty
-reply_of rules names NotFound = plain 404 body.Empty
-reply_of rules names NotAllowed = plain 405 body.Empty
 reply_of rules names (Access draw scope life) = access_reply rules draw scope life
 reply_of rules names (Both draws scope life) = both_reply rules draws scope life
 reply_of rules names (Consented mask) = plain 200 (consent_body (scope_text rules.scopes mask))

@@ -1,20 +1,14 @@
 -- Who asks, for which client, and for which scope.
 use Rattle.std.specs.Prelude.{ℕ, List, Option, Some, None, Result, Ok, Err, option_map, option_and_then, codes, if◌then◌else◌}
+use Rattle.answers.specs.Names.{scope_mask, RegistryRecord, ids, client_at, owner_with, AuthFault, is_within, InvalidRequest, InvalidClient}
 use Rattle.std.specs.Result.{result_ok}
 use Rattle.params.specs.Form.{read_params, value_sent}
-use Rattle.params.specs.Scope.{scope_mask}
-use Rattle.clients.specs.RegistryRecord.{RegistryRecord}
 use Rattle.clients.specs.ClientRecord.{ClientRecord}
-use Rattle.clients.specs.Clients.{ids, client_at}
 use Rattle.clients.specs.Numbers.{number_among}
-use Rattle.clients.specs.Owners.{owner_with}
 use Rattle.authentication.specs.Authentication.{authenticated}
-use Rattle.authentication.specs.declared.authentication.AuthFault.{AuthFault}
 use Rattle.authentication.specs.declared.authentication.AuthFault.TheVariants as auth
-use Rattle.consent.specs.History.{is_within}
 use Rattle.messages.specs.Asked.{Asked}
 use Rattle.messages.specs.MediaType.{is_form}
-use Rattle.messages.specs.declared.error.ErrorName.TheVariants.{InvalidRequest, InvalidClient}
 use Rattle.answers.specs.Outcomes.{Outcome, need, refuse, unavailable}
 
 abbrev pub Parameters : Type 0

@@ -1,11 +1,6 @@
 -- What a request is decided by.
 use Rattle.std.specs.Prelude.{ℕ, List, Option}
-use Rattle.clients.specs.RegistryRecord.{RegistryRecord}
-use Rattle.consent.specs.History.{Event}
-use Rattle.hook_record.specs.declared.Ask.{Ask}
-use Rattle.hook_record.specs.declared.Narrowed.{Narrowed}
-use Rattle.hook_host.specs.declared.fault.HookFault.{HookFault}
-use Rattle.messages.specs.declared.request.Draws.{Draws}
+use Rattle.answers.specs.Names.{RegistryRecord, Event, Ask, Narrowed, HookFault, Draws}
 
 -- what a host says: its answer to each ask, its hooks' names, and the fault that it has for the change that the request
 -- asks for, if any

@@ -1,13 +1,11 @@
 -- How long replies are.
 use Rattle.std.specs.Prelude.{◌≤◌, ◌<◌, ℕ, List, [], Option, length, option_copied, unwrap_or}
+use Rattle.answers.specs.Names.{Written, reply_bytes, Answer, CodeSent, TurnedBack, HookDone}
 use Rattle.clients.specs.Limits.{identifier_limit, key_limit, redirect_limit}
 use Rattle.hook_host.specs.Names.{name_limit}
 use Rattle.params.specs.Limits.{scope_text_limit}
 use Rattle.messages.specs.declared.token.ActiveToken.{ActiveToken}
 use Rattle.messages.specs.Small.{reply_limit}
-use Rattle.messages.specs.Written.{Written, reply_bytes}
-use Rattle.answers.specs.declared.answer.Answer.{Answer}
-use Rattle.answers.specs.declared.answer.Answer.TheVariants.{CodeSent, TurnedBack, HookDone}
 
 -- its bytes are few
 pub record IsShortReply (reply : Written) : Type 0 where

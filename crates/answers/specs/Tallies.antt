@@ -1,10 +1,7 @@
 -- How requests are counted.
 use Rattle.std.specs.Prelude.{ℕ, ◌+◌, ◌-◌, ◌^◌, ◌==◌, min, if◌then◌else◌, slice_index_or, slice_set, Option, Some, None}
-use Rattle.answers.specs.declared.answer.Answer.{Answer}
+use Rattle.answers.specs.Names.{Answer, Want, Memory, StoreRoom, FreshDraw, ConsentRoom, Endpoint}
 use Rattle.answers.specs.declared.answer.Answer.TheVariants as answer
-use Rattle.answers.specs.declared.want.Want.{Want}
-use Rattle.answers.specs.declared.want.Want.TheVariants.{Memory, StoreRoom, FreshDraw, ConsentRoom}
-use Rattle.answers.specs.declared.endpoint.Endpoint.{Endpoint}
 use Rattle.answers.specs.Paths.{place_of}
 use Rattle.answers.specs.declared.tally.Asked.{Asked}
 use Rattle.answers.specs.declared.tally.Replied.{Replied}

@@ -1,10 +1,6 @@
 -- What a decision comes to.
 use Rattle.std.specs.Prelude.{◌≡◌, ℕ, List, Option, Some, option_map, Result, Ok, Err}
-use Rattle.consent.specs.History.{Event}
-use Rattle.consent.specs.Changes.{changes_of, as_list}
-use Rattle.hook_record.specs.declared.Ask.{Ask}
-use Rattle.hook_record.specs.declared.Narrowed.{Narrowed}
-use Rattle.hook_host.specs.declared.fault.HookFault.{HookFault}
+use Rattle.answers.specs.Names.{Event, changes_of, as_list, Ask, Narrowed, HookFault, Halt}
 use Rattle.answers.specs.Outcomes.{Outcome}
 use Rattle.answers.specs.Halts.{Halts}
 use Rattle.answers.specs.Replies.{reply_of}
@@ -12,7 +8,6 @@ use Rattle.answers.specs.Setting.{Setting}
 use Rattle.answers.specs.Views.{Shows, setting_of}
 use Rattle.answers.specs.declared.view.View.{View}
 use Rattle.answers.specs.declared.decision.Decision.{Decision}
-use Rattle.answers.specs.declared.halt.Halt.{Halt}
 
 -- the outcome that the decision is: none, where one of its changes means nothing
 abbrev pub outcome_told : Setting → Decision → Option Outcome

@@ -1,14 +1,12 @@
 -- Beside Told: only the contracts of this crate's own parts and their proofs cite this, no public clause.
 use Rattle.std.specs.Prelude.{ℕ, List, Result}
-use Rattle.consent.specs.History.{Event, Grant}
+use Rattle.answers.specs.Names.{Event, Grant, Found, Halt}
 use Rattle.answers.specs.Outcomes.{Outcome}
 use Rattle.answers.specs.Setting.{HostSays, Setting}
 use Rattle.answers.specs.Views.{InEachSetting, Shows, setting_of}
 use Rattle.answers.specs.Found.{IsFound, grant_found}
-use Rattle.token_store.specs.declared.found.Found.{Found}
 use Rattle.answers.specs.declared.view.View.{View}
 use Rattle.answers.specs.declared.decision.Decision.{Decision}
-use Rattle.answers.specs.declared.halt.Halt.{Halt}
 use Rattle.answers.specs.Told.{Decides}
 
 -- whatever history the view shows, and whatever the host says, its points come to the decision, or halt

@@ -1,9 +1,8 @@
 -- What a view shows of a setting. Only the functions' own clauses cite this module.
 use Rattle.std.specs.Prelude.{◌≡◌, ℕ, List, Option, option_map}
-use Rattle.consent.specs.History.{Event, Grant}
+use Rattle.answers.specs.Names.{Event, Grant, Found}
 use Rattle.consent.specs.Consents.{FitsConsents}
 use Rattle.token_store.specs.Fits.{FitsStore}
-use Rattle.token_store.specs.declared.found.Found.{Found}
 use Rattle.answers.specs.Found.{grant_found}
 use Rattle.answers.specs.Requesters.{KnownClient}
 use Rattle.answers.specs.Setting.{HostSays, Setting}

@@ -1,9 +1,8 @@
 -- What is wanting where nothing can be done for a request.
 use Rattle.std.specs.Prelude.{Option, Some, None}
+use Rattle.answers.specs.Names.{Want, StoreRoom, FreshDraw}
 use Rattle.token_store.specs.declared.fault.StoreFault.{StoreFault}
 use Rattle.token_store.specs.declared.fault.StoreFault.TheVariants.{Full, DrawTaken}
-use Rattle.answers.specs.declared.want.Want.{Want}
-use Rattle.answers.specs.declared.want.Want.TheVariants.{StoreRoom, FreshDraw}
 
 -- by why codes or tokens are refused: a fresh draw, unless the store is full
 abbrev pub want_of : Option StoreFault → Want

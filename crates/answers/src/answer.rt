@@ -16,10 +16,6 @@ pub enum Answer<'a> {
     Denied(ErrorName),
     /// 503: that is wanting.
     Unavailable(Want),
-    /// 404: no endpoint has the path.
-    NotFound,
-    /// 405: the endpoint has another method.
-    NotAllowed,
     /// An access token (RFC 6749, section 5.1).
     Access {
         draw: [u8; 32],

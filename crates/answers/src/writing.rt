@@ -169,8 +169,6 @@ pub fn write<H: HookHost>(
         Answer::Failure(error) => failure(alloc, status_of(error), error),
         Answer::Denied(error) => failure(alloc, status_of(error), error),
         Answer::Unavailable(_) => Ok(Response::bare(StatusCode::SERVICE_UNAVAILABLE)),
-        Answer::NotFound => Ok(Response::bare(StatusCode::NOT_FOUND)),
-        Answer::NotAllowed => Ok(Response::bare(StatusCode::METHOD_NOT_ALLOWED)),
         Answer::Access { draw, scope, life } => access(alloc, rules, &draw, scope, life),
         Answer::Both { draws, scope, life } => both(alloc, rules, &draws, scope, life),
         Answer::Consented { mask } => consented(alloc, rules, mask),

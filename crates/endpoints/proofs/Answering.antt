@@ -1,13 +1,12 @@
 -- What a ruling comes to is answered, at its endpoint and by its path.
 use Rattle.std.proofs.Common.{◌≡◌, ◌≤◌, ℕ, List, [], ◌++◌, Bool, true, false, max, refl, ap, sym, ◌∙◌, arith, append-nil, subst, Result, Ok, Err, Option, Some, None}
+use Rattle.endpoints.specs.Names.{all_dated, Endpoint}
 use Rattle.endpoints.proofs.Names.{RegistryRecord, changes_of, as_list, AllFollow, Event, happening, with_changes, Changes, DatedFact, HookFault, Hosting, Asked, path_of, Written, in_writing, Draws}
 use Rattle.endpoints.proofs.Names.{Held, FitsStore, fits_later, Outcome, bare, reply_of, Ruling, hook_change_at, HostRun, IsHostFault, says_with, IsSame, Makes, MakesHost, StandsAlone, with_notes}
 use Rattle.endpoints.proofs.Names.{AllRightAfter, CanMakeAll, endpoint_at, method_at, Asking, FitsNow, IsRuling, comes_to, setting_now, AnswersRequest, before_now, SeenServer, Outset, Before}
 use Rattle.endpoints.proofs.Names.{FitsServer, AreUnkept, AreNoted, IsStep, outset_of}
 use Rattle.std.specs.Prelude.{bytes_eq}
-use Rattle.change_codec.specs.Happened.{all_dated}
 use Rattle.change_codec.specs.HappenedLaws.{Happened-joined, Happened-own}
-use Rattle.answers.specs.declared.endpoint.Endpoint.{Endpoint}
 use Rattle.endpoints.specs.Replies.{request_outcome, hook_change}
 use Rattle.endpoints.proofs.Ruled.{told_parts}
 

@@ -1,37 +1,23 @@
 -- What is made beside the store.
-use Rattle.std.proofs.Common.{◌≡◌, ◌∙◌, ap, sym, subst, refl, ℕ, List, [], ◌∷◌, Option, Some, None, false}
-use Rattle.endpoints.proofs.Names.{option_map, same_Some, change_of, changes_of, family_ended, issued_with, as_list, AllFollow, KeptConsents, FitsConsents, begins, fits_consents-push_other}
-use Rattle.endpoints.proofs.Names.{is_consent, Event, happening, Grant, event_at, grant_at, with_change, with_changes, IssuedAlone, Spent, Changes, Nothing, One, Used, NewToken, DatedFact, Hosting}
-use Rattle.endpoints.proofs.Names.{FitsStore, Held, HostRun, HostStep, AllPlain, IsPlain, Makes, MakesHost, CanMake, Checked, NoHook, Installs, Removes, SeenServer}
+use Rattle.std.proofs.Common.{◌≡◌, sym, subst, refl, ℕ, List, [], ◌∷◌, Option, Some, None, false, arith}
+use Rattle.endpoints.proofs.Names.{same_Some, change_of, changes_of, as_list, AllFollow, KeptConsents, FitsConsents, begins, fits_consents-push_other}
+use Rattle.endpoints.proofs.Names.{is_consent, Event, happening, event_at, with_change, with_changes, Changes, Nothing, One, Used, NewToken, DatedFact, Hosting}
+use Rattle.endpoints.proofs.Names.{FitsStore, Held, HostRun, HostStep, AllPlain, IsPlain, Makes, MakesHost, CanMake, Checked, Installs, Removes, SeenServer}
 use Rattle.std.specs.Borrow.{Bor}
 use Rattle.consent.specs.declared.record_version.RecordVersion.{RecordVersion}
 use Rattle.consent.specs.declared.change.Change.{Change}
-use Rattle.consent.specs.declared.change.Change.TheVariants.{Consented, CodeGiven, Issued, FamilyEnded, HookSet, HookGone}
+use Rattle.consent.specs.declared.change.Change.TheVariants.{Consented, HookSet, HookGone}
 use Rattle.endpoints.specs.MakingParts.{MakesConsents}
-use Rattle.endpoints.proofs.Points.{option_map_some}
 use Rattle.endpoints.proofs.Stepping.{AllQuiet, IsQuiet, all_right-more, host_join, quiet_consents, quiet_host}
 
 -- a change that is none of these is plain
 pub plain_of : (c : Change) → ((owner client mask : ℕ) → c ≡ Consented owner client mask → ⊥) →
     ((name : Bor (List ℕ)) (version : RecordVersion) (code : Bor (List ℕ)) → c ≡ HookSet name version code → ⊥) →
     ((name : Bor (List ℕ)) → c ≡ HookGone name → ⊥) → IsPlain c
-plain_of (Consented owner client mask) no_consent no_set no_gone = absurd (no_consent owner client mask refl)
-plain_of (HookSet name version code) no_consent no_set no_gone = absurd (no_set name version code refl)
-plain_of (HookGone name) no_consent no_set no_gone = absurd (no_gone name refl)
-plain_of _ no_consent no_set no_gone = tt
-
-named_quiet : (f : Grant → happening) (o : Option Grant) (next : happening) → ((g : Grant) → IsQuiet (f g)) → option_map f o ≡ Some next → IsQuiet next
-named_quiet f o next each is = option_map_some f o next is (λ g _ same. subst IsQuiet same (each g))
+plain_of c no_consent no_set no_gone = grind (arith, no_consent, no_set, no_gone)
 
 quiet_meant : (history : List Event) (m : ℕ) (c : Change) (next : happening) → IsPlain c → change_of history m c ≡ Some next → IsQuiet next
-quiet_meant history m (Consented owner client mask) next is_plain is = absurd is_plain
-quiet_meant history m (HookSet name version code) next is_plain is = absurd is_plain
-quiet_meant history m (HookGone name) next is_plain is = absurd is_plain
-quiet_meant history m (CodeGiven facts digest) next is_plain is = subst IsQuiet (same_Some _ next is) tt
-quiet_meant history m (IssuedAlone client token) next is_plain is = subst IsQuiet (same_Some _ next is) tt
-quiet_meant history m (Issued of token) next is_plain is = named_quiet (issued_with token) (grant_at history of m) next (λ g. tt) is
-quiet_meant history m (Spent digest) next is_plain is = subst IsQuiet (same_Some _ next is) tt
-quiet_meant history m (FamilyEnded of) next is_plain is = named_quiet family_ended (grant_at history of m) next (λ g. tt) is
+quiet_meant history m c next is_plain is = grind (arith, is_plain, is)
 
 all_quiet : (history : List Event) (m : ℕ) (cs : List Change) (next : List happening) → AllPlain cs → changes_of history m cs ≡ Some next → AllQuiet next
 all_quiet history m [] next are is = subst AllQuiet (same_Some [] next is) tt
@@ -42,11 +28,7 @@ all_quiet history m (c ∷ cs) next are is =
 -- the one change is the one that is meant
 one_meant : (history : List Event) (m : ℕ) (c : Change) (next : List happening) (wanted : happening) → changes_of history m (c ∷ []) ≡ Some next →
     change_of history m c ≡ Some wanted → next ≡ wanted ∷ []
-one_meant history m c next wanted is meant =
-    let b = begins history m c [] next is in
-    let first : b.first ≡ wanted = same_Some _ _ (sym b.first_is ∙ meant) in
-    let later : b.later ≡ [] = sym (same_Some [] b.later b.later_are) in
-    b.told_is ∙ ap (λ f. f ∷ b.later) first ∙ ap (λ l. wanted ∷ l) later
+one_meant history m c next wanted is meant = grind (arith, is, meant)
 
 pub plain_consents : (kept : KeptConsents) (cs : List Change) → AllPlain cs → MakesConsents kept cs kept
 plain_consents kept cs are history m next alone is fits = quiet_consents kept history m next (all_quiet history m cs next are is) fits
@@ -86,9 +68,7 @@ module _ {H : Type 0} (hosting : Hosting H) where
   -- a hook is set only where it was checked
   unset : (host : H) (name : Bor (List ℕ)) (version : RecordVersion) (code : Bor (List ℕ)) (checked : Checked H) → ((hook : H) → checked ≡ Installs hook → ⊥) →
       CanMake hosting host (HookSet name version code) checked → ⊥
-  unset host name version code (Installs hook) other can = other hook refl
-  unset host name version code NoHook other can = can
-  unset host name version code Removes other can = can
+  unset host name version code checked other can = grind (arith, other, can)
 
   pub unset_host : (old : H) (c : Change) (checked : Checked H) (name : Bor (List ℕ)) (version : RecordVersion) (code : Bor (List ℕ)) → c ≡ HookSet name version code →
       ((hook : H) → checked ≡ Installs hook → ⊥) → MakesHost hosting old (c ∷ []) checked old
@@ -97,9 +77,7 @@ module _ {H : Type 0} (hosting : Hosting H) where
 
   -- and is gone only where it was there
   kept_on : (host : H) (name : Bor (List ℕ)) (checked : Checked H) → (checked ≡ Removes → ⊥) → CanMake hosting host (HookGone name) checked → ⊥
-  kept_on host name (Installs hook) other can = can
-  kept_on host name NoHook other can = can
-  kept_on host name Removes other can = other refl
+  kept_on host name checked other can = grind (arith, other, can)
 
   pub kept_host : (old : H) (c : Change) (checked : Checked H) (name : Bor (List ℕ)) → c ≡ HookGone name → (checked ≡ Removes → ⊥) → MakesHost hosting old (c ∷ []) checked old
   kept_host old c checked name same other history m next alone can is =

@@ -1,65 +1,40 @@
 -- What the endpoints do but the token endpoint may come next and is right.
-use Rattle.std.proofs.Common.{◌≡◌, ◌⊎◌, inl, inr, ℕ, List, [], ◌∷◌, true, Option, Some, refl, ap, ◌∙◌}
-use Rattle.endpoints.proofs.Names.{is_some, option_map_or, result_ok, not-false, option_and_then_some, sha256, read_params, value_sent, ClientRecord, ids, client_at, has_grant, AuthorizationCode}
+use Rattle.std.proofs.Common.{◌≡◌, inl, inr, ℕ, List, [], ◌∷◌, true, Option, Some, refl, ap, ◌∙◌, arith}
+use Rattle.endpoints.proofs.Names.{is_some, option_map_or, result_ok, not-false, option_and_then_some, sha256, read_params, value_sent, ClientRecord, client_at, has_grant, AuthorizationCode}
 use Rattle.endpoints.proofs.Names.{AllFollow, is_taken-parts, Grant, IsHistory, is_within, is_code, consented_scope, grant_at, live_grant, has_consent_room, grant_at-placed, Asked, query_of}
-use Rattle.endpoints.proofs.Names.{ErrorName, InvalidRequest, InvalidGrant, InvalidScope, UnauthorizedClient, UnsupportedResponseType, AccessDenied, Reply, plain, Empty, Inactive, Told, Outcome}
-use Rattle.endpoints.proofs.Names.{bare, only, refuse, unavailable, Parameters, KnownClient, known_client, client_named, form_of, owner_of_key, scope_asked, scope_within, Setting, digest_told}
-use Rattle.endpoints.proofs.Names.{live_token, authorize, challenge_sent, code_sent_back, redirect_sent, turned_back, AllRightAfter, MayHave, allowed_to, give_consent, introspect, revoke_token}
+use Rattle.endpoints.proofs.Names.{ErrorName, InvalidRequest, InvalidGrant, InvalidScope, UnauthorizedClient, UnsupportedResponseType, AccessDenied, plain, Empty, Inactive, Told, Outcome}
+use Rattle.endpoints.proofs.Names.{bare, only, refuse, unavailable, Parameters, KnownClient, client_named, form_of, owner_of_key, scope_asked, scope_within, Setting, digest_told}
+use Rattle.endpoints.proofs.Names.{live_token, authorize, challenge_sent, code_sent_back, redirect_sent, turned_back, MayHave, allowed_to, give_consent, introspect, revoke_token}
 use Rattle.endpoints.proofs.Names.{revoked}
 use Rattle.std.specs.Prelude.{◌==◌, not, codes, bytes_eq, option_and_then, Result, Ok, Err}
-use Rattle.clients.specs.Numbers.{number_among}
-use Rattle.consent.specs.History.{Change}
-use Rattle.consent.specs.History.Change.{Consented, FamilyEnded}
+use Rattle.consent.specs.History.Change.{FamilyEnded}
 use Rattle.consent.specs.Facts.{GivenCode}
 use Rattle.messages.specs.Members.{Member}
 use Rattle.endpoints.specs.Documents.{document_outcome}
-use Rattle.endpoints.proofs.Points.{known_at, error_all, unavailable_all, point_all, need_all, unless_all, authenticated_all}
-use Rattle.endpoints.proofs.Sound.{passes, scope_is_within}
-use Rattle.endpoints.proofs.Stepping.{AllQuiet}
+use Rattle.endpoints.proofs.Points.{unavailable_all, point_all, need_all, unless_all, authenticated_all}
+use Rattle.endpoints.proofs.Sound.{IsFair, still, error_fair, passes, scope_is_within}
 use Rattle.endpoints.proofs.Telling.{good}
-
-abbrev pub IsConsent : Change → Type 0
-IsConsent (Consented owner client mask) = Unit {0}
-IsConsent _ = ⊥
-
--- it is one consent
-abbrev pub IsOneConsent : List Change → Type 0
-IsOneConsent [] = ⊥
-IsOneConsent (c ∷ []) = IsConsent c
-IsOneConsent (c ∷ _ ∷ _) = ⊥
-
--- the changes may come next, each is right, and none is of the hooks; a consent stands alone
-pub record IsFair (s : Setting) (o : Outcome) : Type 0 where
-  pub follow : AllFollow s.history s.moment o.changes
-  pub right : AllRightAfter s.rules s.history s.moment o.changes
-  pub tame : AllQuiet o.changes ⊎ IsOneConsent o.changes
 
 module _ (s : Setting) (is : IsHistory s.history s.moment) where
   abbrev Fair : Outcome → Type 0
   Fair o = IsFair s o
 
-  still : (reply : Reply) → Fair (only reply)
-  still reply = record { follow = tt; right = tt; tame = inl tt }
-
-  error : (error : ErrorName) → Fair (refuse error)
-  error name = error_all Fair still name
-
   -- CONSENTS
 
   pub consent_fair : (asked : Asked) → Fair (give_consent s asked)
   consent_fair asked =
-      need_all Fair still {A = Parameters} (form_of asked) (refuse InvalidRequest) _ (error InvalidRequest) (λ params _.
-      need_all Fair still {A = ℕ} (owner_of_key s.rules asked) (refuse AccessDenied) _ (error AccessDenied) (λ owner _.
-      need_all Fair still {A = KnownClient} (client_named s.rules params) (refuse InvalidRequest) _ (error InvalidRequest) (λ known _.
-      need_all Fair still {A = ℕ} (scope_asked s.rules 0 params) (refuse InvalidScope) _ (error InvalidScope) (λ mask _.
-      point_all Fair still (not (has_consent_room s.history owner known.number mask)) unavailable _ (λ _. unavailable_all Fair still)
+      need_all Fair (still s) {A = Parameters} (form_of asked) (refuse InvalidRequest) _ (error_fair s InvalidRequest) (λ params _.
+      need_all Fair (still s) {A = ℕ} (owner_of_key s.rules asked) (refuse AccessDenied) _ (error_fair s AccessDenied) (λ owner _.
+      need_all Fair (still s) {A = KnownClient} (client_named s.rules params) (refuse InvalidRequest) _ (error_fair s InvalidRequest) (λ known _.
+      need_all Fair (still s) {A = ℕ} (scope_asked s.rules 0 params) (refuse InvalidScope) _ (error_fair s InvalidScope) (λ mask _.
+      point_all Fair (still s) (not (has_consent_room s.history owner known.number mask)) unavailable _ (λ _. unavailable_all Fair (still s))
       (λ _. record { follow = (tt, tt); right = (tt, tt); tame = inr tt })))))
 
   -- DOCUMENTS
 
   pub document_fair : (told : Result (List Member) ErrorName) → Fair (document_outcome told)
-  document_fair (Ok members) = still (plain 200 (Told members))
-  document_fair (Err name) = error name
+  document_fair (Ok members) = still s (plain 200 (Told members))
+  document_fair (Err name) = error_fair s name
 
   -- REVOCATION
 
@@ -72,19 +47,19 @@ module _ (s : Setting) (is : IsHistory s.history s.moment) where
 
   pub revoke_fair : (asked : Asked) → Fair (revoke_token s asked)
   revoke_fair asked =
-      authenticated_all Fair still s.rules asked _ (λ params known at.
-      need_all Fair still {A = List ℕ} (value_sent (codes "token") params) (refuse InvalidRequest) _ (error InvalidRequest) (λ text _.
-      need_all Fair still {A = Grant} (live_token s.history s.moment text) (bare 200) _ (still (plain 200 Empty)) (λ token live.
-      point_all Fair still (not (token.client == known.number)) (refuse InvalidGrant) (revoked token)
-      (λ _. error InvalidGrant) (λ _. record { follow = ended text token live; right = (tt, tt); tame = inl (tt, tt) }))))
+      authenticated_all Fair (still s) s.rules asked _ (λ params known at.
+      need_all Fair (still s) {A = List ℕ} (value_sent (codes "token") params) (refuse InvalidRequest) _ (error_fair s InvalidRequest) (λ text _.
+      need_all Fair (still s) {A = Grant} (live_token s.history s.moment text) (bare 200) _ (still s (plain 200 Empty)) (λ token live.
+      point_all Fair (still s) (not (token.client == known.number)) (refuse InvalidGrant) (revoked token)
+      (λ _. error_fair s InvalidGrant) (λ _. record { follow = ended text token live; right = (tt, tt); tame = inl (tt, tt) }))))
 
   -- INTROSPECTION
 
   pub introspect_fair : (asked : Asked) → Fair (introspect s asked)
   introspect_fair asked =
-      authenticated_all Fair still s.rules asked _ (λ params known at.
-      need_all Fair still {A = List ℕ} (value_sent (codes "token") params) (refuse InvalidRequest) _ (error InvalidRequest) (λ text _.
-      need_all Fair still {A = Grant} (live_token s.history s.moment text) (only (plain 200 Inactive)) _ (still (plain 200 Inactive)) (λ token _. still _)))
+      authenticated_all Fair (still s) s.rules asked _ (λ params known at.
+      need_all Fair (still s) {A = List ℕ} (value_sent (codes "token") params) (refuse InvalidRequest) _ (error_fair s InvalidRequest) (λ text _.
+      need_all Fair (still s) {A = Grant} (live_token s.history s.moment text) (only (plain 200 Inactive)) _ (still s (plain 200 Inactive)) (λ token _. still s _)))
 
   -- AUTHORIZATION
 
@@ -92,7 +67,7 @@ module _ (s : Setting) (is : IsHistory s.history s.moment) where
       is_within new.scope (consented_scope s.history new.owner new.client) ≡ true → Fair (code_sent_back s params new)
   code_fair params new allowed consented =
       let digest = sha256 s.draws.first in
-      unless_all Fair still s (digest ∷ []) _ (λ free. record {
+      unless_all Fair (still s) s (digest ∷ []) _ (λ free. record {
         follow = ((refl, (is_taken-parts s.history s.moment digest [] free).0), tt);
         right = ((allowed, consented), tt);
         tame = inl (tt, tt);
@@ -100,25 +75,23 @@ module _ (s : Setting) (is : IsHistory s.history s.moment) where
 
   -- a client that is named is one of the registry's
   named_at : (params : Parameters) (known : KnownClient) → client_named s.rules params ≡ Some known → client_at known.number s.rules.clients ≡ Some known.client
-  named_at params known named =
-      option_and_then_some (known_client s.rules) (option_and_then (λ id. number_among id (ids s.rules.clients)) (value_sent (codes "client_id") params)) known named
-      (λ number _ is. known_at s.rules number known is)
+  named_at params known named = grind (arith, named)
 
   pub authorize_fair : (asked : Asked) → Fair (authorize s asked)
   authorize_fair asked =
-      need_all Fair still {A = Parameters} (result_ok (read_params (query_of asked.target))) (refuse InvalidRequest) _ (error InvalidRequest) (λ params _.
-      need_all Fair still {A = KnownClient} (client_named s.rules params) (refuse InvalidRequest) _ (error InvalidRequest) (λ known named.
-      need_all Fair still {A = List ℕ} (redirect_sent params known.client) (refuse InvalidRequest) _ (error InvalidRequest) (λ uri _.
+      need_all Fair (still s) {A = Parameters} (result_ok (read_params (query_of asked.target))) (refuse InvalidRequest) _ (error_fair s InvalidRequest) (λ params _.
+      need_all Fair (still s) {A = KnownClient} (client_named s.rules params) (refuse InvalidRequest) _ (error_fair s InvalidRequest) (λ known named.
+      need_all Fair (still s) {A = List ℕ} (redirect_sent params known.client) (refuse InvalidRequest) _ (error_fair s InvalidRequest) (λ uri _.
       let turned : ErrorName → Outcome = turned_back uri params in
       let at = named_at params known named in
       let allowed : allowed_to s.rules known.number ≡ known.client.allowed = ap (λ (o : Option ClientRecord). option_map_or (λ c. c.allowed) o 0) at in
-      need_all Fair still {A = List ℕ} (value_sent (codes "response_type") params) (turned InvalidRequest) _ (still _) (λ type _.
-      point_all Fair still (not (bytes_eq type (codes "code"))) (turned UnsupportedResponseType) _ (λ _. still _) (λ _.
-      point_all Fair still (not (has_grant AuthorizationCode known.client.grants)) (turned UnauthorizedClient) _ (λ _. still _) (λ _.
-      need_all Fair still {A = List ℕ} (challenge_sent params) (turned InvalidRequest) _ (still _) (λ challenge _.
-      need_all Fair still {A = ℕ} (scope_within s.rules known.client.allowed params) (turned InvalidScope) _ (still _) (λ scope within.
-      need_all Fair still {A = ℕ} (owner_of_key s.rules asked) (turned AccessDenied) _ (still _) (λ owner _.
-      point_all Fair still (not (is_within scope (consented_scope s.history owner known.number))) (turned AccessDenied) _ (λ _. still _) (λ consented.
+      need_all Fair (still s) {A = List ℕ} (value_sent (codes "response_type") params) (turned InvalidRequest) _ (still s _) (λ type _.
+      point_all Fair (still s) (not (bytes_eq type (codes "code"))) (turned UnsupportedResponseType) _ (λ _. still s _) (λ _.
+      point_all Fair (still s) (not (has_grant AuthorizationCode known.client.grants)) (turned UnauthorizedClient) _ (λ _. still s _) (λ _.
+      need_all Fair (still s) {A = List ℕ} (challenge_sent params) (turned InvalidRequest) _ (still s _) (λ challenge _.
+      need_all Fair (still s) {A = ℕ} (scope_within s.rules known.client.allowed params) (turned InvalidScope) _ (still s _) (λ scope within.
+      need_all Fair (still s) {A = ℕ} (owner_of_key s.rules asked) (turned AccessDenied) _ (still s _) (λ owner _.
+      point_all Fair (still s) (not (is_within scope (consented_scope s.history owner known.number))) (turned AccessDenied) _ (λ _. still s _) (λ consented.
       code_fair params (record { client = known.number; owner = owner; scope = scope; redirect = uri; challenge = challenge })
       (record { is_client = ap is_some at; within = ap (is_within scope) allowed ∙ scope_is_within s.rules known.client.allowed params scope within })
       (not-false _ consented)))))))))))

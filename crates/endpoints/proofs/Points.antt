@@ -1,5 +1,5 @@
 -- What holds of each reply with which nothing happens and of what the points lead on to, holds of a list of points.
-use Rattle.std.proofs.Common.{◌≡◌, ℕ, List, Bool, true, false, Option, Some, None, refl, subst}
+use Rattle.std.proofs.Common.{◌≡◌, ℕ, List, Bool, true, false, Option, Some, None, refl, arith}
 use Rattle.endpoints.proofs.Names.{option_map, same_Some, RegistryRecord, client_at, Asked, Reply, plain, Failure, Empty, ErrorName, InvalidRequest, InvalidClient, has_room, is_taken, Allowed}
 use Rattle.endpoints.proofs.Names.{Denied, EmptyScope, Extent, Outcome, point, need, only, refuse, status_of, unavailable, unless_denied, unless_taken, Parameters, KnownClient, known_client, form_of}
 use Rattle.endpoints.proofs.Names.{with_client, with_authenticated, Setting}
@@ -17,9 +17,7 @@ option_map_some f (Some x) y e k = k x refl (same_Some (f x) y e)
 -- what is known of a client is its number's
 pub known_at : (rules : RegistryRecord) (number : ℕ) (known : KnownClient) → known_client rules number ≡ Some known →
     client_at known.number rules.clients ≡ Some known.client
-known_at rules number known is =
-    option_map_some (λ client. record { number = number; client = client }) (client_at number rules.clients) known is
-    (λ client at same. subst (λ (k : KnownClient). client_at k.number rules.clients ≡ Some k.client) same at)
+known_at rules number known is = grind (arith, is)
 
 module _ (Q : Outcome → Type 0) (still : (reply : Reply) → Q (only reply)) where
   pub error_all : (error : ErrorName) → Q (refuse error)

@@ -8,7 +8,7 @@ use Rattle.endpoints.proofs.Names.{RefusesRedo, history_refusal, or_not_right, u
 use Rattle.endpoints.proofs.Names.{SeenServer, Checked}
 use Rattle.std.specs.Prelude.{◌==◌, Result, Ok, Err}
 use Rattle.std.specs.Option.{option_and_then}
-use Rattle.consent.specs.Seen.{seen_at, seen_in}
+use Rattle.consent.specs.Seen.{seen_at}
 use Rattle.consent.specs.declared.change.Change.{Change}
 use Rattle.consent.specs.declared.change.Change.TheVariants.{Consented, CodeGiven, Issued, FamilyEnded, HookSet, HookGone}
 use Rattle.token_store.specs.Found.{code_scope_of, found_seen}
@@ -18,14 +18,10 @@ use Rattle.endpoints.specs.declared.redo.RedoFault.{RedoFault}
 use Rattle.endpoints.specs.declared.redo.RedoFault.TheVariants.{MomentBack, Store, Hook, Memory}
 use Rattle.endpoints.proofs.Answering.{swept}
 
-mapped : {A B : Type 0} (f : A → B) (o : Option A) → is_some (option_map f o) ≡ is_some o
-mapped f None = refl
-mapped f (Some x) = refl
-
 -- what is found is what is named
 pub known_is : (history : List Event) (digest : List ℕ) (m : ℕ) (o : Option Found) → option_map found_seen o ≡ seen_at history digest m →
     is_some o ≡ is_some (grant_at history digest m)
-known_is history digest m o is = sym (mapped found_seen o) ∙ ap is_some is ∙ mapped (seen_in history digest m) (grant_at history digest m)
+known_is history digest m o is = grind (arith, is)
 
 -- a digest that nothing refuses is free
 free : (history : List Event) (m : ℕ) (digest : List ℕ) → option_map Store (refusal history m (digest ∷ [])) ≡ None → grant_at history digest m ≡ None
@@ -81,13 +77,10 @@ issued_next rules history m of change None at go known = absurd (cc)
 issued_next rules history m of change (Some g) at go known = go g at
 
 known_some : (known : Bool) (fault : Option RedoFault) → unless_known known fault ≡ None → (known ≡ true) × (fault ≡ None)
-known_some true fault is = (refl, is)
-known_some false fault is = absurd (cc)
+known_some known fault is = (grind (arith, is), grind (arith, is))
 
 refusal_parts : (right : Bool) (fault : Option RedoFault) → or_not_right right fault ≡ None → (right ≡ true) × (fault ≡ None)
-refusal_parts right (Some fault) h = absurd (cc)
-refusal_parts true None h = (refl, refl)
-refusal_parts false None h = absurd (cc)
+refusal_parts right fault h = (grind (arith, h), grind (arith, h))
 
 wanted_next : (rules : RegistryRecord) (history : List Event) (m : ℕ) (change : Change) → IsHistory history m → is_right rules history m change ≡ true →
     wanting history m change ≡ None → IsNext rules history m change
@@ -144,8 +137,7 @@ not_back x moment greatest back =
     let no : moment < greatest → ⊥ = λ less. (let same = back.1 less in absurd (cc)) in omega (arith, no)
 
 none_left : {A : Type 0} (o : Option A) → ((x : A) → o ≡ Some x → ⊥) → o ≡ None
-none_left None never = refl
-none_left (Some x) never = absurd (never x refl)
+none_left o never = grind (arith, never)
 
 module _ {H : Type 0} (hosting : Hosting H) where
   -- the rules are those of the outset

@@ -1,5 +1,5 @@
 -- What a host's refusal comes to.
-use Rattle.std.proofs.Common.{◌≡◌, ap, refl, Option, Some}
+use Rattle.std.proofs.Common.{◌≡◌, ap, Option, Some, arith}
 use Rattle.endpoints.proofs.Names.{◌≢◌, HookFault, Hosting, plain, refused_body, only, Setting, Halt, Refuse, NoMemory, IsHostFault, by_fault, IsHookRefused, RulesHooks, Ruling}
 use Rattle.std.specs.Prelude.{Result, Ok, Err}
 use Rattle.consent.specs.History.{Change}
@@ -7,8 +7,7 @@ use Rattle.hook_host.specs.declared.fault.HookFault.TheVariants.{Memory}
 use Rattle.hook_host.specs.Faults.{hook_fault_text}
 
 fault_told : (change : Change) (fault : HookFault) → fault ≢ Memory → only (plain 400 (refused_body (hook_fault_text fault))) ≡ by_fault change (Some fault)
-fault_told change Memory other = absurd (other refl)
-fault_told change _ other = refl
+fault_told change fault other = grind (arith, other)
 
 -- the host's own fault for the change that was asked for
 pub refused_rules : {H : Type 0} (hosting : Hosting H) (host : H) (s : Setting) (change : Option Change) (asked : Change) (fault : HookFault) (result : Result (Ruling H) Halt) →

@@ -1,19 +1,18 @@
 -- What a right history leaves is allowed.
-use Rattle.std.proofs.Common.{◌≡◌, inl, inr, ◌∙◌, ap, sym, refl, subst, ℕ, List, [], ◌∷◌, Bool, true, false, Option, Some, arith, not}
-use Rattle.endpoints.proofs.Names.{◌||◌, find, option_map, list_all, option_map_or, nat_tests, and_from, cases_Bool, false≢true, le-leb, not-true, same_Some, RegistryRecord, is_within-self, Event}
+use Rattle.std.proofs.Common.{◌≡◌, inl, inr, ◌∙◌, ap, sym, refl, subst, ℕ, List, [], ◌∷◌, Bool, true, false, Some, arith, not}
+use Rattle.endpoints.proofs.Names.{◌||◌, find, option_map, list_all, option_map_or, nat_tests, and_from, cases_Bool, false≢true, not-true, RegistryRecord, is_within-self, Event}
 use Rattle.endpoints.proofs.Names.{Grant, Terms, IsHistory, code_terms, grant_at, grant_by, is_code, is_named, is_unexpired, is_within, code_terms-of_code, grant_at-given, Kind, Code, Token, to_keep}
-use Rattle.endpoints.proofs.Names.{Kept, kept_at, AllRight, IsRightChange, MayHave, token_life_limit, AreOf, are_allowed, is_allowed, lives_within, may_have}
+use Rattle.endpoints.proofs.Names.{Kept, kept_at, all_right-at, AllRight, IsRightChange, MayHave, AreOf, are_allowed, is_allowed, lives_within, may_have}
 use Rattle.std.specs.Prelude.{◌==◌}
 use Rattle.std.specs.Str.{bytes_eq}
 use Rattle.std.proofs.lemmas.Slice.Eq.{bytes_eq-Decides}
 use Rattle.consent.specs.History.{Change}
-use Rattle.consent.specs.History.Change.{CodeGiven, Issued}
 use Rattle.consent.specs.ListLaws.{find-map, find-one, find-passes}
 use Rattle.consent.specs.declared.kept_consent.KeptConsent.{KeptConsent}
 use Rattle.token_store.specs.Image.{as_kept, kept_record}
 use Rattle.consent.specs.declared.kept_record.KeptRecord.{KeptRecord}
 use Rattle.endpoints.proofs.Points.{option_map_some}
-use Rattle.endpoints.proofs.Sound.{all_right-at, right_token}
+use Rattle.endpoints.proofs.Sound.{right_token}
 use Rattle.endpoints.proofs.SoundGrants.{right_code}
 
 may_back : (rules : RegistryRecord) (client scope : ℕ) → MayHave rules client scope → may_have rules client scope ≡ true
@@ -22,11 +21,7 @@ may_back rules client scope may = let is = may.is_client in let within = may.wit
 -- what is right lives no longer than it may
 life_of : (rules : RegistryRecord) (before : List Event) (moment : ℕ) (c : Change) (g : Grant) → grant_by moment c ≡ Some g → IsRightChange rules before c →
     lives_within rules g.kind g.life ≡ true
-life_of rules before moment (CodeGiven family code digest) g at right =
-    subst (λ (x : Grant). lives_within rules x.kind x.life ≡ true) (same_Some _ g at) refl
-life_of rules before moment (Issued family parties token) g at right =
-    subst (λ (x : Grant). lives_within rules x.kind x.life ≡ true) (same_Some _ g at) (le-leb token.life (token_life_limit rules token.kind) right.1)
-life_of rules before moment _ g at right = cc
+life_of rules before moment c g at right = grind (arith, nat_tests, at, right)
 
 module _ (rules : RegistryRecord) (history : List Event) (m : ℕ) (is : IsHistory history m) (all : AllRight rules [] history) (digest : List ℕ) (g : Grant) (at : grant_at history digest m ≡ Some g) where
   lives : lives_within rules g.kind g.life ≡ true

@@ -1,5 +1,5 @@
 -- A decision is a ruling that the server can carry out.
-use Rattle.std.proofs.Common.{◌≡◌, ◌≤◌, ◌⊎◌, inl, inr, ◌∙◌, ap, sym, subst, refl, ℕ, List, [], ◌∷◌, Bool, true, false, Option, Some, None, arith}
+use Rattle.std.proofs.Common.{◌≡◌, ◌⊎◌, inl, inr, ◌∙◌, ap, sym, subst, refl, ℕ, List, [], ◌∷◌, Bool, Option, Some, None, arith}
 use Rattle.endpoints.proofs.Names.{IfOk, option_map, result_ok, same_Some, option_and_then_some, read_params, value_sent, RegistryRecord, change_of, changes_of, as_list, AllFollow, begins, Event}
 use Rattle.endpoints.proofs.Names.{IsHistory, with_change, happening, HookFault, Hosting, Asked, query_of, InvalidRequest, AccessDenied, Draws, Halts, Outcome, bare, need, point, refuse, reply_of}
 use Rattle.endpoints.proofs.Names.{Parameters, form_of, Setting, outcome_told, Halt, store_history, Checked, NoHook, Installs, Removes, Ruling, AllRightAfter, by_fault, hook_change_at, hook_gone}
@@ -7,26 +7,23 @@ use Rattle.endpoints.proofs.Names.{hook_set, hook_set_by, is_operator, version_a
 use Rattle.endpoints.proofs.Names.{RulesHooks, Asking, FitsNow, IsRuled, IsRuling, asking_of, comes_to, setting_now, IsAlone, SeenServer}
 use Rattle.std.specs.Prelude.{not, codes, Result, Ok, Err, option_and_then}
 use Rattle.consent.specs.declared.change.Change.{Change}
-use Rattle.consent.specs.declared.change.Change.TheVariants.{Consented, HookSet, HookGone}
+use Rattle.consent.specs.declared.change.Change.TheVariants.{HookSet, HookGone}
 use Rattle.hook_host.specs.declared.fault.HookFault.TheVariants as hook
 use Rattle.answers.specs.declared.decision.Decision.{Decision}
-use Rattle.token_endpoint.specs.FollowingLaws.{issue_token_follows}
 use Rattle.endpoints.specs.declared.reading.Reading.{Reading}
 use Rattle.endpoints.specs.declared.reading.Reading.TheVariants as reading
 use Rattle.endpoints.specs.Reading.{IsRequestRead}
-use Rattle.endpoints.proofs.Fair.{IsConsent, IsFair, IsOneConsent, authorize_fair, consent_fair, introspect_fair, document_fair, revoke_fair}
+use Rattle.endpoints.proofs.Fair.{authorize_fair, consent_fair, introspect_fair, document_fair, revoke_fair}
 use Rattle.endpoints.proofs.Points.{option_map_some}
 use Rattle.endpoints.proofs.ReadingOn.{points_of}
-use Rattle.endpoints.proofs.SoundToken.{issue_token_sound}
+use Rattle.endpoints.proofs.Sound.{IsConsent, IsFair, IsOneConsent}
+use Rattle.endpoints.proofs.SoundToken.{issue_token_fair}
 use Rattle.endpoints.proofs.Stepping.{AllQuiet, IsQuiet}
 
 -- WHAT CHANGES MEAN
 
 plain : (history : List Event) (m : ℕ) (c : Change) (next : happening) → change_of history m c ≡ Some next → IsQuiet next → IsPlain c
-plain history m (Consented owner client mask) next is quiet = absurd (subst IsQuiet (sym (same_Some _ next is)) quiet)
-plain history m (HookSet name version code) next is quiet = absurd (subst IsQuiet (sym (same_Some _ next is)) quiet)
-plain history m (HookGone name) next is quiet = absurd (subst IsQuiet (sym (same_Some _ next is)) quiet)
-plain history m _ next is quiet = tt
+plain history m c next is quiet = grind (arith, is, quiet)
 
 all_plain : (history : List Event) (m : ℕ) (cs : List Change) (next : List happening) → changes_of history m cs ≡ Some next → AllQuiet next → AllPlain cs
 all_plain history m [] next is quiet = tt
@@ -42,9 +39,7 @@ IsAtMostOne (c ∷ []) = Unit {0}
 IsAtMostOne (c ∷ _ ∷ _) = ⊥
 
 at_most_one : (next : List happening) → IsOneConsent next → IsAtMostOne next
-at_most_one [] one = tt
-at_most_one (c ∷ []) one = tt
-at_most_one (c ∷ d ∷ later) one = one
+at_most_one next one = grind (arith, one)
 
 few_alone : (history : List Event) (m : ℕ) (cs : List Change) (next : List happening) → changes_of history m cs ≡ Some next → IsAtMostOne next → StandsAlone cs
 few_alone history m [] next is few = tt
@@ -69,11 +64,7 @@ tame_alone history m cs next is (inr one) = few_alone history m cs next is (at_m
 module _ {H : Type 0} (hosting : Hosting H) where
   made : (host : H) (history : List Event) (m : ℕ) (c : Change) (next : happening) → change_of history m c ≡ Some next →
       IsQuiet next ⊎ IsConsent next → CanMake hosting host c NoHook
-  made host history m (HookSet name version code) next is (inl quiet) = absurd (subst IsQuiet (sym (same_Some _ next is)) quiet)
-  made host history m (HookSet name version code) next is (inr one) = absurd (subst IsConsent (sym (same_Some _ next is)) one)
-  made host history m (HookGone name) next is (inl quiet) = absurd (subst IsQuiet (sym (same_Some _ next is)) quiet)
-  made host history m (HookGone name) next is (inr one) = absurd (subst IsConsent (sym (same_Some _ next is)) one)
-  made host history m _ next is tame = tt
+  made host history m c next is tame = grind (arith, is, tame)
 
   made_all : (host : H) (history : List Event) (m : ℕ) (cs : List Change) (next : List happening) → changes_of history m cs ≡ Some next →
       AllQuiet next ⊎ IsOneConsent next → CanMakeAll hosting host cs NoHook
@@ -125,9 +116,7 @@ module _ {H : Type 0} (hosting : Hosting H) where
           IsFair (setting_now hosting server history draws None) (comes_to hosting server history (asking_of asked what draws) None)
       by_reading (reading.Authorize params) alone = authorize_fair (setting_now hosting server history draws None) is asked
       by_reading reading.GiveConsent alone = consent_fair (setting_now hosting server history draws None) is asked
-      by_reading reading.IssueToken alone =
-          let sound = issue_token_sound (setting_now hosting server history draws None) is fits.right asked in
-          record { follow = issue_token_follows (setting_now hosting server history draws None) is asked; right = sound.right; tame = inl sound.quiet }
+      by_reading reading.IssueToken alone = issue_token_fair (setting_now hosting server history draws None) is fits.right asked
       by_reading reading.RevokeToken alone = revoke_fair (setting_now hosting server history draws None) is asked
       by_reading reading.Introspect alone = introspect_fair (setting_now hosting server history draws None) is asked
       by_reading (reading.Read document) alone = document_fair (setting_now hosting server history draws None) is _
@@ -136,47 +125,20 @@ module _ {H : Type 0} (hosting : Hosting H) where
 
 -- what is read that asks for no hook and takes none away
 pub alone_of : (what : Reading) → ((p : Parameters) → what ≡ reading.InstallHook p → ⊥) → ((p : Parameters) → what ≡ reading.RemoveHook p → ⊥) → IsAlone what
-alone_of (reading.InstallHook params) one other = absurd (one params refl)
-alone_of (reading.RemoveHook params) one other = absurd (other params refl)
-alone_of _ one other = tt
+alone_of what one other = grind (arith, one, other)
 
 -- CHANGES OF THE HOOKS
 
 -- an outcome that shows which change there is
-probe : Option happening → Outcome
+abbrev probe : Option happening → Outcome
 probe None = bare 200
 probe (Some change) = record { reply = (bare 200).reply; changes = change ∷ [] }
-
-first_change : Outcome → Option happening
-first_change o = first_of o.changes
-  where
-    first_of : List happening → Option happening
-    first_of [] = None
-    first_of (c ∷ cs) = Some c
-
-probed : (o : Option happening) → first_change (probe o) ≡ o
-unfolding first_change probe
-probed None = refl
-probed (Some change) = refl
-
-probe_status : (o : Option happening) → (probe o).reply.status ≡ 200
-unfolding probe
-probe_status None = refl
-probe_status (Some change) = refl
-
-no_error : (n : ℕ) → 400 ≤ n → n ≡ 200 → ⊥
-no_error n more is = omega arith
 
 -- what the points lead on to with any outcome is what was read
 pub read_same : (operator : Bool) (o : Option Parameters) (params : Parameters) (change : Parameters → Option happening) →
     ((next : Parameters → Outcome) → point (not operator) (refuse AccessDenied) (need o (refuse InvalidRequest) next) ≡ next params) →
     option_and_then change o ≡ change params
-read_same false o params change leads =
-    let h = ap (λ (o : Outcome). o.reply.status) (leads (λ p. probe (change p))) ∙ probe_status (change params) in absurd (no_error 403 (omega arith) h)
-read_same true None params change leads =
-    let h = ap (λ (o : Outcome). o.reply.status) (leads (λ p. probe (change p))) ∙ probe_status (change params) in absurd (no_error 400 (omega arith) h)
-read_same true (Some p) params change leads =
-    sym (probed (change p)) ∙ ap first_change (leads (λ p. probe (change p))) ∙ probed (change params)
+read_same operator o params change leads = let shown = leads (λ p. probe (change p)) in grind (arith, shown)
 
 abbrev pub IsHooks : happening → Type 0
 IsHooks (happening.HookSet name version code) = Unit {0}
@@ -199,9 +161,7 @@ one_fair rules history m (happening.HookGone name ∷ []) one = ((tt, tt), (tt, 
 one_fair rules history m (_ ∷ []) one = absurd one
 
 one_few : (cs : List happening) → IsOneOfHooks cs → IsAtMostOne cs
-one_few [] one = tt
-one_few (c ∷ []) one = tt
-one_few (c ∷ d ∷ cs) one = one
+one_few cs one = grind (arith, one)
 
 one_by_fault : (change : happening) (fault : Option HookFault) → IsHooks change → IsOneOfHooks (by_fault change fault).changes
 one_by_fault change None is = is

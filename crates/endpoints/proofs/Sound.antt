@@ -1,28 +1,36 @@
--- What comes of codes and tokens is right, and changes no consent and no hook.
-use Rattle.std.proofs.Common.{◌≡◌, ◌≤◌, ℕ, List, [], ◌∷◌, ◌++◌, Bool, true, false, Option, Some, None, bit_and, refl, sym, ap, ◌∙◌, arith, append_assoc, append-nil, subst, inl, inr}
-use Rattle.endpoints.proofs.Names.{if◌then◌else◌, eq-eqb, false≢true, cond_some, option_and_then_some, same_Some, sha256, RegistryRecord, is_within-trans, code_terms-keep, has_ended-push_other}
-use Rattle.endpoints.proofs.Names.{Event, Grant, event_at, grant_by, grant_at, is_code, is_within, code_terms, has_ended, grant_at-given, Kind, Code, Token, Allowed, Reply, ErrorName, Extent}
-use Rattle.endpoints.proofs.Names.{Outcome, only, refuse, Parameters, scope_asked, scope_within, Setting, where_passes, is_refresh, ends_family, access_for, access_issued, both_digests, both_for}
-use Rattle.endpoints.proofs.Names.{left_by_host, new_token, AllRight, AllRightAfter, IsRightChange, IsOfCode, IsOwn, MayHave, allowed_to, own-later}
+-- What comes of codes and tokens may come next and is right, and changes no consent and no hook.
+use Rattle.std.proofs.Common.{◌≡◌, ◌≤◌, ℕ, List, [], ◌∷◌, ◌++◌, Bool, true, false, Option, Some, bit_and, refl, sym, ap, ◌∙◌, arith, subst, inl, inr}
+use Rattle.endpoints.proofs.Names.{eq-eqb, false≢true, same_Some, sha256, RegistryRecord, is_within-trans, code_terms-keep, has_ended-push_other}
+use Rattle.endpoints.proofs.Names.{Event, Grant, event_at, grant_by, grant_at, is_code, is_within, code_terms, has_ended, grant_at-given, Kind, Allowed, Reply, ErrorName, Extent}
+use Rattle.endpoints.proofs.Names.{Outcome, only, refuse, Parameters, scope_within, Setting, where_passes, is_refresh, ends_family, access_for, access_issued, both_digests, both_for}
+use Rattle.endpoints.proofs.Names.{all_right-at, AllFollow, IsHistory, CanFollow, with_change, is_taken, is_taken-parts, grant_at-placed, grant_at-kin, left_by_host, new_token, AllRight, AllRightAfter, IsRightChange, IsOfCode, IsOwn, MayHave, allowed_to, own-later}
 use Rattle.std.specs.Prelude.{◌⊎◌}
 use Rattle.consent.specs.History.{Change}
-use Rattle.consent.specs.History.Change.{CodeGiven, Issued}
+use Rattle.consent.specs.History.Change.{Consented, CodeGiven, Issued, Spent}
+use Rattle.consent.specs.HistoryLaws.{is_history-push}
+use Rattle.consent.specs.GrowthLaws.{grant_at-keep, is_taken-push}
+use Rattle.token_endpoint.specs.Grants.{refresh_issued}
 use Rattle.consent.specs.declared.grant.TokenKind.TheVariants.{Access}
 use Rattle.hook_record.specs.declared.Ask.{Ask}
 use Rattle.hook_host.specs.DecisionLaws.{met_with_narrows}
 use Rattle.endpoints.proofs.Points.{error_all, unless_all}
 use Rattle.endpoints.proofs.Stepping.{AllQuiet}
 
-pub record IsSound (s : Setting) (o : Outcome) : Type 0 where
-  pub quiet : AllQuiet o.changes
-  pub right : AllRightAfter s.rules s.history s.moment o.changes
+abbrev pub IsConsent : Change → Type 0
+IsConsent (Consented owner client mask) = Unit {0}
+IsConsent _ = ⊥
 
--- an event in the history was right when it happened
-pub all_right-at : (rules : RegistryRecord) (start before later : List Event) (e : Event) → AllRight rules start (before ++ e ∷ later) →
-    IsRightChange rules (start ++ before) e.change
-all_right-at rules start [] later e all = subst (λ h. IsRightChange rules h e.change) (sym (append-nil start)) all.0
-all_right-at rules start (x ∷ before) later e all =
-    subst (λ h. IsRightChange rules h e.change) (append_assoc start (x ∷ []) before) (all_right-at rules (start ++ x ∷ []) before later e all.1)
+-- it is one consent
+abbrev pub IsOneConsent : List Change → Type 0
+IsOneConsent [] = ⊥
+IsOneConsent (c ∷ []) = IsConsent c
+IsOneConsent (c ∷ _ ∷ _) = ⊥
+
+-- the changes may come next, each is right, and none is of the hooks; a consent stands alone
+pub record IsFair (s : Setting) (o : Outcome) : Type 0 where
+  pub follow : AllFollow s.history s.moment o.changes
+  pub right : AllRightAfter s.rules s.history s.moment o.changes
+  pub tame : AllQuiet o.changes ⊎ IsOneConsent o.changes
 
 -- a client that may have a scope may have less
 pub may_have-less : (rules : RegistryRecord) (client scope less : ℕ) → MayHave rules client scope → is_within less scope ≡ true → MayHave rules client less
@@ -63,29 +71,22 @@ right_token rules history digest m g all at token =
     (right_change rules given.before given.later given.event given.event.moment given.event.change g refl given.gives_it right token)
 
 pub passes : {A : Type 0} (test : A → Bool) (o : Option A) (x : A) → where_passes test o ≡ Some x → (o ≡ Some x) × (test x ≡ true)
-passes test None x e = absurd (cc)
-passes test (Some y) x e = let both = cond_some (test y) y x e in (ap Some both.1, ap test (sym both.1) ∙ both.0)
+passes test o x e = (grind (arith, e), grind (arith, e))
 
 pub refresh_no_code : (k : Kind) → is_refresh k ≡ true → is_code k ≡ false
-refresh_no_code Code h = absurd (false≢true h)
-refresh_no_code (Token t) h = refl
+refresh_no_code k h = grind (arith, h)
 
 -- the scope that is asked for is within the limit
 pub scope_is_within : (rules : RegistryRecord) (limit : ℕ) (params : Parameters) (scope : ℕ) → scope_within rules limit params ≡ Some scope → is_within scope limit ≡ true
-scope_is_within rules limit params scope is =
-    option_and_then_some (λ scope. if is_within scope limit then Some scope else None) (scope_asked rules limit params) scope is (λ asked _ h.
-    let both = cond_some (is_within asked limit) asked scope h in ap (λ n. is_within n limit) (sym both.1) ∙ both.0)
+scope_is_within rules limit params scope is = grind (arith, is)
 
 module _ (s : Setting) where
   -- nothing happens
-  pub still : (reply : Reply) → IsSound s (only reply)
-  still reply = record { quiet = tt; right = tt }
+  pub still : (reply : Reply) → IsFair s (only reply)
+  still reply = record { follow = tt; right = tt; tame = inl tt }
 
-  pub error_sound : (error : ErrorName) → IsSound s (refuse error)
-  error_sound error = error_all (IsSound s) still error
-
-  pub ends_sound : (g : Grant) → IsSound s (ends_family g)
-  ends_sound g = record { quiet = (tt, tt); right = (tt, tt) }
+  pub error_fair : (error : ErrorName) → IsFair s (refuse error)
+  error_fair error = error_all (IsFair s) still error
 
   -- what a host leaves is within what it was asked
   pub left_within : (ask : Ask) (scope life : ℕ) → left_by_host s ask ≡ Allowed scope life → (is_within scope ask.scope ≡ true) × (life ≤ ask.life)
@@ -111,28 +112,48 @@ module _ (s : Setting) where
         has_ended-push_other s.history e g.family refl ∙ alive,
       )
 
-  -- tokens that come of a right one
-  pub access_sound : (g : Grant) (left : Extent) → IsRightToken s.rules s.history g → has_ended s.history g.family ≡ false →
-      is_within left.scope g.scope ≡ true → left.life ≤ s.rules.access_life → IsSound s (access_for s g left)
-  access_sound g left right alive within short =
-      unless_all (IsSound s) still s (sha256 s.draws.first ∷ []) _ (λ _. record {
-        quiet = (tt, (tt, tt));
+-- what comes of a right grant that is in the history
+module _ (s : Setting) (is : IsHistory s.history s.moment) (digest : List ℕ) (g : Grant) (at : grant_at s.history digest s.moment ≡ Some g) where
+  pub ends_fair : IsFair s (ends_family g)
+  ends_fair = record { follow = (grant_at-placed s.history digest s.moment g is.placed at, tt); right = (tt, tt); tame = inl (tt, tt) }
+
+  -- tokens of both draws in its family
+  both_follow : (left kept : Extent) → is_taken s.history s.moment (both_digests s.draws) ≡ false →
+      AllFollow s.history s.moment (access_issued g s.draws.first left ∷ refresh_issued g s.draws.second kept ∷ Spent g.digest ∷ [])
+  both_follow left kept free =
+      let m = s.moment in
+      let change : Change = access_issued g s.draws.first left in
+      let first = (is_taken-parts s.history m (sha256 s.draws.first) (sha256 s.draws.second ∷ []) free).0 in
+      let can : CanFollow s.history m change = (inr (grant_at-kin s.history digest m g is.kin at), first) in
+      let next = is_history-push s.history m change is can in
+      let still_there = grant_at-keep s.history (event_at m change ∷ []) digest m g at in
+      let second = is_taken-push s.history (event_at m change) _ m (sha256 s.draws.second ∷ []) refl free in
+      let untaken = (is_taken-parts (with_change s.history m change) m (sha256 s.draws.second) [] second).0 in
+      (can, ((inr (grant_at-kin (with_change s.history m change) digest m g next.kin still_there), untaken), (tt, tt)))
+
+  pub access_fair : (left : Extent) → IsRightToken s.rules s.history g → has_ended s.history g.family ≡ false →
+      is_within left.scope g.scope ≡ true → left.life ≤ s.rules.access_life → IsFair s (access_for s g left)
+  access_fair left right alive within short =
+      unless_all (IsFair s) (still s) s (sha256 s.draws.first ∷ []) _ (λ free. record {
+        follow = ((inr (grant_at-kin s.history digest s.moment g is.kin at), (is_taken-parts s.history s.moment (sha256 s.draws.first) [] free).0), (tt, tt));
         right = (
-          (may_have-less s.rules g.client g.scope left.scope right.0 within, short, first g left.scope alive within right.1),
+          (may_have-less s.rules g.client g.scope left.scope right.0 within, short, first s g left.scope alive within right.1),
           (tt, tt),
         );
+        tame = inl (tt, (tt, tt));
       })
 
-  pub both_sound : (g : Grant) (left : Extent) (kept : ℕ) → IsRightToken s.rules s.history g → has_ended s.history g.family ≡ false →
-      is_within left.scope g.scope ≡ true → is_within kept g.scope ≡ true → left.life ≤ s.rules.access_life → IsSound s (both_for s g left kept)
-  both_sound g left kept right alive within more short =
-      unless_all (IsSound s) still s (both_digests s.draws) _ (λ _. record {
-        quiet = (tt, (tt, (tt, tt)));
+  pub both_fair : (left : Extent) (kept : ℕ) → IsRightToken s.rules s.history g → has_ended s.history g.family ≡ false →
+      is_within left.scope g.scope ≡ true → is_within kept g.scope ≡ true → left.life ≤ s.rules.access_life → IsFair s (both_for s g left kept)
+  both_fair left kept right alive within more short =
+      unless_all (IsFair s) (still s) s (both_digests s.draws) _ (λ free. record {
+        follow = both_follow left (record { scope = kept; life = s.rules.refresh_life }) free;
         right = (
-          (may_have-less s.rules g.client g.scope left.scope right.0 within, short, first g left.scope alive within right.1),
+          (may_have-less s.rules g.client g.scope left.scope right.0 within, short, first s g left.scope alive within right.1),
           (
-            (may_have-less s.rules g.client g.scope kept right.0 more, omega arith, second g left kept alive more right.1),
+            (may_have-less s.rules g.client g.scope kept right.0 more, omega arith, second s g left kept alive more right.1),
             (tt, tt),
           ),
         );
+        tame = inl (tt, (tt, (tt, tt)));
       })

@@ -1,5 +1,5 @@
 -- What a request does to the server, by what it does to the store.
-use Rattle.std.proofs.Common.{◌≡◌, ℕ, List, [], ◌∷◌, ◌++◌, false, refl, sym, append_assoc, append-nil, subst}
+use Rattle.std.proofs.Common.{◌≡◌, ℕ, List, [], ◌∷◌, ◌++◌, false, refl, sym, append_assoc, append-nil, subst, arith}
 use Rattle.endpoints.proofs.Names.{RegistryRecord, Event, event_at, with_change, with_changes, is_consent, with_changes-cons, KeptConsents, FitsConsents, fits_consents-push_other, Hosting, HostStep}
 use Rattle.endpoints.proofs.Names.{HostRun, IsRightChange, AllRight, AllRightAfter}
 use Rattle.consent.specs.History.{Change}
@@ -17,10 +17,7 @@ AllQuiet [] = Unit {0}
 AllQuiet (c ∷ cs) = IsQuiet c × AllQuiet cs
 
 no_consent : (c : Change) → IsQuiet c → is_consent c ≡ false
-no_consent (Consented owner client mask) q = absurd q
-no_consent (HookSet name version code) q = absurd q
-no_consent (HookGone name) q = absurd q
-no_consent _ q = refl
+no_consent c q = grind (arith, q)
 
 pub quiet_consents : (kept : KeptConsents) (history : List Event) (m : ℕ) (changes : List Change) → AllQuiet changes →
     FitsConsents kept history → FitsConsents kept (with_changes history m changes)
@@ -37,10 +34,7 @@ module _ {H : Type 0} (hosting : Hosting H) where
   host_join first mid new (x ∷ later) more run on = (run.0, run.1, host_join run.0 mid new later more run.2 on)
 
   quiet_step : (host : H) (c : Change) → IsQuiet c → HostStep hosting host c host
-  quiet_step host (Consented owner client mask) q = absurd q
-  quiet_step host (HookSet name version code) q = absurd q
-  quiet_step host (HookGone name) q = absurd q
-  quiet_step host _ q = refl
+  quiet_step host c q = grind (arith, q)
 
   pub quiet_host : (host : H) (m : ℕ) (changes : List Change) → AllQuiet changes → HostRun hosting host (with_changes [] m changes) host
   quiet_host host m [] q = refl

@@ -1,16 +1,14 @@
 -- What was decided is what the points come to.
-use Rattle.std.proofs.Common.{◌≡◌, ◌∙◌, ◌+◌, ap, sym, subst, refl, ℕ, List, [], ◌∷◌, Bool, true, false, Option, Some, None}
-use Rattle.endpoints.proofs.Names.{if◌then◌else◌, eq-eqb, eqb-true, eqb-false, ne_eqb, not-true, not-false, RegistryRecord, Event, Grant, grant_at, has_consent_room, is_code, is_good, live_grant}
+use Rattle.std.proofs.Common.{◌≡◌, ◌∙◌, ◌+◌, ap, sym, subst, refl, ℕ, List, [], ◌∷◌, Bool, true, false, Option, Some, arith}
+use Rattle.endpoints.specs.Names.{scope_text, TokenKind}
+use Rattle.endpoints.proofs.Names.{eq-eqb, eqb-true, eqb-false, ne_eqb, not-true, not-false, RegistryRecord, Event, Grant, grant_at, has_consent_room}
 use Rattle.endpoints.proofs.Names.{where_good, Kind, Code, Token, One, consent_body, plain, Active, Empty, Inactive, InvalidGrant, Halts, Outcome, bare, need, only, point, refuse, unavailable, id_of}
 use Rattle.endpoints.proofs.Names.{Setting, outcome_told, Halt, consent_given, introspect, told_of, live_of, with_presented, Presented, revoke_token, revoked, Asked}
 use Rattle.std.specs.Prelude.{◌==◌, not}
-use Rattle.params.specs.Scope.{scope_text}
 use Rattle.clients.specs.Owners.{sub_of}
 use Rattle.consent.specs.History.Change.{Consented, FamilyEnded}
 use Rattle.consent.specs.declared.change.Change.TheVariants as change
-use Rattle.consent.specs.declared.grant.TokenKind.{TokenKind}
 use Rattle.answers.specs.declared.answer.Answer.TheVariants as answer
-use Rattle.endpoints.proofs.Sound.{passes}
 
 -- the points are others that end so
 pub halts_by : (halt : Halt) (points same : Outcome) → points ≡ same → Halts halt same → Halts halt points
@@ -32,13 +30,11 @@ consent_room s owner client mask room = rw room refl
 -- what is good is there
 pub good : (history : List Event) (digest : List ℕ) (m : ℕ) (at : Option Grant) (g : Grant) →
     where_good history digest m at ≡ Some g → at ≡ Some g
-good history digest m None g is = absurd (cc)
-good history digest m (Some x) g is = (passes (is_good history digest m) (Some x) g is).0
+good history digest m at g is = grind (arith, is)
 
 -- the live token is named
 pub live_named : (history : List Event) (digest : List ℕ) (m : ℕ) (g : Grant) → live_of history m (Some digest) ≡ Some g → grant_at history digest m ≡ Some g
-live_named history digest m g is =
-    good history digest m (grant_at history digest m) g (passes (λ g. not (is_code g.kind)) (live_grant history digest m) g is).0
+live_named history digest m g is = grind (arith, is)
 
 -- what is done of the live token, if there is one
 abbrev pub revoked_by : ℕ → Option Grant → Outcome
@@ -60,8 +56,7 @@ pub active_told : (rules : RegistryRecord) (g : Grant) (kind : TokenKind) (issue
 active_told rules g kind issued expires is_kind is_issued is_expires = rw (is_kind, is_issued, is_expires) refl
 
 no_token : (k : Kind) → ((t : TokenKind) → k ≡ Token t → ⊥) → k ≡ Code
-no_token Code other = refl
-no_token (Token t) other = absurd (other t refl)
+no_token k other = grind (arith, other)
 
 pub code_told : (rules : RegistryRecord) (g : Grant) → ((t : TokenKind) → g.kind ≡ Token t → ⊥) → told_by_live rules (Some g) ≡ only (plain 200 Inactive)
 code_told rules g other = rw (no_token g.kind other) refl

@@ -1,28 +1,12 @@
 -- GET /authorize (RFC 6749, section 4.1.1; RFC 7636, section 4.3)
 use Rattle.std.specs.Prelude.{◌&&◌, ◌≤◌, ℕ, List, [], ◌∷◌, not, Option, codes, bytes_eq, length, option_and_then, unwrap_or}
-use Rattle.std.specs.Result.{result_ok}
+use Rattle.endpoints.specs.Names.{result_ok, read_params, value_sent, ClientRecord, has_redirect, has_grant, AuthorizationCode, is_within, consented_scope, GivenCode, Asked, query_of, ErrorName}
+use Rattle.endpoints.specs.Names.{InvalidRequest, InvalidScope, UnauthorizedClient, UnsupportedResponseType, AccessDenied, sent_back, error_text, Outcome, point, need, only, refuse, unless_taken}
+use Rattle.endpoints.specs.Names.{Parameters, client_named, owner_of_key, scope_within, Setting, state_limit, where_passes}
 use Rattle.sha2.specs.Sha256.{sha256}
 use Rattle.pkce.specs.Proof.{is_challenge}
 use Rattle.pkce.specs.Token.{token_text}
-use Rattle.params.specs.Form.{read_params, value_sent}
-use Rattle.clients.specs.ClientRecord.{ClientRecord}
-use Rattle.clients.specs.Clients.{has_redirect}
-use Rattle.clients.specs.Grants.{has_grant}
-use Rattle.clients.specs.declared.grant.GrantType.TheVariants.{AuthorizationCode}
-use Rattle.consent.specs.History.{is_within, consented_scope}
-use Rattle.consent.specs.Facts.{GivenCode}
 use Rattle.consent.specs.History.Change.{CodeGiven}
-use Rattle.messages.specs.Asked.{Asked}
-use Rattle.messages.specs.Target.{query_of}
-use Rattle.messages.specs.declared.error.ErrorName.{ErrorName}
-use Rattle.messages.specs.declared.error.ErrorName.TheVariants.{InvalidRequest, InvalidScope, UnauthorizedClient, UnsupportedResponseType, AccessDenied}
-use Rattle.messages.specs.Reply.{sent_back}
-use Rattle.messages.specs.Written.{error_text}
-use Rattle.answers.specs.Outcomes.{Outcome, point, need, only, refuse, unless_taken}
-use Rattle.answers.specs.Requesters.{Parameters, client_named, owner_of_key, scope_within}
-use Rattle.answers.specs.Setting.{Setting}
-use Rattle.answers.specs.Short.{state_limit}
-use Rattle.answers.specs.Texts.{where_passes}
 
 -- the point "the parameters of the query"
 abbrev pub with_query : Asked → (Parameters → Outcome) → Outcome

@@ -1,27 +1,20 @@
 -- A history of right changes is bounded.
-use Rattle.std.proofs.Common.{◌≡◌, ◌≤◌, ◌⊎◌, inl, inr, ℕ, List, [], ◌∷◌, ◌++◌, true, false, Option, Some, None, refl, ap, append_assoc, append-nil, sym, ◌∙◌, arith, subst}
+use Rattle.std.proofs.Common.{◌≡◌, ◌≤◌, inl, inr, ℕ, List, [], ◌∷◌, ◌++◌, false, refl, append_assoc, append-nil, sym, ◌∙◌, arith, subst}
+use Rattle.endpoints.specs.Names.{cons_option, RegistryRecord, Event, Grant, grant_by, grants, opener, is_code_of, consented_scope, IsHistory, is_covered-start, is_covered-push, is_within-trans}
+use Rattle.endpoints.specs.Names.{NewToken}
 use Rattle.std.specs.Prelude.{◌==◌, count_by, find}
-use Rattle.std.specs.List.{cons_option}
-use Rattle.std.specs.Option.{option_or}
 use Rattle.std.proofs.lemmas.Bool.{eq-eqb}
-use Rattle.clients.specs.RegistryRecord.{RegistryRecord}
-use Rattle.consent.specs.History.{Event, Change, Grant, grant_by, grants, opener, is_code_of, is_within, consented_scope, has_ended, IsHistory}
-use Rattle.consent.specs.History.Change.{Consented, CodeGiven, Issued, Spent, FamilyEnded, HookSet, HookGone}
+use Rattle.consent.specs.History.{Change}
+use Rattle.consent.specs.History.Change.{CodeGiven, Issued}
 use Rattle.consent.specs.Covered.{IsCovered, IsConsented}
-use Rattle.consent.specs.CoveredLaws.{is_covered-start, is_covered-push, is_within-trans}
 use Rattle.consent.specs.GrowthLaws.{count_by-append, code_terms-keep, opener-append}
-use Rattle.consent.specs.declared.change.NewToken.{NewToken}
 use Rattle.consent.specs.declared.parties.Parties.{Parties}
-use Rattle.endpoints.specs.Bounded.{IsRightChange, AllRight, IsAllowed, IsConsentedBefore, IsConsentedAt, IsBounded, IsOfCode, IsOwn, is_of_code}
+use Rattle.endpoints.specs.Bounded.{IsRightChange, AllRight, IsAllowed, IsConsentedBefore, IsConsentedAt, IsBounded, IsOwn, is_of_code}
 
 -- what opened the family is no code, also where more has happened
 no_code-append : (history more : List Event) (family : ℕ) → is_of_code (opener history family) ≡ false → is_of_code (opener more family) ≡ false →
     is_of_code (opener (history ++ more) family) ≡ false
-no_code-append history more family old new = ap is_of_code (opener-append history more family) ∙ of_both (opener history family) (opener more family) old new
-  where
-    of_both : (a b : Option Grant) → is_of_code a ≡ false → is_of_code b ≡ false → is_of_code (option_or a b) ≡ false
-    of_both None b x y = y
-    of_both (Some g) b x y = x
+no_code-append history more family old new = let both = opener-append history more family in grind (arith, both, old, new)
 
 -- a token that opens its family is no code
 token_opens : (moment : ℕ) (change : Change) (gs : List Grant) (family : ℕ) (parties : Parties) (token : NewToken) →
@@ -43,12 +36,7 @@ module _ (rules : RegistryRecord) where
   -- a right code is one that its owner consents to
   right_consented : (before : List Event) (change : Change) → IsRightChange rules before change → IsConsented before change
   right_consented before (CodeGiven family code digest) right = right.1
-  right_consented before (Consented owner client mask) right = tt
-  right_consented before (Issued family parties token) right = tt
-  right_consented before (Spent digest) right = tt
-  right_consented before (FamilyEnded family) right = tt
-  right_consented before (HookSet name version code) right = tt
-  right_consented before (HookGone name) right = tt
+  right_consented before _ right = tt
 
   abbrev OneCode : List Event → Type 0
   OneCode history = (family : ℕ) → count_by (is_code_of family) (grants history) ≤ 1
@@ -83,43 +71,27 @@ module _ (rules : RegistryRecord) where
 
   allowed_at : (before : List Event) (change : Change) → IsRightChange rules before change → IsAllowed rules change
   allowed_at before (Issued family parties token) right = (right.0, right.1)
-  allowed_at before (Consented owner client mask) right = tt
   allowed_at before (CodeGiven family code digest) right = right.0
-  allowed_at before (Spent digest) right = tt
-  allowed_at before (FamilyEnded family) right = tt
-  allowed_at before (HookSet name version code) right = tt
-  allowed_at before (HookGone name) right = tt
+  allowed_at before _ right = tt
 
   consented_at : (before : List Event) (change : Change) → IsCovered before → IsRightChange rules before change → IsConsentedBefore before change
-  consented_at before (Issued family parties token) covered right = by_owner right.2
-    where
-      by_owner : (IsOwn before family parties.owner ⊎ IsOfCode before family parties.client parties.owner token.scope) → IsOwn before family parties.owner ⊎ (is_within token.scope (consented_scope before parties.owner parties.client) ≡ true)
-      by_owner (inl own) = inl own
-      by_owner (inr of) = inr (is_within-trans token.scope of.0 (consented_scope before parties.owner parties.client) of.2 (covered family (record { client = parties.client; owner = parties.owner; scope = of.0 }) of.1 of.3))
-  consented_at before (Consented owner client mask) covered right = tt
-  consented_at before (CodeGiven family code digest) covered right = tt
-  consented_at before (Spent digest) covered right = tt
-  consented_at before (FamilyEnded family) covered right = tt
-  consented_at before (HookSet name version code) covered right = tt
-  consented_at before (HookGone name) covered right = tt
+  consented_at before (Issued family parties token) covered right =
+      elim right.2 [
+        | inl own ↦ inl own
+        | inr of ↦ inr (is_within-trans token.scope of.0 (consented_scope before parties.owner parties.client) of.2 (covered family (record { client = parties.client; owner = parties.owner; scope = of.0 }) of.1 of.3))
+      ]
+  consented_at before _ covered right = tt
 
   consented_later : (before between : List Event) (e : Event) → IsCovered (before ++ e ∷ between) → (change : Change) → e.change ≡ change →
       IsRightChange rules before change → IsConsentedAt (before ++ e ∷ between) change
-  consented_later before between e covered (Issued family parties token) is right = by_owner right.2
-    where
-      by_owner : (IsOwn before family parties.owner ⊎ IsOfCode before family parties.client parties.owner token.scope) →
-          IsOwn (before ++ e ∷ between) family parties.owner
-          ⊎ (has_ended (before ++ e ∷ between) family ≡ false → is_within token.scope (consented_scope (before ++ e ∷ between) parties.owner parties.client) ≡ true)
-      by_owner (inl own) = inl (own-later before between e family parties token is own)
-      by_owner (inr of) =
-          inr (λ alive. is_within-trans token.scope of.0 (consented_scope (before ++ e ∷ between) parties.owner parties.client) of.2
-          (covered family (record { client = parties.client; owner = parties.owner; scope = of.0 }) (code_terms-keep before (e ∷ between) family _ of.1) alive))
-  consented_later before between e covered (Consented owner client mask) is right = tt
-  consented_later before between e covered (CodeGiven family code digest) is right = tt
-  consented_later before between e covered (Spent digest) is right = tt
-  consented_later before between e covered (FamilyEnded family) is right = tt
-  consented_later before between e covered (HookSet name version code) is right = tt
-  consented_later before between e covered (HookGone name) is right = tt
+  consented_later before between e covered (Issued family parties token) is right =
+      elim right.2 [
+        | inl own ↦ inl (own-later before between e family parties token is own)
+        | inr of ↦
+            inr (λ alive. is_within-trans token.scope of.0 (consented_scope (before ++ e ∷ between) parties.owner parties.client) of.2
+            (covered family (record { client = parties.client; owner = parties.owner; scope = of.0 }) (code_terms-keep before (e ∷ between) family _ of.1) alive))
+      ]
+  consented_later before between e covered _ is right = tt
 
   -- each token of a history of right changes keeps to allowance, consent and life
   pub tokens_keep_their_bounds : (history : List Event) (m : ℕ) → IsHistory history m → AllRight rules [] history → IsBounded rules history

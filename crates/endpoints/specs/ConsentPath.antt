@@ -1,14 +1,8 @@
 -- POST /consent
 use Rattle.std.specs.Prelude.{ℕ, [], ◌∷◌, not}
-use Rattle.params.specs.Scope.{scope_text}
-use Rattle.consent.specs.History.{has_consent_room}
+use Rattle.endpoints.specs.Names.{scope_text, has_consent_room, InvalidRequest, InvalidScope, AccessDenied, Asked, consent_body, plain, Outcome, point, need, refuse, unavailable, with_form}
+use Rattle.endpoints.specs.Names.{client_named, owner_of_key, scope_asked, Setting}
 use Rattle.consent.specs.History.Change.{Consented}
-use Rattle.messages.specs.declared.error.ErrorName.TheVariants.{InvalidRequest, InvalidScope, AccessDenied}
-use Rattle.messages.specs.Asked.{Asked}
-use Rattle.messages.specs.Reply.{consent_body, plain}
-use Rattle.answers.specs.Outcomes.{Outcome, point, need, refuse, unavailable}
-use Rattle.answers.specs.Requesters.{with_form, client_named, owner_of_key, scope_asked}
-use Rattle.answers.specs.Setting.{Setting}
 
 -- the consent is kept. What it is too small for ends with it
 abbrev pub consent_given : Setting → ℕ → ℕ → ℕ → Outcome

@@ -1,14 +1,8 @@
 -- What is told of a server by reading alone.
 use Rattle.std.specs.Prelude.{List, [], ◌∷◌, Result, Ok, Err, codes, if◌then◌else◌}
-use Rattle.messages.specs.Asked.{Asked}
+use Rattle.endpoints.specs.Names.{Asked, plain, Told, ErrorName, AccessDenied, Outcome, only, refuse, Situation}
 use Rattle.messages.specs.Members.{Member}
 use Rattle.messages.specs.Members.Member.{Texts}
-use Rattle.messages.specs.Reply.{plain}
-use Rattle.messages.specs.Reply.Body.{Told}
-use Rattle.messages.specs.declared.error.ErrorName.{ErrorName}
-use Rattle.messages.specs.declared.error.ErrorName.TheVariants.{AccessDenied}
-use Rattle.answers.specs.Outcomes.{Outcome, only, refuse}
-use Rattle.answers.specs.Setting.{Situation}
 use Rattle.answers.specs.declared.endpoint.Document.{Document}
 use Rattle.answers.specs.declared.endpoint.Document.TheVariants.{Hooks}
 use Rattle.endpoints.specs.HookPaths.{is_operator}

@@ -1,9 +1,8 @@
 -- The hook that a request asks for, wherever its texts lie.
 use Rattle.std.specs.Prelude.{◌≡◌, ℕ, List, Option, codes, option_and_then, option_map}
-use Rattle.params.specs.Form.{value_sent}
+use Rattle.endpoints.specs.Names.{value_sent, Parameters}
 use Rattle.consent.specs.History.{Change}
 use Rattle.consent.specs.History.Change.{HookSet}
-use Rattle.answers.specs.Requesters.{Parameters}
 use Rattle.endpoints.specs.HookPaths.{hook_set}
 use Rattle.endpoints.specs.declared.hooks.HookAsked.{HookAsked}
 

@@ -1,25 +1,12 @@
 -- POST /hooks and POST /hooks/remove: the operator's requests
 use Rattle.std.specs.Prelude.{ℕ, List, [], ◌∷◌, not, codes, bytes_eq, Bool, false, Option, Some, None, if◌then◌else◌, option_and_then, option_map}
-use Rattle.std.specs.Option.{option_map_or}
-use Rattle.std.specs.Result.{result_ok}
-use Rattle.params.specs.Form.{read_params, value_sent}
-use Rattle.clients.specs.RegistryRecord.{RegistryRecord}
+use Rattle.endpoints.specs.Names.{option_map_or, result_ok, read_params, value_sent, RegistryRecord, RecordVersion, First, Second, HookFault, Asked, query_of, InvalidRequest, AccessDenied, hook_body}
+use Rattle.endpoints.specs.Names.{plain, refused_body, Outcome, point, need, only, refuse, unavailable, Parameters, form_of, Setting, Endpoint}
 use Rattle.clients.specs.Registry.{is_operator_key}
-use Rattle.consent.specs.declared.record_version.RecordVersion.{RecordVersion}
-use Rattle.consent.specs.declared.record_version.RecordVersion.TheVariants.{First, Second}
 use Rattle.consent.specs.History.{Change}
 use Rattle.consent.specs.History.Change.{HookSet, HookGone}
-use Rattle.hook_host.specs.declared.fault.HookFault.{HookFault}
 use Rattle.hook_host.specs.declared.fault.HookFault.TheVariants as hook
 use Rattle.hook_host.specs.Faults.{hook_fault_text}
-use Rattle.messages.specs.Asked.{Asked}
-use Rattle.messages.specs.Target.{query_of}
-use Rattle.messages.specs.declared.error.ErrorName.TheVariants.{InvalidRequest, AccessDenied}
-use Rattle.messages.specs.Reply.{hook_body, plain, refused_body}
-use Rattle.answers.specs.Outcomes.{Outcome, point, need, only, refuse, unavailable}
-use Rattle.answers.specs.Requesters.{Parameters, form_of}
-use Rattle.answers.specs.Setting.{Setting}
-use Rattle.answers.specs.declared.endpoint.Endpoint.{Endpoint}
 use Rattle.answers.specs.declared.endpoint.Endpoint.TheVariants as endpoint
 
 -- the operator's key was sent

@@ -1,11 +1,9 @@
 -- What a host of hooks says to a server, and how it comes from the first one.
 use Rattle.std.specs.Prelude.{◌≡◌, List, [], ◌∷◌, Option, Some, None}
-use Rattle.hook_host.specs.declared.fault.HookFault.{HookFault}
-use Rattle.hook_host.specs.declared.host.HookHost.{Ghosts as Hosting}
+use Rattle.endpoints.specs.Names.{HookFault, Hosting, Event, Spent, HostSays}
 use Rattle.endpoints.specs.Layouts.{layout_of}
-use Rattle.consent.specs.History.{Event, Change}
-use Rattle.consent.specs.History.Change.{Consented, CodeGiven, Issued, Spent, FamilyEnded, HookSet, HookGone}
-use Rattle.answers.specs.Setting.{HostSays}
+use Rattle.consent.specs.History.{Change}
+use Rattle.consent.specs.History.Change.{Consented, CodeGiven, Issued, FamilyEnded, HookSet, HookGone}
 
 -- what a host says, with this fault for the change that is asked for
 abbrev pub says_with : {H : Type 0} → Hosting H → H → Option HookFault → HostSays

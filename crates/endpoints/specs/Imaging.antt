@@ -1,9 +1,7 @@
 -- What a keeper holds once an image of a server stands in the place of what it kept.
 use Rattle.std.specs.Prelude.{ℕ, List}
-use Rattle.change_codec.specs.Keeping.{Crashes, Keeps, KeepsNot}
-use Rattle.consent.specs.History.{Event}
+use Rattle.endpoints.specs.Names.{Crashes, Keeps, KeepsNot, Event, Hosting}
 use Rattle.endpoints.specs.Server.{SeenServer, Outset, FitsServer}
-use Rattle.hook_host.specs.declared.host.HookHost.{Ghosts as Hosting}
 
 -- so it is of each history that the server fits
 abbrev pub OfFitted : {H : Type 0} → Hosting H → SeenServer H → (List Event → Type 0) → Type 0

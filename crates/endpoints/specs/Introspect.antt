@@ -1,21 +1,9 @@
 -- POST /introspect (RFC 7662, section 2)
 use Rattle.std.specs.Prelude.{◌+◌, codes}
-use Rattle.params.specs.Form.{value_sent}
-use Rattle.params.specs.Scope.{scope_text}
-use Rattle.clients.specs.RegistryRecord.{RegistryRecord}
+use Rattle.endpoints.specs.Names.{value_sent, scope_text, RegistryRecord, Grant, Kind, Code, Token, InvalidRequest, Asked, Body, plain, Active, Inactive, Outcome, need, only, refuse}
+use Rattle.endpoints.specs.Names.{with_authenticated, Setting, live_token}
 use Rattle.clients.specs.Owners.{sub_of}
-use Rattle.consent.specs.History.{Grant}
-use Rattle.consent.specs.declared.grant.Kind.{Kind}
-use Rattle.consent.specs.declared.grant.Kind.TheVariants.{Code, Token}
-use Rattle.messages.specs.declared.error.ErrorName.TheVariants.{InvalidRequest}
-use Rattle.messages.specs.Asked.{Asked}
-use Rattle.messages.specs.Reply.{Body, plain}
-use Rattle.messages.specs.Reply.Body.{Active, Inactive}
-use Rattle.answers.specs.Outcomes.{Outcome, need, only, refuse}
 use Rattle.answers.specs.Replies.{id_of}
-use Rattle.answers.specs.Requesters.{with_authenticated}
-use Rattle.answers.specs.Setting.{Setting}
-use Rattle.answers.specs.Tokens.{live_token}
 
 -- what is told of a live token
 abbrev pub told_of : RegistryRecord → Grant → Kind → Body

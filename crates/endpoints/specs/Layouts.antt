@@ -1,6 +1,5 @@
 -- The layout of a record, by its version.
-use Rattle.consent.specs.declared.record_version.RecordVersion.{RecordVersion}
-use Rattle.consent.specs.declared.record_version.RecordVersion.TheVariants.{First, Second}
+use Rattle.endpoints.specs.Names.{RecordVersion, First, Second}
 use Rattle.insn.specs.declared.layout.Layout.{Layout}
 use Rattle.insn.specs.declared.layout.Layout.TheVariants.{V1, V2}
 

@@ -18,7 +18,7 @@ pub mod Rulings
 pub mod Widening
 pub mod Right
 pub mod Redo
-pub mod FaultTexts
+pub mod Faults
 pub mod Steps
 pub mod Restoring
 pub mod Imaging
@@ -33,3 +33,5 @@ pub mod RedoParts
 -- Laws, each proved: a reader may skip them.
 pub mod BoundedLaws
 pub mod WideningLaws
+-- What these files import, passed on.
+pub mod Names

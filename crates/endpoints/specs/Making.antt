@@ -1,18 +1,13 @@
 -- What is made of changes.
 use Rattle.std.specs.Prelude.{◌≡◌, ◌≤◌, ℕ, List, [], ◌∷◌, Some}
-use Rattle.consent.specs.Changes.{changes_of, as_list, AllFollow}
-use Rattle.consent.specs.Consents.{KeptConsents}
-use Rattle.consent.specs.History.{Event, Change as Happening, with_changes}
+use Rattle.endpoints.specs.Names.{changes_of, as_list, AllFollow, KeptConsents, Event, Happening, with_changes, Changes, Hosting, Checked}
 use Rattle.consent.specs.declared.change.Change.{Change}
 use Rattle.consent.specs.declared.change.Change.TheVariants.{Consented, HookSet, HookGone}
-use Rattle.consent.specs.declared.change.Changes.{Changes}
-use Rattle.hook_host.specs.declared.host.HookHost.{Ghosts as Hosting}
 use Rattle.token_store.specs.Room.{HasRoom}
 use Rattle.endpoints.specs.Bounded.{AllRightAfter}
 use Rattle.endpoints.specs.Hosts.{HostRun}
 use Rattle.endpoints.specs.Noting.{ArePrepared}
 use Rattle.endpoints.specs.Ruling.{CanMakeAll, CanTake}
-use Rattle.endpoints.specs.declared.ruling.Checked.{Checked}
 use Rattle.endpoints.specs.Server.{SeenServer, Outset, FitsServer}
 
 -- the change is no consent and no hook's

@@ -1,8 +1,6 @@
 -- Beside Making: only the contracts of this crate's own parts and their proofs cite this, no public clause.
 use Rattle.std.specs.Prelude.{◌≡◌, ℕ, List, Some}
-use Rattle.consent.specs.Changes.{changes_of}
-use Rattle.consent.specs.Consents.{KeptConsents, FitsConsents}
-use Rattle.consent.specs.History.{Event, Change as Happening, with_changes}
+use Rattle.endpoints.specs.Names.{changes_of, KeptConsents, FitsConsents, Event, Happening, with_changes}
 use Rattle.consent.specs.declared.change.Change.{Change}
 use Rattle.endpoints.specs.Making.{StandsAlone}
 

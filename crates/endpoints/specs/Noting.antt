@@ -1,8 +1,6 @@
 -- What is noted of what happens.
 use Rattle.std.specs.Prelude.{◌≡◌, ◌++◌, ℕ, List, [], Option, Some, None, option_map}
-use Rattle.consent.specs.declared.change.Changes.{Changes}
-use Rattle.change_codec.specs.Spelling.{DatedFact}
-use Rattle.change_codec.specs.Happened.{all_dated}
+use Rattle.endpoints.specs.Names.{Changes, DatedFact, all_dated}
 use Rattle.change_codec.specs.Batches.{Gathered}
 
 -- what was noted, and what is ready to be noted next, where there is a batch for it

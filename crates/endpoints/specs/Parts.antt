@@ -1,27 +1,13 @@
 -- Parts of the columns of points, and what is decided by them in a setting. Only the functions' own clauses cite this module.
 use Rattle.std.specs.Prelude.{◌≡◌, ℕ, List, not, codes, bytes_eq, Option, Some, Result, Ok, Err, option_and_then, option_map}
-use Rattle.params.specs.Form.{value_sent}
-use Rattle.clients.specs.RegistryRecord.{RegistryRecord}
-use Rattle.clients.specs.Grants.{has_grant}
-use Rattle.clients.specs.declared.grant.GrantType.TheVariants.{AuthorizationCode}
-use Rattle.consent.specs.History.{Change, Event, Grant, live_grant, is_code, is_within, consented_scope}
-use Rattle.consent.specs.Facts.{code_of}
+use Rattle.endpoints.specs.Names.{value_sent, RegistryRecord, has_grant, AuthorizationCode, Event, Grant, live_grant, is_code, is_within, consented_scope, code_of, HookFault, Asked, ErrorName}
+use Rattle.endpoints.specs.Names.{InvalidRequest, InvalidScope, UnauthorizedClient, UnsupportedResponseType, AccessDenied, FitsStore, Held, Outcome, point, need, refuse, Parameters, KnownClient}
+use Rattle.endpoints.specs.Names.{client_named, owner_of_key, scope_asked, scope_within, with_authenticated, Setting, digest_told, where_passes, LeadsOrHalts, Halt}
+use Rattle.consent.specs.History.{Change}
 use Rattle.consent.specs.declared.change.CodeFacts.{CodeFacts}
-use Rattle.hook_host.specs.declared.fault.HookFault.{HookFault}
-use Rattle.messages.specs.Asked.{Asked}
-use Rattle.messages.specs.declared.error.ErrorName.{ErrorName}
-use Rattle.messages.specs.declared.error.ErrorName.TheVariants.{InvalidRequest, InvalidScope, UnauthorizedClient, UnsupportedResponseType, AccessDenied}
-use Rattle.token_store.specs.Fits.{FitsStore}
-use Rattle.token_store.specs.Kept.{Held}
 use Rattle.token_store.specs.declared.found.Found.{Found}
 use Rattle.answers.specs.Found.{grant_found}
-use Rattle.answers.specs.Outcomes.{Outcome, point, need, refuse}
-use Rattle.answers.specs.Requesters.{Parameters, KnownClient, client_named, owner_of_key, scope_asked, scope_within, with_authenticated}
-use Rattle.answers.specs.Setting.{Setting}
-use Rattle.answers.specs.Texts.{digest_told, where_passes}
-use Rattle.answers.specs.Halts.{LeadsOrHalts}
 use Rattle.answers.specs.Views.{known_of}
-use Rattle.answers.specs.declared.halt.Halt.{Halt}
 use Rattle.endpoints.specs.declared.revoke.Presented.{Presented}
 use Rattle.endpoints.specs.declared.authorize.Requester.{Requester}
 use Rattle.endpoints.specs.declared.consenting.NewConsent.{NewConsent}

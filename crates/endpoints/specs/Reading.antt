@@ -1,17 +1,7 @@
 -- What was read of a request.
 use Rattle.std.specs.Prelude.{◌≡◌, ℕ, List}
-use Rattle.clients.specs.RegistryRecord.{RegistryRecord}
-use Rattle.consent.specs.History.{Event}
-use Rattle.messages.specs.Asked.{Asked}
-use Rattle.messages.specs.declared.request.Draws.{Draws}
-use Rattle.answers.specs.Halts.{Halts}
-use Rattle.answers.specs.Outcomes.{Outcome}
-use Rattle.answers.specs.Requesters.{Parameters, with_form}
-use Rattle.answers.specs.Setting.{HostSays}
-use Rattle.answers.specs.declared.halt.Halt.{Halt}
-use Rattle.answers.specs.declared.endpoint.Endpoint.{Endpoint}
+use Rattle.endpoints.specs.Names.{RegistryRecord, Event, Asked, Draws, Halts, Outcome, Parameters, with_form, HostSays, Halt, Endpoint, Reading}
 use Rattle.answers.specs.declared.endpoint.Endpoint.TheVariants as endpoint
-use Rattle.endpoints.specs.declared.reading.Reading.{Reading}
 use Rattle.endpoints.specs.declared.reading.Reading.TheVariants.{Authorize, GiveConsent, IssueToken, RevokeToken, Introspect, InstallHook, RemoveHook, Read}
 use Rattle.endpoints.specs.Authorize.{HasShortState, with_query}
 use Rattle.endpoints.specs.HookPaths.{with_operator}

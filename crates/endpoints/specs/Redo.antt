@@ -1,17 +1,13 @@
 -- What becomes of a change that happened before, when it is made again.
 use Rattle.std.specs.Prelude.{◌≡◌, ◌<◌, ℕ, List, [], ◌∷◌, Bool, Option, Some, None, is_some, option_map, if◌then◌else◌}
-use Rattle.consent.specs.Changes.{change_of}
-use Rattle.consent.specs.History.{Event, Change as Happening, grant_at, has_consent_room, with_change, CanFollow}
+use Rattle.endpoints.specs.Names.{change_of, Event, Happening, grant_at, has_consent_room, with_change, CanFollow, IssuedAlone, Hosting, refusal, RegistryRecord, RedoFault, MomentBack, Unknown}
+use Rattle.endpoints.specs.Names.{Store, Hook}
 use Rattle.consent.specs.declared.change.Change.{Change}
-use Rattle.consent.specs.declared.change.Change.TheVariants.{Consented, CodeGiven, IssuedAlone, Issued, FamilyEnded, HookSet, HookGone}
+use Rattle.consent.specs.declared.change.Change.TheVariants.{Consented, CodeGiven, Issued, FamilyEnded, HookSet, HookGone}
 use Rattle.endpoints.specs.Layouts.{layout_of}
-use Rattle.hook_host.specs.declared.host.HookHost.{Ghosts as Hosting}
-use Rattle.token_store.specs.Fits.{refusal}
-use Rattle.clients.specs.RegistryRecord.{RegistryRecord}
 use Rattle.endpoints.specs.Right.{is_right}
 use Rattle.endpoints.specs.Server.{SeenServer, Outset, FitsServer}
-use Rattle.endpoints.specs.declared.redo.RedoFault.{RedoFault}
-use Rattle.endpoints.specs.declared.redo.RedoFault.TheVariants.{MomentBack, Unknown, Store, ConsentsFull, NotRight, Hook, Memory}
+use Rattle.endpoints.specs.declared.redo.RedoFault.TheVariants.{ConsentsFull, NotRight, Memory}
 
 -- Whatever history the server fitted, the change means what may come next, and the server then fits the history with it, which
 -- is right, at its moment.

@@ -1,11 +1,9 @@
 -- Beside Redo: only the contracts of this crate's own parts and their proofs cite this, no public clause.
 use Rattle.std.specs.Prelude.{◌≡◌, ℕ, List, None}
-use Rattle.consent.specs.History.{Event}
+use Rattle.endpoints.specs.Names.{Event, Hosting, RedoFault, Unknown, Store}
 use Rattle.consent.specs.declared.change.Change.{Change}
-use Rattle.hook_host.specs.declared.host.HookHost.{Ghosts as Hosting}
 use Rattle.endpoints.specs.Server.{SeenServer, Outset, FitsServer}
-use Rattle.endpoints.specs.declared.redo.RedoFault.{RedoFault}
-use Rattle.endpoints.specs.declared.redo.RedoFault.TheVariants.{Unknown, Store, ConsentsFull, NotRight}
+use Rattle.endpoints.specs.declared.redo.RedoFault.TheVariants.{ConsentsFull, NotRight}
 use Rattle.endpoints.specs.Redo.{history_refusal}
 
 -- each history that the server fits goes on with it

@@ -1,11 +1,7 @@
 -- The reply to any request and what happens with it.
 use Rattle.std.specs.Prelude.{Bool, not, bytes_eq, Option, option_and_then}
+use Rattle.endpoints.specs.Names.{Asked, path_of, Outcome, point, need, bare, chosen, Setting, situation_of, Endpoint}
 use Rattle.consent.specs.History.{Change}
-use Rattle.messages.specs.Asked.{Asked}
-use Rattle.messages.specs.Target.{path_of}
-use Rattle.answers.specs.Outcomes.{Outcome, point, need, bare, chosen}
-use Rattle.answers.specs.Setting.{Setting, situation_of}
-use Rattle.answers.specs.declared.endpoint.Endpoint.{Endpoint}
 use Rattle.answers.specs.declared.endpoint.Endpoint.TheVariants.{Authorize, GiveConsent, IssueToken, RevokeToken, Introspect, InstallHook, RemoveHook, Read}
 use Rattle.answers.specs.Paths.{endpoint_at, method_at}
 use Rattle.endpoints.specs.Authorize.{authorize}

@@ -1,21 +1,13 @@
 -- When a server is made of codes, tokens and consents, and why none is.
-use Rattle.std.specs.Prelude.{◌<◌, ℕ, List, [], Bool, false, ◌&&◌, ◌||◌, ◌==◌, not, nat_le, codes, length}
-use Rattle.std.specs.List.{list_all}
-use Rattle.std.specs.Option.{option_map_or}
-use Rattle.hook_host.specs.declared.host.HookHost.{Ghosts as Hosting}
-use Rattle.clients.specs.RegistryRecord.{RegistryRecord}
+use Rattle.std.specs.Prelude.{◌<◌, ℕ, List, [], Bool, false, ◌&&◌, ◌||◌, ◌==◌, not, nat_le, length}
+use Rattle.endpoints.specs.Names.{list_all, option_map_or, Hosting, RegistryRecord, FitsConsents, kept_consents, Event, is_unexpired, is_within, Kind, Code, Token, FitsHistory, FitsStore, Kept}
+use Rattle.endpoints.specs.Names.{kept_unexpired}
 use Rattle.consent.specs.Consents as consents
-use Rattle.consent.specs.Consents.{FitsConsents, kept_consents}
-use Rattle.consent.specs.History.{Event, is_unexpired, is_within}
 use Rattle.consent.specs.Limits.{code_life, consent_limit, record_limit}
-use Rattle.consent.specs.declared.grant.Kind.{Kind}
-use Rattle.consent.specs.declared.grant.Kind.TheVariants.{Code, Token}
 use Rattle.consent.specs.declared.kept_consent.KeptConsent.{KeptConsent}
 use Rattle.consent.specs.declared.kept_consent.ListFault.{ListFault}
 use Rattle.consent.specs.declared.kept_consent.ListFault.TheVariants as list
-use Rattle.token_store.specs.Fits.{FitsHistory, FitsStore}
 use Rattle.token_store.specs.Image.{HasDigestTwice, as_kept, kept_record}
-use Rattle.token_store.specs.Kept.{Kept, kept_unexpired}
 use Rattle.consent.specs.declared.kept_record.KeptRecord.{KeptRecord}
 use Rattle.token_store.specs.declared.restoring.RestoreFault.{RestoreFault as StoreFault}
 use Rattle.token_store.specs.declared.restoring.RestoreFault.TheVariants as store
@@ -95,12 +87,3 @@ abbrev pub of_list_fault : ListFault → RestoreFault
 of_list_fault list.Full = ConsentsFull
 of_list_fault list.PartiesTwice = ConsentTwice
 of_list_fault list.Memory = Memory
-
-abbrev pub restore_fault_text : RestoreFault → List ℕ
-restore_fault_text Full = codes "Full"
-restore_fault_text DigestTwice = codes "DigestTwice"
-restore_fault_text FamilyDiffers = codes "FamilyDiffers"
-restore_fault_text ConsentsFull = codes "ConsentsFull"
-restore_fault_text ConsentTwice = codes "ConsentTwice"
-restore_fault_text NotRight = codes "NotRight"
-restore_fault_text Memory = codes "Memory"

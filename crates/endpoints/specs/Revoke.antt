@@ -1,16 +1,7 @@
 -- POST /revoke (RFC 7009, section 2)
 use Rattle.std.specs.Prelude.{◌==◌, [], ◌∷◌, not, codes}
-use Rattle.params.specs.Form.{value_sent}
-use Rattle.consent.specs.History.{Grant}
+use Rattle.endpoints.specs.Names.{value_sent, Grant, InvalidRequest, InvalidGrant, Asked, plain, Empty, Outcome, point, need, refuse, bare, with_authenticated, Setting, live_token}
 use Rattle.consent.specs.History.Change.{FamilyEnded}
-use Rattle.messages.specs.declared.error.ErrorName.TheVariants.{InvalidRequest, InvalidGrant}
-use Rattle.messages.specs.Asked.{Asked}
-use Rattle.messages.specs.Reply.{plain}
-use Rattle.messages.specs.Reply.Body.{Empty}
-use Rattle.answers.specs.Outcomes.{Outcome, point, need, refuse, bare}
-use Rattle.answers.specs.Requesters.{with_authenticated}
-use Rattle.answers.specs.Setting.{Setting}
-use Rattle.answers.specs.Tokens.{live_token}
 
 -- the token is revoked, and its family with it
 abbrev pub revoked : Grant → Outcome

@@ -1,12 +1,8 @@
 -- Whether a change is right under rules, as it is decided: what is, IsRightChange holds of (Bounded).
 use Rattle.std.specs.Prelude.{ℕ, List, Bool, true, false, ◌&&◌, ◌==◌, not, nat_le, Option, Some, None}
-use Rattle.std.specs.Option.{option_map_or}
-use Rattle.clients.specs.RegistryRecord.{RegistryRecord}
-use Rattle.clients.specs.Clients.{client_at}
-use Rattle.consent.specs.History.{Event, Grant, consented_scope, grant_at, has_ended, is_within}
+use Rattle.endpoints.specs.Names.{option_map_or, RegistryRecord, client_at, Event, Grant, consented_scope, grant_at, has_ended, is_within, IssuedAlone, NewToken}
 use Rattle.consent.specs.declared.change.Change.{Change}
-use Rattle.consent.specs.declared.change.Change.TheVariants.{CodeGiven, IssuedAlone, Issued}
-use Rattle.consent.specs.declared.change.NewToken.{NewToken}
+use Rattle.consent.specs.declared.change.Change.TheVariants.{CodeGiven, Issued}
 use Rattle.token_store.specs.Found.{code_scope_of}
 use Rattle.endpoints.specs.Bounded.{token_life_limit}
 

@@ -1,10 +1,9 @@
 -- What the operator's requests come to.
 use Rattle.std.specs.Prelude.{List, [], ◌∷◌, Contains}
+use Rattle.endpoints.specs.Names.{Hosting, Checked}
 use Rattle.consent.specs.declared.change.Change.{Change}
 use Rattle.consent.specs.declared.change.Change.TheVariants.{HookSet, HookGone}
 use Rattle.endpoints.specs.Layouts.{layout_of}
-use Rattle.hook_host.specs.declared.host.HookHost.{Ghosts as Hosting}
-use Rattle.endpoints.specs.declared.ruling.Checked.{Checked}
 use Rattle.endpoints.specs.declared.ruling.Checked.TheVariants.{NoHook, Installs, Removes}
 
 -- the host can make the change of its hooks: the hook was checked, or it is there

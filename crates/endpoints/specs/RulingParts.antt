@@ -1,17 +1,10 @@
 -- Beside Ruling: only the contracts of this crate's own parts and their proofs cite this, no public clause.
 use Rattle.std.specs.Prelude.{◌≡◌, ◌≢◌, Option, Some, None, Result, Ok, Err}
-use Rattle.consent.specs.Changes.{as_list}
+use Rattle.endpoints.specs.Names.{as_list, HookFault, Hosting, Halts, Setting, outcome_told, Halt, Refuse, NoMemory}
 use Rattle.consent.specs.History as history
 use Rattle.consent.specs.declared.change.Changes.TheVariants.{Nothing}
-use Rattle.hook_host.specs.declared.fault.HookFault.{HookFault}
 use Rattle.hook_host.specs.declared.fault.HookFault.TheVariants.{Memory}
-use Rattle.hook_host.specs.declared.host.HookHost.{Ghosts as Hosting}
-use Rattle.answers.specs.Halts.{Halts}
-use Rattle.answers.specs.Setting.{Setting}
-use Rattle.answers.specs.Told.{outcome_told}
 use Rattle.answers.specs.declared.answer.Answer.TheVariants.{HookRefused}
-use Rattle.answers.specs.declared.halt.Halt.{Halt}
-use Rattle.answers.specs.declared.halt.Halt.TheVariants.{Refuse, NoMemory}
 use Rattle.endpoints.specs.Hosts.{IsHostFault}
 use Rattle.endpoints.specs.Parts.{hook_points}
 use Rattle.endpoints.specs.declared.ruling.Ruling.{Ruling}

@@ -1,18 +1,6 @@
 -- What the server decides, and what it answers by that.
 use Rattle.std.specs.Prelude.{◌≡◌, List, Option, Some, None, Result, Ok, Err}
-use Rattle.consent.specs.Changes.{as_list, AllFollow}
-use Rattle.consent.specs.History.{Event}
-use Rattle.hook_host.specs.declared.fault.HookFault.{HookFault}
-use Rattle.hook_host.specs.declared.host.HookHost.{Ghosts as Hosting}
-use Rattle.messages.specs.Asked.{Asked}
-use Rattle.messages.specs.declared.request.Draws.{Draws}
-use Rattle.answers.specs.Halts.{Halts}
-use Rattle.answers.specs.Outcomes.{Outcome}
-use Rattle.answers.specs.Setting.{Setting}
-use Rattle.answers.specs.Told.{outcome_told}
-use Rattle.answers.specs.declared.halt.Halt.{Halt}
-use Rattle.answers.specs.declared.endpoint.Endpoint.{Endpoint}
-use Rattle.endpoints.specs.declared.reading.Reading.{Reading}
+use Rattle.endpoints.specs.Names.{as_list, AllFollow, Event, HookFault, Hosting, Asked, Draws, Halts, Outcome, Setting, outcome_told, Halt, Endpoint, Reading}
 use Rattle.endpoints.specs.declared.ruling.Ruling.{Ruling}
 use Rattle.endpoints.specs.Bounded.{AllRightAfter}
 use Rattle.endpoints.specs.HookPaths.{hook_change_at}

@@ -1,16 +1,7 @@
 -- Beside Rulings: only the contracts of this crate's own parts and their proofs cite this, no public clause.
 use Rattle.std.specs.Prelude.{◌≡◌, List, Option, None, Result, Ok, Err}
-use Rattle.consent.specs.History.{Event}
-use Rattle.hook_host.specs.declared.fault.HookFault.{HookFault}
-use Rattle.hook_host.specs.declared.host.HookHost.{Ghosts as Hosting}
-use Rattle.messages.specs.Written.{Written, in_writing}
-use Rattle.answers.specs.Outcomes.{refuse}
-use Rattle.answers.specs.Short.{IsShortReply}
-use Rattle.answers.specs.Told.{Decides}
+use Rattle.endpoints.specs.Names.{Event, HookFault, Hosting, Written, in_writing, refuse, IsShortReply, Decides, Halt, Refuse, NoMemory, Reading}
 use Rattle.answers.specs.declared.decision.Decision.{Decision}
-use Rattle.answers.specs.declared.halt.Halt.{Halt}
-use Rattle.answers.specs.declared.halt.Halt.TheVariants.{Refuse, NoMemory}
-use Rattle.endpoints.specs.declared.reading.Reading.{Reading}
 use Rattle.endpoints.specs.declared.reading.Reading.TheVariants.{InstallHook, RemoveHook}
 use Rattle.endpoints.specs.HookPaths.{hook_change_at}
 use Rattle.endpoints.specs.Hosts.{IsHostFault}

@@ -1,15 +1,6 @@
 -- When a server fits a history, and what one request does.
 use Rattle.std.specs.Prelude.{◌≡◌, ℕ, List, [], Option, Some, None}
-use Rattle.hook_host.specs.declared.host.HookHost.{Ghosts as Hosting}
-use Rattle.clients.specs.RegistryRecord.{RegistryRecord}
-use Rattle.consent.specs.History.{Event, with_changes}
-use Rattle.consent.specs.Consents.{KeptConsents, FitsConsents}
-use Rattle.change_codec.specs.Spelling.{DatedFact}
-use Rattle.change_codec.specs.Happened.{Happened}
-use Rattle.token_store.specs.Kept.{Held}
-use Rattle.token_store.specs.Fits.{FitsStore}
-use Rattle.messages.specs.Written.{Written, in_writing}
-use Rattle.answers.specs.Outcomes.{Outcome}
+use Rattle.endpoints.specs.Names.{Hosting, RegistryRecord, Event, with_changes, KeptConsents, FitsConsents, DatedFact, Happened, Held, FitsStore, Written, in_writing, Outcome}
 use Rattle.endpoints.specs.Hosts.{HostRun}
 use Rattle.endpoints.specs.Bounded.{AllRight}
 

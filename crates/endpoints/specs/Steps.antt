@@ -1,12 +1,6 @@
 -- What one request does to a server, whatever has happened before.
 use Rattle.std.specs.Prelude.{◌≡◌, ℕ, List, Bool, Option, length, max}
-use Rattle.hook_host.specs.declared.fault.HookFault.{HookFault}
-use Rattle.hook_host.specs.declared.host.HookHost.{Ghosts as Hosting}
-use Rattle.clients.specs.RegistryRecord.{RegistryRecord}
-use Rattle.consent.specs.History.{Event, unexpired_count}
-use Rattle.messages.specs.Asked.{Asked}
-use Rattle.messages.specs.Written.{Written}
-use Rattle.messages.specs.declared.request.Draws.{Draws}
+use Rattle.endpoints.specs.Names.{HookFault, Hosting, RegistryRecord, Event, unexpired_count, Asked, Written, Draws}
 use Rattle.endpoints.specs.Bounded.{IsBounded}
 use Rattle.endpoints.specs.Hosts.{IsHostFault, says_with}
 use Rattle.endpoints.specs.Replies.{request_outcome, hook_change}

@@ -1,9 +1,6 @@
 -- When rules are wider than others.
 use Rattle.std.specs.Prelude.{◌≡◌, ◌≤◌, ℕ, List, [], ◌∷◌, ◌++◌, length, true}
-use Rattle.clients.specs.ClientRecord.{ClientRecord}
-use Rattle.clients.specs.RegistryRecord.{RegistryRecord}
-use Rattle.consent.specs.History.{is_within}
-use Rattle.consent.specs.declared.grant.TokenKind.{TokenKind}
+use Rattle.endpoints.specs.Names.{ClientRecord, RegistryRecord, is_within, TokenKind}
 use Rattle.endpoints.specs.Bounded.{token_life_limit}
 
 -- each client has its number, and may be allowed all that it was

@@ -1,14 +1,10 @@
 -- What is right under rules is right under wider ones.
-use Rattle.std.proofs.Common.{◌≡◌, ℕ, List, [], ◌∷◌, ◌++◌, Bool, true, false, Option, None, refl, ap, ◌-◌, zero, suc, arith}
-use Rattle.std.specs.Prelude.{◌==◌, if◌then◌else◌, is_some, slice_get}
+use Rattle.std.proofs.Common.{◌≡◌, ℕ, List, [], ◌∷◌, ◌++◌, true, Option, refl, ap, ◌-◌, zero, suc, arith}
+use Rattle.endpoints.specs.Names.{option_map_or, Hosting, ClientRecord, RegistryRecord, is_within-trans, Event, is_within}
+use Rattle.std.specs.Prelude.{◌==◌, is_some, slice_get}
 use Rattle.std.specs.Int.Bits.{and_zero_l}
-use Rattle.std.specs.Option.{option_map_or}
-use Rattle.hook_host.specs.declared.host.HookHost.{Ghosts as Hosting}
-use Rattle.clients.specs.ClientRecord.{ClientRecord}
-use Rattle.clients.specs.RegistryRecord.{RegistryRecord}
-use Rattle.consent.specs.CoveredLaws.{is_within-trans}
-use Rattle.consent.specs.History.{Event, Change, is_within}
-use Rattle.consent.specs.History.Change.{Consented, CodeGiven, Issued, Spent, FamilyEnded, HookSet, HookGone}
+use Rattle.consent.specs.History.{Change}
+use Rattle.consent.specs.History.Change.{CodeGiven, Issued}
 use Rattle.endpoints.specs.Bounded.{IsRightChange, AllRight, MayHave, allowed_to}
 use Rattle.endpoints.specs.Server.{SeenServer, FitsServer, outset_of}
 use Rattle.endpoints.specs.Widening.{AreWider, IsWider}
@@ -26,11 +22,6 @@ wider_at (c ∷ cs) [] i are = absurd are
 wider_at (c ∷ cs) (d ∷ ds) zero are = are.1
 wider_at (c ∷ cs) (d ∷ ds) (suc i) are = wider_at cs ds i are.2
 
-wider_numbered : (none : Bool) (old new : List ClientRecord) (i : ℕ) → AreWider old new →
-    is_within (allowance (if none then None else slice_get old i)) (allowance (if none then None else slice_get new i)) ≡ true
-wider_numbered true old new i are = nothing_within 0
-wider_numbered false old new i are = wider_at old new i are
-
 -- a client that is there stays
 there_at : (old new : List ClientRecord) (i : ℕ) → AreWider old new → is_some (slice_get old i) ≡ true → is_some (slice_get new i) ≡ true
 there_at [] new i are is = absurd (cc)
@@ -38,32 +29,24 @@ there_at (c ∷ cs) [] i are is = absurd are
 there_at (c ∷ cs) (d ∷ ds) zero are is = refl
 there_at (c ∷ cs) (d ∷ ds) (suc i) are is = there_at cs ds i are.2 is
 
-there_numbered : (none : Bool) (old new : List ClientRecord) (i : ℕ) → AreWider old new →
-    is_some (if none then None else slice_get old i) ≡ true → is_some (if none then None else slice_get new i) ≡ true
-there_numbered true old new i are is = is
-there_numbered false old new i are is = there_at old new i are is
-
 module _ (old new : RegistryRecord) (wider : IsWider old new) where
   allowed_wider : (scope client : ℕ) → is_within scope (allowed_to old client) ≡ true → is_within scope (allowed_to new client) ≡ true
   allowed_wider scope client within =
-      is_within-trans scope (allowed_to old client) (allowed_to new client) within
-      (wider_numbered (client == 0) old.clients new.clients (client - 1) wider.clients)
+      let none = nothing_within 0 in
+      let there = wider_at old.clients new.clients (client - 1) wider.clients in
+      is_within-trans scope (allowed_to old client) (allowed_to new client) within (grind (arith, none, there))
 
   may_have-wider : (scope client : ℕ) → MayHave old client scope → MayHave new client scope
-  may_have-wider scope client may = record {
-    is_client = there_numbered (client == 0) old.clients new.clients (client - 1) wider.clients may.is_client;
-    within = allowed_wider scope client may.within;
-  }
+  may_have-wider scope client may =
+      let there = there_at old.clients new.clients (client - 1) wider.clients in
+      let is = may.is_client in
+      record { is_client = grind (arith, there, is); within = allowed_wider scope client may.within }
 
   right_wider : (before : List Event) (change : Change) → IsRightChange old before change → IsRightChange new before change
   right_wider before (CodeGiven family code digest) right = (may_have-wider code.scope code.client right.0, right.1)
   right_wider before (Issued family parties token) right =
       let longer = wider.lives token.kind in let within = right.1 in (may_have-wider token.scope parties.client right.0, omega (arith, within, longer), right.2)
-  right_wider before (Consented owner client mask) right = tt
-  right_wider before (Spent digest) right = tt
-  right_wider before (FamilyEnded family) right = tt
-  right_wider before (HookSet name version code) right = tt
-  right_wider before (HookGone name) right = tt
+  right_wider before _ right = tt
 
   -- so it is of a whole history
   pub all_right-wider : (before later : List Event) → AllRight old before later → AllRight new before later

@@ -55,8 +55,6 @@ pub trait ImageKeeper: Keeper {
 }
 
 impl ImageKeeper for NoKeeper {
-    ghost use Rattle.std.specs.Prelude.{⊤};
-
     ghost is_long = { λ _. ⊥ };
 
     fn put_image<H: HookHost>(&mut self, _server: &Server<H>) -> Result<(), ImageFault> {

@@ -6,7 +6,7 @@ ghost use Rattle.consent.specs.History.{grant_at};
 ghost use Rattle.endpoints.specs.Parts.{WhereverFits};
 ghost use Rattle.endpoints.specs.Layouts.{layout_of};
 ghost use Rattle.token_store.specs.Fits.{refusal};
-ghost use Rattle.endpoints.specs.FaultTexts.{redo_fault_text, of_hook_fault};
+ghost use Rattle.endpoints.specs.Faults.{of_hook_fault};
 ghost use Rattle.endpoints.specs.Redo.{RefusesHookChange, history_refusal, wanting};
 ghost use Rattle.endpoints.specs.RedoParts.{IsOfHistory};
 ghost use Rattle.endpoints.specs.Ruling.{CanMake};
@@ -40,8 +40,6 @@ pub enum RedoFault {
 }
 
 impl Display for RedoFault {
-    ghost output = { λ fault. Some (redo_fault_text fault) };
-
     fn fmt<W: Write>(&self, f: &mut Formatter<W>) -> fmt::Result {
         match self {
             RedoFault::MomentBack => write!(f, "MomentBack"),

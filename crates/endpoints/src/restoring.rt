@@ -1,7 +1,7 @@
 //! Why no server is made again.
 
-ghost use Rattle.std.specs.Prelude.{◌≡◌, Some};
-ghost use Rattle.endpoints.specs.Restoring.{are_allowed, has_home, is_allowed, lives_within, of_list_fault, of_store_fault, restore_fault_text};
+ghost use Rattle.std.specs.Prelude.{◌≡◌};
+ghost use Rattle.endpoints.specs.Restoring.{are_allowed, has_home, is_allowed, lives_within, of_list_fault, of_store_fault};
 ghost use Rattle.token_store.specs.Image.{kept_record};
 ghost use Rattle.endpoints.specs.declared.restoring.RestoreFault.TheVariants.{Memory};
 
@@ -30,18 +30,8 @@ pub enum RestoreFault {
 }
 
 impl Display for RestoreFault {
-    ghost output = { λ fault. Some (restore_fault_text fault) };
-
     fn fmt<W: Write>(&self, f: &mut Formatter<W>) -> fmt::Result {
-        match self {
-            RestoreFault::Full => write!(f, "Full"),
-            RestoreFault::DigestTwice => write!(f, "DigestTwice"),
-            RestoreFault::FamilyDiffers => write!(f, "FamilyDiffers"),
-            RestoreFault::ConsentsFull => write!(f, "ConsentsFull"),
-            RestoreFault::ConsentTwice => write!(f, "ConsentTwice"),
-            RestoreFault::NotRight => write!(f, "NotRight"),
-            RestoreFault::Memory => write!(f, "Memory"),
-        }
+        write!(f, "{self:?}")
     }
 }
 

@@ -1,6 +1,6 @@
 -- A head ends with a line, and what may become a head may do so at each of its fronts.
 use Rattle.std.proofs.Common.{◌≡◌, ◌⊎◌, ℕ, ◌<◌, inl, inr, List, [], ◌∷◌, ◌++◌, codes, zero, suc, get_or, length, take, true, false, refl, sym, ap, ◌∙◌, arith, append_assoc, append-nil}
-use Rattle.std.specs.Prelude.{Bool, ◌||◌, ◌==◌, IsTrue, All}
+use Rattle.std.specs.Prelude.{IsTrue, All}
 use Rattle.std.specs.List.{flat_map}
 use Rattle.std.proofs.lemmas.Bool.{true≢false}
 use Rattle.std.proofs.lemmas.Str.{IsUtf8-from_ascii}
@@ -28,11 +28,7 @@ two_fronts (c ∷ a) b (d ∷ x) y e =
 -- a line that ends is seen
 line_ends : (before after : List ℕ) → ends_line (before ++ line_feed ∷ after) ≡ true
 line_ends [] after = refl
-line_ends (d ∷ before) after = by (d == line_feed) (line_ends before after)
-  where
-    by : (b : Bool) {x : Bool} → x ≡ true → (b || x) ≡ true
-    by true e = refl
-    by false e = e
+line_ends (d ∷ before) after = let e = line_ends before after in grind (arith, e)
 
 -- a line ended before the piece, where none ends in it
 pub ended_before : (bytes more before after : List ℕ) → ends_line more ≡ false → bytes ++ more ≡ before ++ line_feed ∷ after → (q : List ℕ) × (bytes ≡ before ++ line_feed ∷ q)

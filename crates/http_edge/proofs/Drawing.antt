@@ -1,5 +1,5 @@
 -- The draws of requests, one after another.
-use Rattle.std.proofs.Common.{◌≡◌, ℕ, ◌+◌, ◌-◌, ◌≤◌, List, [], ◌∷◌, ◌++◌, Some, None, refl, ap, arith}
+use Rattle.std.proofs.Common.{◌≡◌, ℕ, ◌+◌, ◌-◌, ◌≤◌, List, [], ◌∷◌, ◌++◌, refl, ap, arith}
 use Rattle.http_edge.proofs.Names.{Draws, Message, asked_of_message, Suffices, one_fewer, demand_of, draws_for, draws_behind, Sources}
 use Rattle.std.specs.Prelude.{Option}
 
@@ -17,14 +17,11 @@ module _ {S : Type 0} (sources : Sources S) where
 
 -- what suffices for some suffices for fewer
 pub fewer_suffice : (supply : Option ℕ) (count n : ℕ) → n ≤ count → Suffices supply count → Suffices supply n
-fewer_suffice None count n few enough = tt
-fewer_suffice (Some most) count n few enough = omega (arith, few, enough)
+fewer_suffice supply count n few enough = grind (arith, few, enough)
 
 pub suffices_none : (supply : Option ℕ) → Suffices supply 0
-suffices_none None = tt
-suffices_none (Some most) = omega arith
+suffices_none supply = grind arith
 
 -- behind one more request
 pub suffices_behind : (supply left : Option ℕ) (count i : ℕ) → left ≡ one_fewer supply → Suffices supply (count - i) → Suffices left (count - (i + 1))
-suffices_behind None left count i same enough = rw same tt
-suffices_behind (Some most) left count i same enough = rw same (omega (arith, enough))
+suffices_behind supply left count i same enough = grind (arith, same, enough)

@@ -105,8 +105,7 @@ on_taken_nothing hosting edge edge' c n same none zero lanes journey reached =
 
 -- a server that notes does so from this history on, once it was kept
 notes_anew : (unkept : Option (List DatedFact)) (history : List Event) → IsSome unkept → AreUnkept (option_map (λ facts. []) unkept) (Some history) history
-notes_anew None history noting = absurd (cc)
-notes_anew (Some facts) history noting = refl
+notes_anew unkept history noting = grind (arith, noting)
 
 -- what has happened was kept, and what is noted changes no answer
 pub on_kept : {H : Type 0} (hosting : Hosting H) (edge edge' : SeenEdge H) → NowNotes edge.server edge'.server (option_map (λ facts. []) edge.server.unkept) → edge'.lanes ≡ edge.lanes →

@@ -1,13 +1,14 @@
 -- The names of other crates that more than one file of these proofs uses.
-pub use Rattle.consent.specs.History.{Event, with_changes, Change, event_at}
+pub use Rattle.http_edge.specs.Names.{with_changes, Change, SeenServer, Outset, FitsServer, Notes, Before, AreNoted, Message, asked_of_message, Messages, HasNone, ReadsMessages, Hosting, TooMany}
+pub use Rattle.http_edge.specs.Names.{NotOpen, AlreadyOpen, PieceTooLong, DrawsShort, TooManyRequests, Memory, Closing, Sources, Asked, in_writing, reply_bytes, Draws}
+pub use Rattle.consent.specs.History.{Event, event_at}
 pub use Rattle.consent.specs.ListLaws.{find-passes}
 pub use Rattle.endpoints.specs.Hosts.{says_with}
 pub use Rattle.endpoints.specs.Replies.{request_outcome}
-pub use Rattle.endpoints.specs.Server.{SeenServer, Outset, FitsServer, AreUnkept, Notes, NowNotes, Before, AreNoted, IsStep}
-pub use Rattle.heads.specs.Message.{Message, asked_of_message, Messages, BeginsWithMessage, HasNone, ReadsMessages}
+pub use Rattle.endpoints.specs.Server.{AreUnkept, NowNotes, IsStep}
+pub use Rattle.heads.specs.Message.{BeginsWithMessage}
 pub use Rattle.heads.specs.ReadingLaws.{messages_cut, nothing_has_none, reads_push, reads_next, reads_same}
 pub use Rattle.heads.specs.WaitingLaws.{front_whole, waiting-append}
-pub use Rattle.hook_host.specs.declared.host.HookHost.{Ghosts as Hosting}
 pub use Rattle.http_edge.specs.Answers.{AnsweredRequest, changes_made, mishaps_in, replies_of, IsOutcomeOfRequest, AreAnswered, AreAskedBy, draws_in}
 pub use Rattle.http_edge.specs.Edges.{SeenEdge}
 pub use Rattle.http_edge.specs.EdgesParts.{GivenWithMore, IsOpenRefusal, IsEndRefusal, IsBytesRefusal, MayHear}
@@ -25,16 +26,13 @@ pub use Rattle.http_edge.specs.Schedule.{Connection, connection_at, with_connect
 pub use Rattle.http_edge.specs.Schedule.{Forgotten, Kept, Happens, Run, ended, has_stream_ended, is_closing_phase, first_world, resumed, heard, moment_after, faulty_if, piece_of}
 pub use Rattle.http_edge.specs.Sources.{demand_of, draws_for, draws_behind, wants_draws}
 pub use Rattle.http_edge.specs.Supply.{Suffices, one_fewer}
-pub use Rattle.http_edge.specs.declared.fault.EdgeFault.TheVariants.{TooMany, NotOpen, AlreadyOpen, PieceTooLong, DrawsShort, TooManyRequests, Memory}
-pub use Rattle.http_edge.specs.declared.lane.Phase.TheVariants.{Open, Closing}
-pub use Rattle.http_edge.specs.declared.source.DrawSource.{Ghosts as Sources}
-pub use Rattle.messages.specs.Asked.{Asked, asked_of}
-pub use Rattle.messages.specs.Written.{Written, in_writing, reply_bytes}
-pub use Rattle.messages.specs.declared.request.Draws.{Draws}
+pub use Rattle.http_edge.specs.declared.lane.Phase.TheVariants.{Open}
+pub use Rattle.messages.specs.Asked.{asked_of}
+pub use Rattle.messages.specs.Written.{Written}
 pub use Rattle.std.proofs.Math.Seq.{drop-nil}
 pub use Rattle.std.proofs.lemmas.Bool.{eqb-true, ltb-true}
 pub use Rattle.std.proofs.lemmas.Bool.Decides.{eqb_tells, nat_tests, leb_tells}
 pub use Rattle.std.proofs.lemmas.List.{length-drop, drop-drop, drop-append-le, map-append, take_all}
 pub use Rattle.std.proofs.lemmas.Result.{on_ok_weaker}
 pub use Rattle.std.specs.Option.{option_copied}
-pub use Rattle.std.specs.Prelude.{◌==◌, IsSome, option_map, slice_get, is_some, IfSome, IfErr, Result, Ok, Err, max, ◌⊎◌, ◌&&◌, ◌||◌, bytes_eq, IsTrue}
+pub use Rattle.std.specs.Prelude.{◌==◌, IsSome, option_map, slice_get, is_some, IfSome, IfErr, Result, Ok, Err, max, ◌⊎◌, bytes_eq, IsTrue}

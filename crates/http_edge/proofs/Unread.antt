@@ -1,6 +1,6 @@
 -- A request that wants no draws reads none.
 use Rattle.std.proofs.Common.{◌≡◌, ◌∙◌, ℕ, List, Bool, true, false, Some, codes, refl, arith}
-use Rattle.http_edge.proofs.Names.{◌&&◌, ◌||◌, bytes_eq, Hosting, Event, find-passes, Draws, Asked, says_with, request_outcome, Outset, AnsweredRequest, IsOutcomeOfRequest, wants_draws}
+use Rattle.http_edge.proofs.Names.{bytes_eq, Hosting, Event, find-passes, Draws, Asked, says_with, request_outcome, Outset, AnsweredRequest, IsOutcomeOfRequest, wants_draws}
 use Rattle.std.specs.Prelude.{Option}
 use Rattle.messages.specs.Target.{path_of}
 use Rattle.answers.specs.Setting.{Setting}
@@ -13,19 +13,15 @@ use Rattle.answers.specs.Paths.{endpoint_at, path_at}
 has_path : (path : List ℕ) (endpoint : Endpoint) → endpoint_at path ≡ Some endpoint → bytes_eq path (path_at endpoint) ≡ true
 has_path path endpoint found = find-passes (λ e. bytes_eq path (path_at e)) ENDPOINTS endpoint found
 
--- the method is another, where the path is one whose requests may want draws
-other_method : (a b c d : Bool) → ((a && b) || (c && d)) ≡ false → (b ≡ true → a ≡ false) × (d ≡ true → c ≡ false)
-other_method a b c d none = grind arith
-
 -- the outcome is the same with any draws
 same_outcome : (endpoint : Option Endpoint) (asked : Asked) (refused : Bool) (setting : Setting) (draws : Draws) → endpoint_at (path_of asked.target) ≡ endpoint → wants_draws asked ≡ false →
     request_outcome refused setting asked ≡ request_outcome refused (record setting { draws = draws }) asked
 same_outcome (Some Authorize) asked refused setting draws found none =
-    let other = other_method (bytes_eq asked.method (codes "GET")) (bytes_eq (path_of asked.target) (codes "/authorize")) (bytes_eq asked.method (codes "POST")) (bytes_eq (path_of asked.target) (codes "/token")) none in
-    rw (found, other.0 (has_path (path_of asked.target) Authorize found)) refl
+    let path = has_path (path_of asked.target) Authorize found in
+    let other : bytes_eq asked.method (codes "GET") ≡ false = grind (arith, none, path) in rw (found, other) refl
 same_outcome (Some IssueToken) asked refused setting draws found none =
-    let other = other_method (bytes_eq asked.method (codes "GET")) (bytes_eq (path_of asked.target) (codes "/authorize")) (bytes_eq asked.method (codes "POST")) (bytes_eq (path_of asked.target) (codes "/token")) none in
-    rw (found, other.1 (has_path (path_of asked.target) IssueToken found)) refl
+    let path = has_path (path_of asked.target) IssueToken found in
+    let other : bytes_eq asked.method (codes "POST") ≡ false = grind (arith, none, path) in rw (found, other) refl
 same_outcome endpoint asked refused setting draws found none = rw found refl
 
 pub unread : {H : Type 0} (hosting : Hosting H) (outset : Outset H) (m : ℕ) (history : List Event) (request : AnsweredRequest) (draws : Draws) → wants_draws request.asked ≡ false →

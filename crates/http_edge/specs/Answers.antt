@@ -1,17 +1,12 @@
 -- Requests that are answered one after another.
 use Rattle.std.specs.Prelude.{◌≡◌, ℕ, List, [], ◌∷◌, Bool, Option, map, ⊤}
+use Rattle.http_edge.specs.Names.{Hosting, Change, with_changes, Draws, Asked, in_writing, reply_bytes, Outset, Message, asked_of_message}
 use Rattle.std.specs.List.{flat_map}
 use Rattle.hook_host.specs.declared.fault.HookFault.{HookFault}
-use Rattle.hook_host.specs.declared.host.HookHost.{Ghosts as Hosting}
-use Rattle.consent.specs.History.{Event, Change, with_changes}
-use Rattle.messages.specs.declared.request.Draws.{Draws}
-use Rattle.messages.specs.Asked.{Asked}
-use Rattle.messages.specs.Written.{in_writing, reply_bytes}
+use Rattle.consent.specs.History.{Event}
 use Rattle.answers.specs.Outcomes.{Outcome}
 use Rattle.endpoints.specs.Hosts.{HostRun, IsHostFault, says_with}
 use Rattle.endpoints.specs.Replies.{request_outcome, hook_change}
-use Rattle.endpoints.specs.Server.{Outset}
-use Rattle.heads.specs.Message.{Message, asked_of_message}
 
 -- what may go wrong in the answer to a request: whether memory was refused for it at its endpoint, and the fault, if any, that the host had
 -- for the change that it asks for

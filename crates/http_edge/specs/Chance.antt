@@ -1,10 +1,8 @@
 -- Draws by a generator.
 use Rattle.std.specs.Prelude.{ℕ, zero, suc, ◌+◌, ◌%◌, ◌^◌, List, [], ◌++◌, replicate}
+use Rattle.http_edge.specs.Names.{Draws, Demand, Fresh, Nothing}
 use Rattle.std.specs.Int.{w32, to_le_bytes}
 use Rattle.rand_chacha.specs.ChaCha.{ChaCha, word_at}
-use Rattle.messages.specs.declared.request.Draws.{Draws}
-use Rattle.http_edge.specs.declared.source.Demand.{Demand}
-use Rattle.http_edge.specs.declared.source.Demand.TheVariants.{Fresh, Nothing}
 
 -- one of the words that a generator of 20 rounds gives from now on, counted from 0
 abbrev pub next_word_at : ChaCha → ℕ → ℕ

@@ -1,19 +1,15 @@
 -- Beside Edges: only the contracts of this crate's own parts and their proofs cite this, no public clause.
 use Rattle.std.specs.Prelude.{◌≡◌, ◌≤◌, ◌<◌, ◌++◌, ℕ, List, Option, Some, None, IsSome, length}
-use Rattle.hook_host.specs.declared.host.HookHost.{Ghosts as Hosting}
-use Rattle.messages.specs.declared.request.Draws.{Draws}
+use Rattle.http_edge.specs.Names.{Hosting, Draws, Sources, EdgeFault, TooMany, NotOpen, AlreadyOpen, PieceTooLong, Memory}
 use Rattle.http_edge.specs.Limits.{connection_limit, piece_limit}
 use Rattle.http_edge.specs.Schedule.{Piece}
 use Rattle.http_edge.specs.Reached.{PieceLeads}
 use Rattle.http_edge.specs.Pieces.{PieceGiven, SuppliedEdge}
 use Rattle.http_edge.specs.Sources.{draws_for}
-use Rattle.http_edge.specs.declared.source.DrawSource.{Ghosts as Sources}
 use Rattle.http_edge.specs.Lanes.{SeenLane, lane_at}
 use Rattle.http_edge.specs.LanesParts.{IsHearing}
 use Rattle.http_edge.specs.Heard.{IsHearingRefusal}
 use Rattle.http_edge.specs.declared.lane.Phase.TheVariants.{Open}
-use Rattle.http_edge.specs.declared.fault.EdgeFault.{EdgeFault}
-use Rattle.http_edge.specs.declared.fault.EdgeFault.TheVariants.{TooMany, NotOpen, AlreadyOpen, PieceTooLong, Memory}
 
 -- a piece was given, and leads on also where draws are left behind those of its requests
 pub record GivenWithMore {H S : Type 0} (hosting : Hosting H) (sources : Sources S) (old : SuppliedEdge H S) (piece : Piece) (new : SuppliedEdge H S) :

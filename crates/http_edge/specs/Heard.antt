@@ -1,22 +1,16 @@
 -- A piece that was read and answered.
 use Rattle.std.specs.Prelude.{◌≡◌, ◌≤◌, ◌<◌, ◌+◌, ◌*◌, ℕ, List, [], ◌++◌, Bool, true, Option, length, if◌then◌else◌}
-use Rattle.hook_host.specs.declared.host.HookHost.{Ghosts as Hosting}
-use Rattle.consent.specs.History.{Event, with_changes}
-use Rattle.messages.specs.declared.request.Draws.{Draws}
+use Rattle.http_edge.specs.Names.{Hosting, with_changes, Draws, SeenServer, Outset, Before, FitsServer, AreNoted, Message, HasNone, ReadsMessages, Messages, IsHopeless, MustTell, MayTell, Sources}
+use Rattle.http_edge.specs.Names.{Closing, EdgeFault, TooManyRequests, DrawsShort, Memory}
+use Rattle.consent.specs.History.{Event}
 use Rattle.messages.specs.Small.{reply_limit}
-use Rattle.endpoints.specs.Server.{SeenServer, Outset, Before, FitsServer, AreNoted}
-use Rattle.heads.specs.Message.{Message, HasNone, ReadsMessages, Messages, IsHopeless, MustTell, MayTell}
 use Rattle.heads.specs.declared.scan.Scan.{Scan}
 use Rattle.http_edge.specs.Limits.{request_limit}
 use Rattle.http_edge.specs.Answers.{AnsweredRequest, AreAnswered, AreAskedBy, draws_in, changes_made, replies_of}
 use Rattle.http_edge.specs.Schedule.{faulty_if, moment_after}
 use Rattle.http_edge.specs.Supply.{Suffices, FallsShort}
 use Rattle.http_edge.specs.Sources.{draws_for, draws_behind}
-use Rattle.http_edge.specs.declared.source.DrawSource.{Ghosts as Sources}
 use Rattle.http_edge.specs.Lanes.{SeenLane}
-use Rattle.http_edge.specs.declared.lane.Phase.TheVariants.{Closing}
-use Rattle.http_edge.specs.declared.fault.EdgeFault.{EdgeFault}
-use Rattle.http_edge.specs.declared.fault.EdgeFault.TheVariants.{TooManyRequests, DrawsShort, Memory}
 
 -- no message yet, and no faulty head that has to be told of
 pub record IsStillNone (bytes : List ℕ) : Type 0 where

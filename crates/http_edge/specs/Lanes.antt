@@ -1,8 +1,7 @@
 -- What the edge keeps of connections.
 use Rattle.std.specs.Prelude.{◌≡◌, ◌≢◌, ◌≤◌, ℕ, List, [], ◌∷◌, Option, Some, None, ◌==◌, find, length, ⊤}
-use Rattle.heads.specs.Message.{Messages}
+use Rattle.http_edge.specs.Names.{Messages, Phase}
 use Rattle.http_edge.specs.Schedule.{Connection, untaken}
-use Rattle.http_edge.specs.declared.lane.Phase.{Phase}
 use Rattle.http_edge.specs.declared.lane.Phase.TheVariants.{Open}
 
 -- a connection's rest that was not read, and its output that was not taken

@@ -13,10 +13,11 @@ pub mod Events
 pub mod Refusals
 pub mod Chance
 pub mod Pieces
-pub mod FaultTexts
 -- What only the contracts of this crate's own parts and their proofs cite.
 pub mod LanesParts
 pub mod PlacesParts
 pub mod Rests
 pub mod Heard
 pub mod EdgesParts
+-- What these files import, passed on.
+pub mod Names

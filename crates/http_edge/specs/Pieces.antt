@@ -1,15 +1,12 @@
 -- Pieces that are given to an edge with draws of a source.
 use Rattle.std.specs.Prelude.{◌≡◌, ◌⊎◌, ℕ, List, [], true, Option, length}
-use Rattle.hook_host.specs.declared.host.HookHost.{Ghosts as Hosting}
-use Rattle.heads.specs.Message.{Message}
+use Rattle.http_edge.specs.Names.{Hosting, Message, Sources, EdgeFault}
 use Rattle.http_edge.specs.Schedule.{Connection, Piece, connection_at}
 use Rattle.http_edge.specs.Edges.{SeenEdge}
 use Rattle.http_edge.specs.Refusals.{Completes, IsPieceRefusal}
 use Rattle.http_edge.specs.Reached.{InEach, PieceLeads, is_closing}
 use Rattle.http_edge.specs.Supply.{Suffices}
 use Rattle.http_edge.specs.Sources.{draws_for, draws_behind}
-use Rattle.http_edge.specs.declared.source.DrawSource.{Ghosts as Sources}
-use Rattle.http_edge.specs.declared.fault.EdgeFault.{EdgeFault}
 
 -- it holds of the connections, wherever the edge was reached
 abbrev pub WhereReached : {H : Type 0} → Hosting H → SeenEdge H → (List Connection → Type 0) → Type 0

@@ -1,11 +1,7 @@
 -- The edges that a schedule leads to.
 use Rattle.std.specs.Prelude.{◌≡◌, ◌≢◌, length, ℕ, List, [], ◌∷◌, ◌++◌, Bool, false, Option, Some, None}
-use Rattle.hook_host.specs.declared.host.HookHost.{Ghosts as Hosting}
+use Rattle.http_edge.specs.Names.{Hosting, Draws, SeenServer, Outset, FitsServer, Notes, Messages, IsBounded}
 use Rattle.consent.specs.History.{Event}
-use Rattle.messages.specs.declared.request.Draws.{Draws}
-use Rattle.endpoints.specs.Server.{SeenServer, Outset, FitsServer, Notes}
-use Rattle.heads.specs.Message.{Messages}
-use Rattle.endpoints.specs.Bounded.{IsBounded}
 use Rattle.http_edge.specs.Answers.{Mishap}
 use Rattle.http_edge.specs.Schedule.{World, Connection, Piece, Happening, Came, Resumed, Happens, Run, is_closing_phase, first_world, resumed}
 use Rattle.http_edge.specs.Lanes.{ShowsConnections}

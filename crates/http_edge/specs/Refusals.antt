@@ -1,7 +1,6 @@
 -- Why an event is refused.
 use Rattle.std.specs.Prelude.{◌≡◌, ◌≤◌, ◌<◌, ◌++◌, ℕ, List, false, Option, Some, None, IsSome, length}
-use Rattle.hook_host.specs.declared.host.HookHost.{Ghosts as Hosting}
-use Rattle.heads.specs.Message.{Message, Messages}
+use Rattle.http_edge.specs.Names.{Hosting, Message, Messages, EdgeFault, TooMany, NotOpen, AlreadyOpen, PieceTooLong, DrawsShort, TooManyRequests, Memory}
 use Rattle.http_edge.specs.Limits.{connection_limit, piece_limit, request_limit}
 use Rattle.http_edge.specs.Supply.{Suffices, FallsShort}
 use Rattle.http_edge.specs.Schedule.{Connection, connection_at, has_stream_ended}
@@ -10,8 +9,6 @@ use Rattle.http_edge.specs.Reached.{InEach}
 use Rattle.http_edge.specs.declared.lane.Phase.TheVariants.{Open}
 use Rattle.http_edge.specs.declared.event.Event.{Event}
 use Rattle.http_edge.specs.declared.event.Event.TheVariants as event
-use Rattle.http_edge.specs.declared.fault.EdgeFault.{EdgeFault}
-use Rattle.http_edge.specs.declared.fault.EdgeFault.TheVariants.{TooMany, NotOpen, AlreadyOpen, PieceTooLong, DrawsShort, TooManyRequests, Memory}
 
 -- bytes may still come on the connection
 abbrev pub MaySend : Option Connection → Type 0

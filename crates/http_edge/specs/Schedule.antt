@@ -1,17 +1,11 @@
 -- What came and went on connections, what was kept, and what the server's outputs are then.
 use Rattle.std.specs.Prelude.{◌≡◌, ◌⊎◌, ◌≤◌, ◌<◌, ◌+◌, ℕ, List, [], ◌∷◌, ◌++◌, Bool, true, false, not, Option, Some, None, ◌==◌, if◌then◌else◌, find, filter, length, drop, max}
-use Rattle.hook_host.specs.declared.host.HookHost.{Ghosts as Hosting}
+use Rattle.http_edge.specs.Names.{Hosting, IsHistory, with_changes, Draws, faulty_bytes, AllRight, Outset, Message, Messages, IsHopeless, MustTell, MayTell, Phase, Closing, Ended, Closed}
 use Rattle.clients.specs.RegistryRecord.{RegistryRecord}
-use Rattle.consent.specs.History.{Event, IsHistory, with_changes}
-use Rattle.messages.specs.declared.request.Draws.{Draws}
-use Rattle.messages.specs.Written.{faulty_bytes}
-use Rattle.endpoints.specs.Bounded.{AllRight}
-use Rattle.endpoints.specs.Server.{Outset}
-use Rattle.heads.specs.Message.{Message, Messages, IsHopeless, MustTell, MayTell}
+use Rattle.consent.specs.History.{Event}
 use Rattle.http_edge.specs.Limits.{connection_limit, piece_limit, request_limit}
 use Rattle.http_edge.specs.Answers.{Mishap, AnsweredRequest, AreAnswered, AreAskedBy, draws_in, mishaps_in, changes_made, replies_of}
-use Rattle.http_edge.specs.declared.lane.Phase.{Phase}
-use Rattle.http_edge.specs.declared.lane.Phase.TheVariants.{Open, Closing, Ended, Closed}
+use Rattle.http_edge.specs.declared.lane.Phase.TheVariants.{Open}
 
 -- a piece of a connection's stream, which came at a moment
 pub record Piece : Type 0 where

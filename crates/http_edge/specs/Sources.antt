@@ -1,12 +1,7 @@
 -- What requests have their draws from.
 use Rattle.std.specs.Prelude.{List, [], ◌∷◌, Bool, ◌&&◌, ◌||◌, if◌then◌else◌, bytes_eq, codes}
-use Rattle.messages.specs.declared.request.Draws.{Draws}
-use Rattle.messages.specs.Asked.{Asked}
+use Rattle.http_edge.specs.Names.{Draws, Asked, Message, asked_of_message, Demand, Fresh, Nothing, Sources}
 use Rattle.messages.specs.Target.{path_of}
-use Rattle.heads.specs.Message.{Message, asked_of_message}
-use Rattle.http_edge.specs.declared.source.Demand.{Demand}
-use Rattle.http_edge.specs.declared.source.Demand.TheVariants.{Fresh, Nothing}
-use Rattle.http_edge.specs.declared.source.DrawSource.{Ghosts as Sources}
 
 -- A request wants draws where it may give a code or tokens: GET /authorize and POST /token
 abbrev pub wants_draws : Asked → Bool

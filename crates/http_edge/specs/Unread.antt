@@ -1,10 +1,7 @@
 -- Draws that nothing comes of.
 use Rattle.std.specs.Prelude.{◌≡◌, ℕ, List}
-use Rattle.hook_host.specs.declared.host.HookHost.{Ghosts as Hosting}
+use Rattle.http_edge.specs.Names.{Hosting, Draws, Asked, Outset}
 use Rattle.consent.specs.History.{Event}
-use Rattle.messages.specs.declared.request.Draws.{Draws}
-use Rattle.messages.specs.Asked.{Asked}
-use Rattle.endpoints.specs.Server.{Outset}
 use Rattle.http_edge.specs.Answers.{AnsweredRequest, IsOutcomeOfRequest}
 
 -- an outcome of the request is one whatever draws it has

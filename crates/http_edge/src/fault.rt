@@ -1,6 +1,4 @@
 //! Why an event is refused.
-ghost use Rattle.std.specs.Prelude.{Some};
-ghost use Rattle.http_edge.specs.FaultTexts.{edge_fault_text};
 
 use std::fmt::{self, Display, Formatter, Write};
 
@@ -24,17 +22,7 @@ pub enum EdgeFault {
 }
 
 impl Display for EdgeFault {
-    ghost output = { λ fault. Some (edge_fault_text fault) };
-
     fn fmt<W: Write>(&self, f: &mut Formatter<W>) -> fmt::Result {
-        match self {
-            EdgeFault::TooMany => write!(f, "TooMany"),
-            EdgeFault::NotOpen => write!(f, "NotOpen"),
-            EdgeFault::AlreadyOpen => write!(f, "AlreadyOpen"),
-            EdgeFault::PieceTooLong => write!(f, "PieceTooLong"),
-            EdgeFault::DrawsShort => write!(f, "DrawsShort"),
-            EdgeFault::TooManyRequests => write!(f, "TooManyRequests"),
-            EdgeFault::Memory => write!(f, "Memory"),
-        }
+        write!(f, "{self:?}")
     }
 }

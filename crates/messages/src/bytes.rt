@@ -104,16 +104,6 @@ fn put_challenge(out: &mut Vec<u8>, status: StatusCode)
     }
 }
 
-fn put_length(out: &mut Vec<u8>, count: usize)
-    requires { vec_len out.old + length (length_line count) ≤ vec_capacity out.old }
-    ensures items { out.new.items ≡ out.old.items ++ length_line count }
-    ensures room { vec_capacity out.old ≤ vec_capacity out.new }
-{
-    put(out, b"Content-Length: ");
-    put_number(out, count as u64);
-    put(out, b"\r\n");
-}
-
 // The lines of a status and of what the body is.
 fn put_opening(out: &mut Vec<u8>, status: StatusCode, body: Option<&[u8]>)
     requires { vec_len out.old + length (status_line status ++ type_line (option_copied body) ++ cache_lines status) ≤ vec_capacity out.old }
@@ -141,8 +131,9 @@ fn put_content(out: &mut Vec<u8>, body: &[u8])
     ensures items { out.new.items ≡ out.old.items ++ length_line (length body.now) ++ crlf ++ body.now }
     ensures room { vec_capacity out.old ≤ vec_capacity out.new }
 {
-    put_length(out, body.len());
-    put(out, b"\r\n");
+    put(out, b"Content-Length: ");
+    put_number(out, body.len() as u64);
+    put(out, b"\r\n\r\n");
     put(out, body);
 }
 

@@ -1,15 +1,9 @@
 -- What the points come to, once all is known that they ask.
 use Rattle.std.proofs.Common.{◌≡◌, ℕ, List, true, false, Some, refl, ap}
+use Rattle.token_endpoint.specs.Names.{value_sent, proves, Grant, consented_scope, is_spent, has_ended, Narrowed, Parameters, KnownClient, scope_within, Setting, digest_told, code_of_client}
+use Rattle.token_endpoint.specs.Names.{refresh_of_client}
 use Rattle.std.specs.Prelude.{not, codes, bytes_eq}
-use Rattle.params.specs.Form.{value_sent}
-use Rattle.pkce.specs.Proof.{proves}
-use Rattle.consent.specs.History.{Grant, consented_scope, is_spent, has_ended}
 use Rattle.hook_record.specs.declared.Kind.TheVariants as kind
-use Rattle.hook_record.specs.declared.Narrowed.{Narrowed}
-use Rattle.answers.specs.Requesters.{Parameters, KnownClient, scope_within}
-use Rattle.answers.specs.Setting.{Setting}
-use Rattle.answers.specs.Texts.{digest_told}
-use Rattle.answers.specs.Tokens.{code_of_client, refresh_of_client}
 use Rattle.token_endpoint.specs.ClientCredentials.{client_credentials, own_ask}
 use Rattle.token_endpoint.specs.Exchange.{exchange}
 use Rattle.token_endpoint.specs.Grants.{ask_for, left_by_host}

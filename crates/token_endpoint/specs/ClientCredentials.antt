@@ -1,13 +1,8 @@
 -- POST /token with grant_type client_credentials (RFC 6749, section 4.4)
 use Rattle.std.specs.Prelude.{ℕ, [], ◌∷◌}
-use Rattle.sha2.specs.Sha256.{sha256}
-use Rattle.hook_record.specs.declared.Ask.{Ask}
+use Rattle.token_endpoint.specs.Names.{sha256, Ask, InvalidScope, UnauthorizedClient, Extent, Outcome, need, refuse, unless_denied, unless_taken, access_reply, Parameters, KnownClient, scope_within}
+use Rattle.token_endpoint.specs.Names.{Setting}
 use Rattle.hook_record.specs.declared.Kind.TheVariants as kind
-use Rattle.messages.specs.declared.error.ErrorName.TheVariants.{InvalidScope, UnauthorizedClient}
-use Rattle.answers.specs.Outcomes.{Extent, Outcome, need, refuse, unless_denied, unless_taken}
-use Rattle.answers.specs.Replies.{access_reply}
-use Rattle.answers.specs.Requesters.{Parameters, KnownClient, scope_within}
-use Rattle.answers.specs.Setting.{Setting}
 use Rattle.token_endpoint.specs.Grants.{ask_for, issued_alone, left_by_host}
 
 -- a grant to a client itself: no owner consents to it

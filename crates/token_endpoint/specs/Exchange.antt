@@ -1,22 +1,10 @@
 -- POST /token with grant_type authorization_code (RFC 6749, section 4.1.3; RFC 7636, section 4.6)
 use Rattle.std.specs.Prelude.{[], ◌∷◌, not, codes, bytes_eq, if◌then◌else◌}
-use Rattle.params.specs.Form.{value_sent}
-use Rattle.clients.specs.ClientRecord.{ClientRecord}
-use Rattle.clients.specs.Grants.{has_grant}
-use Rattle.clients.specs.declared.grant.GrantType.TheVariants.{RefreshToken}
-use Rattle.consent.specs.History.{Grant, is_spent, has_ended}
-use Rattle.consent.specs.History.Change.{Spent, FamilyEnded}
-use Rattle.hook_record.specs.declared.Kind.TheVariants.{Code}
+use Rattle.token_endpoint.specs.Names.{value_sent, ClientRecord, has_grant, RefreshToken, Grant, is_spent, has_ended, Spent, FamilyEnded, Code, InvalidRequest, InvalidGrant, InvalidScope, proves}
+use Rattle.token_endpoint.specs.Names.{Extent, Outcome, point, need, refuse, unless_denied, Parameters, KnownClient, Setting, digest_told, code_of_client}
 use Rattle.messages.specs.declared.error.ErrorName.{ErrorName}
-use Rattle.messages.specs.declared.error.ErrorName.TheVariants.{InvalidRequest, InvalidGrant, InvalidScope}
 use Rattle.messages.specs.Reply.{plain}
 use Rattle.messages.specs.Reply.Body.{Failure}
-use Rattle.pkce.specs.Proof.{proves}
-use Rattle.answers.specs.Outcomes.{Extent, Outcome, point, need, refuse, unless_denied}
-use Rattle.answers.specs.Requesters.{Parameters, KnownClient}
-use Rattle.answers.specs.Setting.{Setting}
-use Rattle.answers.specs.Texts.{digest_told}
-use Rattle.answers.specs.Tokens.{code_of_client}
 use Rattle.token_endpoint.specs.Grants.{ask_for, left_by_host, access_for, both_for}
 
 -- invalid_grant, and the family of the code or token ends with it

@@ -1,21 +1,12 @@
 -- What is asked of the host before a grant, and the tokens that are issued for it.
 use Rattle.std.specs.Prelude.{ℕ, List, [], ◌∷◌, length}
-use Rattle.sha2.specs.Sha256.{sha256}
-use Rattle.consent.specs.History.{Change, Grant, consented_scope}
-use Rattle.consent.specs.History.Change.{Spent}
+use Rattle.token_endpoint.specs.Names.{sha256, Change, Grant, consented_scope, Spent, NewToken, Access, Ask, Narrowed, Draws, Extent, Outcome, unless_taken, access_reply, both_reply, KnownClient}
+use Rattle.token_endpoint.specs.Names.{Setting}
 use Rattle.consent.specs.Changes.{issued_with, token_issued}
-use Rattle.consent.specs.declared.change.NewToken.{NewToken}
 use Rattle.consent.specs.declared.grant.TokenKind.{TokenKind}
-use Rattle.consent.specs.declared.grant.TokenKind.TheVariants.{Access, Refresh}
+use Rattle.consent.specs.declared.grant.TokenKind.TheVariants.{Refresh}
 use Rattle.hook_record.specs.declared.Kind.{Kind}
-use Rattle.hook_record.specs.declared.Ask.{Ask}
-use Rattle.hook_record.specs.declared.Narrowed.{Narrowed}
 use Rattle.hook_host.specs.Decisions.{met_with}
-use Rattle.messages.specs.declared.request.Draws.{Draws}
-use Rattle.answers.specs.Outcomes.{Extent, Outcome, unless_taken}
-use Rattle.answers.specs.Replies.{access_reply, both_reply}
-use Rattle.answers.specs.Requesters.{KnownClient}
-use Rattle.answers.specs.Setting.{Setting}
 
 -- a grant of this kind to the client, by this owner and of this scope: an owner of 0 is none
 abbrev pub ask_for : Setting → KnownClient → Kind → ℕ → ℕ → Ask

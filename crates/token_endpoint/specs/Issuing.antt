@@ -1,10 +1,8 @@
 -- The tokens that are issued.
 use Rattle.std.specs.Prelude.{ℕ}
-use Rattle.sha2.specs.Sha256.{sha256}
+use Rattle.token_endpoint.specs.Names.{sha256, NewToken, Access, Draws}
 use Rattle.clients.specs.RegistryRecord.{RegistryRecord}
-use Rattle.consent.specs.declared.change.NewToken.{NewToken}
-use Rattle.consent.specs.declared.grant.TokenKind.TheVariants.{Access, Refresh}
-use Rattle.messages.specs.declared.request.Draws.{Draws}
+use Rattle.consent.specs.declared.grant.TokenKind.TheVariants.{Refresh}
 
 -- the access token of the first draw, and the refresh token of the second one
 abbrev pub access_token : Draws → ℕ → ℕ → NewToken

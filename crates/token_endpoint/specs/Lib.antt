@@ -7,5 +7,5 @@ pub mod TokenPath
 -- What only the contracts of this crate's own parts and their proofs cite.
 pub mod Issuing
 pub mod Parts
--- Laws, each proved: a reader may skip them.
-pub mod FollowingLaws
+-- What these files import, passed on.
+pub mod Names

@@ -1,20 +1,8 @@
 -- Parts of the columns of points. Only the functions' own clauses cite this module.
 use Rattle.std.specs.Prelude.{ℕ, not, codes, bytes_eq}
-use Rattle.params.specs.Form.{value_sent}
-use Rattle.pkce.specs.Proof.{proves}
-use Rattle.clients.specs.ClientRecord.{ClientRecord}
-use Rattle.clients.specs.Grants.{grant_named, has_grant}
-use Rattle.clients.specs.declared.grant.GrantType.{GrantType}
-use Rattle.consent.specs.History.{Grant, is_spent, has_ended}
-use Rattle.hook_record.specs.declared.Ask.{Ask}
-use Rattle.hook_record.specs.declared.Kind.TheVariants.{Code}
-use Rattle.hook_record.specs.declared.Narrowed.{Narrowed}
-use Rattle.messages.specs.declared.error.ErrorName.TheVariants.{InvalidRequest, InvalidGrant, InvalidScope, UnauthorizedClient, UnsupportedGrantType}
+use Rattle.token_endpoint.specs.Names.{value_sent, proves, ClientRecord, grant_named, has_grant, GrantType, Grant, is_spent, has_ended, Ask, Code, Narrowed, InvalidRequest, InvalidGrant}
+use Rattle.token_endpoint.specs.Names.{InvalidScope, UnauthorizedClient, UnsupportedGrantType, Outcome, point, need, refuse, unless_denied, Parameters, KnownClient, Setting, code_of_client}
 use Rattle.token_store.specs.Found.{owner_number}
-use Rattle.answers.specs.Outcomes.{Outcome, point, need, refuse, unless_denied}
-use Rattle.answers.specs.Requesters.{Parameters, KnownClient}
-use Rattle.answers.specs.Setting.{Setting}
-use Rattle.answers.specs.Tokens.{code_of_client}
 use Rattle.token_endpoint.specs.ClientCredentials.{granted}
 use Rattle.token_endpoint.specs.Exchange.{ends_family, exchanged, spent_in_vain}
 use Rattle.token_endpoint.specs.Grants.{ask_for, both_for, left_by_host}

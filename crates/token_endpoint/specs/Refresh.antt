@@ -1,14 +1,8 @@
 -- POST /token with grant_type refresh_token, which rotates (RFC 6749, section 6; RFC 9700, section 4.14.2)
 use Rattle.std.specs.Prelude.{codes}
-use Rattle.params.specs.Form.{value_sent}
-use Rattle.consent.specs.History.{is_spent, has_ended}
+use Rattle.token_endpoint.specs.Names.{value_sent, is_spent, has_ended, InvalidRequest, InvalidGrant, InvalidScope, Outcome, point, need, refuse, unless_denied, Parameters, KnownClient, scope_within}
+use Rattle.token_endpoint.specs.Names.{Setting, digest_told, refresh_of_client}
 use Rattle.hook_record.specs.declared.Kind.TheVariants.{Refresh}
-use Rattle.messages.specs.declared.error.ErrorName.TheVariants.{InvalidRequest, InvalidGrant, InvalidScope}
-use Rattle.answers.specs.Outcomes.{Outcome, point, need, refuse, unless_denied}
-use Rattle.answers.specs.Requesters.{Parameters, KnownClient, scope_within}
-use Rattle.answers.specs.Setting.{Setting}
-use Rattle.answers.specs.Texts.{digest_told}
-use Rattle.answers.specs.Tokens.{refresh_of_client}
 use Rattle.token_endpoint.specs.Exchange.{ends_family}
 use Rattle.token_endpoint.specs.Grants.{ask_for, left_by_host, both_for}
 

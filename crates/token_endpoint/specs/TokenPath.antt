@@ -1,14 +1,8 @@
 -- POST /token (RFC 6749, section 3.2)
 use Rattle.std.specs.Prelude.{not, codes}
-use Rattle.params.specs.Form.{value_sent}
-use Rattle.clients.specs.Grants.{grant_named, has_grant}
-use Rattle.clients.specs.declared.grant.GrantType.{GrantType}
-use Rattle.clients.specs.declared.grant.GrantType.TheVariants.{AuthorizationCode, RefreshToken, ClientCredentials}
-use Rattle.messages.specs.declared.error.ErrorName.TheVariants.{InvalidRequest, UnauthorizedClient, UnsupportedGrantType}
+use Rattle.token_endpoint.specs.Names.{value_sent, grant_named, has_grant, GrantType, AuthorizationCode, RefreshToken, ClientCredentials, InvalidRequest, UnauthorizedClient, UnsupportedGrantType}
+use Rattle.token_endpoint.specs.Names.{Outcome, point, need, refuse, Parameters, KnownClient, with_authenticated, Setting}
 use Rattle.messages.specs.Asked.{Asked}
-use Rattle.answers.specs.Outcomes.{Outcome, point, need, refuse}
-use Rattle.answers.specs.Requesters.{Parameters, KnownClient, with_authenticated}
-use Rattle.answers.specs.Setting.{Setting}
 use Rattle.token_endpoint.specs.Exchange.{exchange}
 use Rattle.token_endpoint.specs.Refresh.{refresh}
 use Rattle.token_endpoint.specs.ClientCredentials.{client_credentials}

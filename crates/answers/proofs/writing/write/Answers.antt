@@ -1,13 +1,7 @@
-use Rattle.std.proofs.Common.{rules, ◌≤◌, ℕ, List, [], Option, Some, None, Bor, refl, length, arith}
-use Rattle.answers.proofs.Names.{IfSome, unwrap_or, name_limit, hook_body, plain, Empty, Failure, Inactive, status_of}
-use Rattle.std.specs.Prelude.{option_copied}
-use Rattle.clients.specs.Limits.{key_limit}
+use Rattle.std.proofs.Common.{rules, ◌≤◌, refl, length, arith}
+use Rattle.answers.proofs.Names.{name_limit, hook_body, plain, Empty, Failure, Inactive, status_of}
 use Rattle.answers.proofs.Sizes.{failure_small, if_short, written_short}
 use Rattle.answers.proofs.writing.write.Goals as goal
-
-few : (sub : Option (Bor (List ℕ))) → IfSome sub (λ text. length text.now ≤ key_limit) → length (unwrap_or (option_copied sub) []) ≤ key_limit
-few None short = omega arith
-few (Some text) short = short
 
 pub returns-in-Done-clause-short : goal.returns-in-Done-clause-short
 returns-in-Done-clause-short g c = λ _. written_short (plain 200 Empty) c.bare.result (record { status = refl; short = tt }) c.bare.ensures
@@ -21,15 +15,10 @@ returns-in-Denied-clause-short g c = λ _. if_short c.failure-in-Denied.result (
 pub returns-in-Unavailable-clause-short : goal.returns-in-Unavailable-clause-short
 returns-in-Unavailable-clause-short g c = λ _. written_short (plain 503 Empty) c.bare-in-Unavailable.result (record { status = refl; short = tt }) c.bare-in-Unavailable.ensures
 
-pub returns-in-NotFound-clause-short : goal.returns-in-NotFound-clause-short
-returns-in-NotFound-clause-short g c = λ _. written_short (plain 404 Empty) c.bare-in-NotFound.result (record { status = refl; short = tt }) c.bare-in-NotFound.ensures
-
-pub returns-in-NotAllowed-clause-short : goal.returns-in-NotAllowed-clause-short
-returns-in-NotAllowed-clause-short g c = λ _. written_short (plain 405 Empty) c.bare-in-NotAllowed.result (record { status = refl; short = tt }) c.bare-in-NotAllowed.ensures
-
 pub returns-in_ok-scope-in-Active-clause-short : goal.returns-in_ok-scope-in-Active-clause-short
 returns-in_ok-scope-in-Active-clause-short g c = λ _.
-    c.live.ensures.short (record { client = c.id_of.ensures.short; scope = rw c.deref.ensures c.in_ok-scope-in-Active.ensures.short; sub = few c.sub_of.result c.sub_of.ensures.short })
+    let sub = c.sub_of.ensures.short in
+    c.live.ensures.short (record { client = c.id_of.ensures.short; scope = rw c.deref.ensures c.in_ok-scope-in-Active.ensures.short; sub = grind (arith, sub) })
 
 pub returns-in-Inactive-clause-short : goal.returns-in-Inactive-clause-short
 returns-in-Inactive-clause-short g c = λ _. if_short c.inactive.result (plain 200 Inactive) (record { status = refl; short = tt }) (search rules)

@@ -2,17 +2,18 @@ use Rattle.std.proofs.Common.{◌≡◌, true, false, None, Some, refl, sym, ap,
 use Rattle.endpoints.proofs.Names.{not-false, asked_of, path_of, noted_in, prepared_in, endpoint_at, method_at}
 use Rattle.std.specs.Prelude.{not, bytes_eq}
 use Rattle.endpoints.proofs.Answering.{at_moment, swept, bare_step, none_made, stepped, unkept_as, host_as}
-use Rattle.endpoints.proofs.Shorter.{written_short, bare_small}
+use Rattle.answers.proofs.Sizes.{written_short}
+use Rattle.endpoints.proofs.Shorter.{bare_small}
 use Rattle.endpoints.proofs.server.Server.answer.Goals as goal
 
 pub returns-in_default-clause-short : goal.returns-in_default-clause-short
-returns-in_default-clause-short g c = λ few. written_short _ _ c.bare.ensures (bare_small 404 refl)
+returns-in_default-clause-short g c = λ few. written_short _ _ (bare_small 404 refl) c.bare.ensures
 
 pub returns-then-ne-clause-short : goal.returns-then-ne-clause-short
-returns-then-ne-clause-short g c = λ few. written_short _ _ c.bare-then-ne.ensures (bare_small 405 refl)
+returns-then-ne-clause-short g c = λ few. written_short _ _ (bare_small 405 refl) c.bare-then-ne.ensures
 
 pub returns-in_default-answer_at-clause-short : goal.returns-in_default-answer_at-clause-short
-returns-in_default-answer_at-clause-short g c = λ few. written_short _ _ c.bare-in_default-answer_at.ensures (bare_small 503 refl)
+returns-in_default-answer_at-clause-short g c = λ few. written_short _ _ (bare_small 503 refl) c.bare-in_default-answer_at.ensures
 
 pub returns-in_default-clause-replies : goal.returns-in_default-clause-replies
 returns-in_default-clause-replies g c = λ outset history m fits0.

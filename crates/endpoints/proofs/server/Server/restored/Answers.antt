@@ -1,4 +1,4 @@
-use Rattle.std.proofs.Common.{rules, ◌≡◌, false, refl}
+use Rattle.std.proofs.Common.{rules, ◌≡◌, false, refl, arith}
 use Rattle.endpoints.specs.Restoring.{are_allowed}
 use Rattle.endpoints.proofs.Restored.{none_right}
 use Rattle.endpoints.proofs.server.Server.restored.Goals as goal
@@ -17,3 +17,9 @@ returns-clause-fits g c first history of run right = record {
   hosts = run;
   right = right;
 }
+
+pub returns-in_err-consents-clause-refused : goal.returns-in_err-consents-clause-refused
+returns-in_err-consents-clause-refused g c =
+    let full = c.in_err-consents.ensures.full in
+    let twice = c.in_err-consents.ensures.twice in
+    let told = c.from_residual-in_err-consents.ensures in grind (arith, full, twice, told)
