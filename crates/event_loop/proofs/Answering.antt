@@ -13,7 +13,9 @@ use Rattle.event_loop.specs.Answered.{PlaceExchange, IsAllAnswered, read_at, wri
 use Rattle.event_loop.proofs.Putting.{set_cases}
 use Rattle.event_loop.proofs.Kept.{kept_connections}
 use Rattle.event_loop.proofs.Others.{is_itself, opens_other, ends_other, takes_other, forgets_other}
-use Rattle.event_loop.proofs.Telling.{Talk, talk_opened, talk_lost, talk_given, talk_ended, talk_written, closing_taken, gives_reached, gives_other}
+use Rattle.event_loop.proofs.Telling.{talk_given, closing_taken, gives_reached, gives_other}
+use Rattle.serving.specs.Talks.{Talk}
+use Rattle.serving.proofs.Talking.{talk_opened, talk_lost, talk_ended, talk_written}
 
 -- one that is served is there
 pub served_taken : (stage : Stage) → IsInService stage → IsOccupied stage
@@ -25,29 +27,20 @@ not_free : (places : List Place) (k : ℕ) (place : Place) → IsFreeAt places k
 not_free places k place free here taken = subst IsOccupied (free place here) taken
 
 module _ {N C J K H : Type 0} where
-  -- the exchange as a talk
-  talk_of : (s : LoopState N C J K H) (k : ℕ) (place : Place) (x : PlaceExchange s k place) → Talk (read_at k s.calls) (written_at k s.calls) x.lost (known s.progress k)
-  talk_of s k place x = record { connection = x.connection; here = x.here; stream = x.stream; rest = x.rest; requests = x.requests; front = x.front }
-
   exchange_of : (s : LoopState N C J K H) (k : ℕ) (place : Place) (read written lost : List ℕ) → read_at k s.calls ≡ read → written_at k s.calls ≡ written → (t : Talk read written lost (known s.progress k)) →
       (place.stage ≡ Open → is_closing (known s.progress k) ≡ false → lost ≡ []) → PlaceExchange s k place
   exchange_of s k place read written lost same_read same_written t whole = record {
-    connection = t.connection;
-    here = t.here;
     lost = lost;
-    stream = same_read ∙ t.stream;
-    rest = t.rest;
-    requests = t.requests;
-    front = ap (λ bytes. bytes ++ untaken (Some t.connection)) same_written ∙ t.front;
-    whole = λ is_open stays. whole is_open (ap is_closing t.here ∙ stays);
+    talk = subst (λ r. Talk r (written_at k s.calls) lost (known s.progress k)) (sym same_read) (subst (λ w. Talk read w lost (known s.progress k)) (sym same_written) t);
+    whole = whole;
   }
 
   -- nothing happened to it
   stays_same : (s s' : LoopState N C J K H) (k : ℕ) (place place' : Place) → PlaceExchange s k place → known s'.progress k ≡ known s.progress k → read_at k s'.calls ≡ read_at k s.calls → written_at k s'.calls ≡ written_at k s.calls →
       (place'.stage ≡ Open → place.stage ≡ Open) → PlaceExchange s' k place'
   stays_same s s' k place place' x same_known same_read same_written opened =
-      exchange_of s' k place' _ _ x.lost same_read same_written (subst (Talk (read_at k s.calls) (written_at k s.calls) x.lost) (sym same_known) (talk_of s k place x))
-      (λ is_open stays. x.whole (opened is_open) (ap is_closing (sym x.here) ∙ ap is_closing (sym same_known) ∙ stays))
+      exchange_of s' k place' _ _ x.lost same_read same_written (subst (Talk (read_at k s.calls) (written_at k s.calls) x.lost) (sym same_known) x.talk)
+      (λ is_open stays. x.whole (opened is_open) (ap is_closing (sym same_known) ∙ stays))
 
   -- the place of a step at j, and another
   module _ (p : Promises N C J K H) (s : LoopState N C J K H) (before : IsAllAnswered p s) where
@@ -107,8 +100,8 @@ module _ {N C J K H : Type 0} where
         IsAllAnswered p (record (with_place (with_call s (call.Read j read_limit (call.Bytes bytes)) n) j place') { progress = progress })
     given_answered j place place' bytes given lost n progress here may giving all whole =
         let x = before.exchanges j place here (subst IsOccupied (sym may.is_open) tt) in
-        let nothing_lost : x.lost ≡ [] = x.whole may.is_open (ap is_closing (sym x.here) ∙ may.stays) in
-        let t : Talk (read_at j s.calls) (written_at j s.calls) [] (known s.progress j) = subst (λ lost. Talk (read_at j s.calls) (written_at j s.calls) lost (known s.progress j)) nothing_lost (talk_of s j place x) in
+        let nothing_lost : x.lost ≡ [] = x.whole may.is_open may.stays in
+        let t : Talk (read_at j s.calls) (written_at j s.calls) [] (known s.progress j) = subst (λ lost. Talk (read_at j s.calls) (written_at j s.calls) lost (known s.progress j)) nothing_lost x.talk in
         let t' = talk_given p.hosting (piece_of j bytes s.times.moment) s.progress given progress (read_at j s.calls) (written_at j s.calls) giving before.reached t in
         let read : read_at j (call.Read j read_limit (call.Bytes bytes) ∷ s.calls) ≡ (read_at j s.calls ++ given) ++ lost =
         read_here j bytes s.calls ∙ ap (λ l. read_at j s.calls ++ l) all ∙ sym (append_assoc (read_at j s.calls) given lost) in
@@ -133,7 +126,7 @@ module _ {N C J K H : Type 0} where
           reached = on.reached;
           exchanges =
               at_places _ j (record place { stage = Ended }) refl
-              (λ taken'. exchange_of _ j (record place { stage = Ended }) _ _ x.lost refl refl (talk_ended s.progress.journey.world on.world j _ _ x.lost on.happens (talk_of s j place x)) (λ is_open stays. absurd (cc)))
+              (λ taken'. exchange_of _ j (record place { stage = Ended }) _ _ x.lost refl refl (talk_ended s.progress.journey.world on.world j _ _ x.lost on.happens x.talk) (λ is_open stays. absurd (cc)))
               (λ k other. ends_other s.progress.journey.world on.world j k on.happens other) (λ k other. refl) (λ k other. refl);
         }
     reads_answered j place s' here may (reading.ends_nothing n fault done refused) =
@@ -147,12 +140,12 @@ module _ {N C J K H : Type 0} where
     writes_answered j place s' here taken (writing.sends count front n e on some is_front done) =
         let x = before.exchanges j place here taken in
         let room = length (untaken (known s.progress j)) in
-        let t' = talk_written s.progress.journey.world on.world j count _ _ x.lost front some is_front on.happens (talk_of s j place x) in
+        let t' = talk_written s.progress.journey.world on.world j count _ _ x.lost front some is_front on.happens x.talk in
         record {
           reached = on.reached;
           exchanges =
               at_places _ j (record place { since = s.times.steady }) refl
-              (λ taken'. exchange_of _ j (record place { since = s.times.steady }) _ _ x.lost refl (wrote_here j room front s.calls) t' (λ is_open stays. x.whole is_open (ap is_closing (sym x.here) ∙ sym (closing_taken s.progress.journey.world on.world j count on.happens) ∙ stays)))
+              (λ taken'. exchange_of _ j (record place { since = s.times.steady }) _ _ x.lost refl (wrote_here j room front s.calls) t' (λ is_open stays. x.whole is_open (sym (closing_taken s.progress.journey.world on.world j count on.happens) ∙ stays)))
               (λ k other. takes_other s.progress.journey.world on.world j k count on.happens other) (λ k other. refl) (λ k other. wrote_other j k room front s.calls other);
         }
     writes_answered j place s' here taken (writing.finds_no_room n done) =

@@ -190,7 +190,7 @@ module _ {N C J K H : Type 0} (p : Promises N C J K H) where
   fails_does s s' fault (no_more many) = record { did = λ first before. before; reached = λ was. was; tells = (keeps_same p.keeping.crashes s.keeper s.keeper refl).meanwhile }
 
   -- what was kept is a front of what happened, wherever steps lead to
-  served_front : (first s : LoopState N C J K H) → Served p first s → (kept : List Event) → s.progress.journey.world.kept ≡ Some kept → IsFrontOf kept s.progress.journey.world.history
+  pub served_front : (first s : LoopState N C J K H) → Served p first s → (kept : List Event) → s.progress.journey.world.kept ≡ Some kept → IsFrontOf kept s.progress.journey.world.history
   served_front first s served kept is = front_noted s.progress.edge.server.unkept s.progress.journey.world.kept s.progress.journey.world.history (served_answered p first s served).reached.notes kept is
 
   moves_held : (s s' : LoopState N C J K H) → Moves p s s' → KeeperHolds p s → KeeperHolds p s'

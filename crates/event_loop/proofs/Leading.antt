@@ -1,13 +1,13 @@
 -- Parts of the loop, one after another.
-use Rattle.std.proofs.Common.{◌≡◌, ◌≢◌, inl, inr, ◌<◌, ◌≤◌, ◌+◌, ℕ, suc, List, true, false, Some, sym, subst, arith, ◌⊎◌, ◌∙◌, slice_get}
+use Rattle.std.proofs.Common.{◌≡◌, ◌≢◌, inl, inr, ◌<◌, ◌≤◌, ◌+◌, ℕ, suc, List, true, false, Some, refl, sym, subst, arith, ◌⊎◌, ◌∙◌, slice_get}
 use Rattle.event_loop.proofs.Names.{Place, NeedsNoRead, NeedsNoWrite, Closes, leaves, eqb_tells, World, known, IsReached, Promises, LoopState, IsAllKept, Service, Ready, Tools, Reading, Writing}
 use Rattle.event_loop.proofs.Names.{IsDone, done_since, Served, Past, LeavesOthers, HoldsAt, LeadsToActs, LeadsToTidy, LeadsToSettled, LeadsToAccepts, GoesReading, GoesKept, GoesWriting, LeadsToKept}
-use Rattle.event_loop.proofs.Names.{LeadsWriting, StaysIdle, ActsAt, SettlesAt, TidiesAt, IsHeardAt, IsRestedAt, IsRested, IsSettledAt, running, standing, state_of, to_write}
+use Rattle.event_loop.proofs.Names.{LeadsWriting, AreAllSettled, DoneAfter, GoesSettled, StaysIdle, ActsAt, SettlesAt, TidiesAt, IsHeardAt, IsRestedAt, IsRested, IsSettledAt, running, standing, state_of, to_write}
 use Rattle.std.specs.Prelude.{⊤}
 use Rattle.event_loop.proofs.Others.{forgets_other}
 use Rattle.event_loop.proofs.Doing.{none_more, done_then, done_some, on_then}
 use Rattle.event_loop.proofs.Kept.{all_kept_still}
-use Rattle.event_loop.proofs.Resting.{none_left, still_holds, others_then, heard_other, rested_other, others_kept, rests_turned}
+use Rattle.event_loop.proofs.Resting.{none_left, still_holds, others_then, heard_other, rested_other, others_kept, rests_turned, settled_then}
 
 module _ {N C J K H : Type 0} (p : Promises N C J K H) where
   -- what closes a connection leaves the others
@@ -105,8 +105,14 @@ module _ {N C J K H : Type 0} (p : Promises N C J K H) where
       let y = two first x.next x.served x.settled in
       record { next = y.next; served = y.served; settled = y.settled; done = done_then _ _ _ x.done y.done }
 
+  -- where the places and what is due are as they were, all places are as settled
+  abbrev pub goes_still : (first : LoopState N C J K H) (found : List Ready) (past next : Past H) (a b : Service) (t : Tools N C J K H) → b.places ≡ a.places → b.due ≡ a.due → next.journey.world ≡ past.journey.world →
+      DoneAfter past.calls next.calls → Served p first (state_of (running b t) found next) → AreAllSettled a past → GoesSettled p first found past (running b t)
+  goes_still first found past next a b t places due world done served settled =
+      record { next = next; served = served; settled = settled_then a past b next places due world done settled; done = done }
+
   pub nowhere : (f : List Ready) (a : Service) (t : Tools N C J K H) → LeadsToSettled p f (running a t) f (running a t)
-  nowhere f a t first past served settled = record { next = past; served = served; settled = settled; done = none_more past.calls }
+  nowhere f a t first past served settled = goes_still first f past past a a t refl refl refl (none_more past.calls) served settled
 
   -- and then it was tried to accept
   pub accepts_then : {P Q : Type 0} (a b c : Service) (t u v : Tools N C J K H) → LeadsToAccepts p P (running a t) (running b u) → LeadsToAccepts p ⊤ (running b u) (running c v) → LeadsToAccepts p Q (running a t) (running c v)

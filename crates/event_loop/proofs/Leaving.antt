@@ -1,8 +1,8 @@
 -- A connection is closed in the progress of the loop.
 use Rattle.std.proofs.Common.{◌≡◌, ◌≢◌, ◌⊎◌, inl, inr, ◌<◌, ◌≤◌, ℕ, List, Option, Some, [], length, refl, sym, ap, subst, ◌∙◌, arith, slice_get, slice_set}
-use Rattle.event_loop.proofs.Names.{Place, IsOccupied, AreWithin, Cause, slice_get_within, Promises, LoopState, Free, Service, Ready, Tools, Accepting, IsIdle, IsPatient, MayWait, Served, goes}
-use Rattle.event_loop.proofs.Names.{closes, Past, IsQuick, IsReported, IsTried, NobodyIsSilent, OnlyTells, IsLimit, IsReadyToWait, LeadsAway, LeadsToShort, SettlesAll, AreAllSettled, MayRest}
-use Rattle.event_loop.proofs.Names.{running, state_of, Told, Waits, Queue}
+use Rattle.event_loop.proofs.Names.{Place, IsOccupied, Cause, slice_get_within, Promises, LoopState, Free, Service, Ready, Tools, Accepting, IsIdle, IsPatient, MayWait, Served, goes}
+use Rattle.event_loop.proofs.Names.{closes, Past, IsCalm, OnlyTells, IsLimit, IsReadyToWait, LeadsAway, LeadsToShort, SettlesAll, AreAllSettled, MayRest}
+use Rattle.event_loop.proofs.Names.{running, state_of, Told, Queue}
 use Rattle.event_loop.specs.Served as served
 use Rattle.event_loop.specs.Goes as limited
 use Rattle.event_loop.proofs.Doing.{closes_done, closes_some, done_some, none_more}
@@ -49,7 +49,8 @@ ready_still service past service' same ready =
     subst (λ (s : Service). IsReadyToWait s past) (sym same) (record {
       settled = settled_then service past still past refl refl refl (none_more past.calls) ready.settled;
       queue = ready.queue;
-      quick = record { idle = ready.quick.idle; crowded = ready.quick.crowded; tried = ready.quick.tried; reported = ready.quick.reported };
+      calm = record { idle = ready.calm.idle; crowded = ready.calm.crowded; tried = ready.calm.tried };
+      reported = ready.reported;
     })
 
 -- and it may wait
@@ -66,7 +67,7 @@ may_wait p a b s t limit room before same is_limit roomy put first past begun wa
         record {
           patient = is_patient b t past limit size ready is_limit;
           fair = record { places = λ k place here. (let within = slice_get_within b.places k place here in (ready.settled k (omega (arith, size, within))).turned place here); queue = ready.queue };
-          prompt = record { idle = ready.quick.idle; crowded = ready.quick.crowded; tried = ready.quick.tried; reported = ready.quick.reported };
+          prompt = record { idle = ready.calm.idle; crowded = ready.calm.crowded; tried = ready.calm.tried; reported = ready.reported };
           heard = refl;
           roomy = roomy;
           short = now.1;
@@ -74,15 +75,9 @@ may_wait p a b s t limit room before same is_limit roomy put first past begun wa
       ),
     )
 
--- where what is told alone became other, all else is as quick
-pub quick_told : (service service' : Service) → OnlyTells service service' → NobodyIsSilent service → (service.queue ≡ Waits → AreWithin service.limits.crowded service.times service.places) → IsTried service → IsReported service' →
-    IsQuick service'
-quick_told service service' same idle crowded tried reported = record {
-  idle = subst NobodyIsSilent (sym same) idle;
-  crowded = subst (λ (s : Service). s.queue ≡ Waits → AreWithin s.limits.crowded s.times s.places) (sym same) crowded;
-  tried = subst IsTried (sym same) tried;
-  reported = reported;
-}
+-- where what is told alone became other, all else is as calm
+pub calm_told : (service service' : Service) → OnlyTells service service' → IsCalm service → IsCalm service'
+calm_told service service' same calm = rw same (record { idle = calm.idle; crowded = calm.crowded; tried = calm.tried })
 
 -- nobody is to be accepted, or it was tried
 pub told_or_not : {P : Type 0} (queue : Queue) → (queue ≡ Told → P) → (queue ≢ Told) ⊎ P

@@ -1,10 +1,13 @@
 -- The names of other crates that more than one file of these proofs uses.
-pub use Rattle.change_codec.specs.Keeping.{IsFrontOf, Holds, Keeps, KeepsBasis, Leaves, TellsBasis, Crashes, Basis, HoldsBasis, LeavesEither, Until}
-pub use Rattle.consent.specs.History.{Event, event_at, with_change}
+pub use Rattle.event_loop.specs.Names.{IsFrontOf, Holds, Keeps, KeepsBasis, Leaves, TellsBasis, HoldsBasis, Until, Event, Write, Refused, LoopFault, Ended, Broken, Free, Open, Queue, Told}
+pub use Rattle.event_loop.specs.Names.{Empty, Barred, Ready, Hosting, SeenEdge, is_closing, Journey, Reached, led_on, connection_at, piece_of, untaken, Piece, World, Connection, Opened, Forgotten}
+pub use Rattle.event_loop.specs.Names.{HasEnded}
+pub use Rattle.change_codec.specs.Keeping.{Crashes, Basis, LeavesEither}
+pub use Rattle.consent.specs.History.{event_at, with_change}
 pub use Rattle.endpoints.specs.Keeping.{keeping}
 pub use Rattle.endpoints.specs.Server.{Outset, AreUnkept}
 pub use Rattle.event_loop.specs.Calls.{CallKind, IsDone, Transfer, Reading, Writing, Call, Keeping, done_since, Wrote, waits as waits_done, Accepting}
-pub use Rattle.event_loop.specs.Closing.{AreWithin, Closes, leaves, Cause, IsSilentLongest, gives_way, freed_queue, is_silent}
+pub use Rattle.event_loop.specs.Closing.{AreWithin, Closes, leaves, Cause, gives_way, freed_queue, is_silent}
 pub use Rattle.event_loop.specs.Coming.{opens, denies, fresh_place, finds_nobody, asks}
 pub use Rattle.event_loop.specs.Durable.{Carries, Onward, stays, onward, KeeperHolds, StandsBetween, IsWriteKept, MomentIsHeld, MomentStays}
 pub use Rattle.event_loop.specs.Ends.{CannotGoOn, no_wait, no_time, no_moment, not_kept, not_imaged, no_more}
@@ -12,7 +15,8 @@ pub use Rattle.event_loop.specs.Giving.{GivesPieces, nothing, gives, cut_limit, 
 pub use Rattle.event_loop.specs.GivingParts.{GivesOn, progress_of}
 pub use Rattle.event_loop.specs.Goes.{Running, Standing, Past, Duty, DoneAfter, ActsAt, IsReadyFor, state_of, to_read, to_write, LeadsOn, standing, LeavesOthers, HoldsAt, LeadsToActs, LeadsToTidy}
 pub use Rattle.event_loop.specs.Goes.{LeadsToSettled, LeadsToAccepts, GoesReading, GoesKept, GoesWriting, LeadsToKept, LeadsWriting, StaysIdle, SettlesAt, TidiesAt, IsHeardAt, IsRestedAt, IsRested}
-pub use Rattle.event_loop.specs.Goes.{IsSettledAt, running, IsQuick, IsReported, IsTried, NobodyIsSilent, OnlyTells, IsLimit, IsReadyToWait, LeadsAway, LeadsToShort, SettlesAll, AreAllSettled}
+pub use Rattle.event_loop.specs.Goes.{IsSettledAt, GoesSettled, running, IsCalm, NobodyIsSilent, OnlyTells, IsLimit, IsReadyToWait, LeadsAway, LeadsToShort, SettlesAll}
+pub use Rattle.event_loop.specs.Goes.{AreAllSettled}
 pub use Rattle.event_loop.specs.Goes.{MayRest, IsToldAs, IsWorkLeft, a_read, a_write, IsLeftAt, noted_in, LeadsToHearing, LeadsShut, LeadsReading, LeadsRound, IsInTime}
 pub use Rattle.event_loop.specs.LoopStates.{Promises, LoopState, IsAllKept, with_call, with_place, IsUnkept, promises}
 pub use Rattle.event_loop.specs.Noting.{Noted, notes_it, passes}
@@ -24,26 +28,18 @@ pub use Rattle.event_loop.specs.Served.{Served, goes, LoopStep, hears_of, comes,
 pub use Rattle.event_loop.specs.Served.{IsPatient, MayWait, HadTurn, IsFirst, told_place, hears_of_listener, hears_of_none, no_image, reports}
 pub use Rattle.event_loop.specs.Writing.{WritesPlace, offered, sends, finds_no_room}
 pub use Rattle.event_loop.specs.declared.clocks.Times.{Times}
-pub use Rattle.event_loop.specs.declared.fault.ConnectionFault.TheVariants.{Read, Write, Refused}
-pub use Rattle.event_loop.specs.declared.fault.LoopFault.{LoopFault}
+pub use Rattle.event_loop.specs.declared.fault.ConnectionFault.TheVariants.{Read}
 pub use Rattle.event_loop.specs.declared.place.Place.{Place}
-pub use Rattle.event_loop.specs.declared.place.Stage.TheVariants.{Ended, Broken, Free, Open}
-pub use Rattle.event_loop.specs.declared.queue.Queue.{Queue}
-pub use Rattle.event_loop.specs.declared.queue.Queue.TheVariants.{Told, Waits, Empty, Barred}
 pub use Rattle.event_loop.specs.declared.report.LastTold.{LastTold}
 pub use Rattle.event_loop.specs.declared.service.Service.{Service}
-pub use Rattle.event_loop.specs.declared.sockets.Ready.{Ready}
 pub use Rattle.event_loop.specs.declared.tools.Tools.{Tools}
-pub use Rattle.heads.specs.Message.{Message, Messages}
-pub use Rattle.hook_host.specs.declared.host.HookHost.{Ghosts as Hosting}
-pub use Rattle.http_edge.proofs.Connections.{no_other, added_other, found_number, put_other, without_other, same_connection, found_put, found_fresh, shown}
-pub use Rattle.http_edge.specs.Edges.{SeenEdge}
+pub use Rattle.heads.specs.Message.{Message}
+pub use Rattle.http_edge.proofs.Connections.{no_other, added_other, found_number, put_other, without_other, found_put, found_fresh}
 pub use Rattle.http_edge.specs.Pieces.{PieceGiven, RefusesPiece, supplied}
-pub use Rattle.http_edge.specs.Reached.{is_closing, Journey, Reached, led_on}
-pub use Rattle.http_edge.specs.Schedule.{connection_at, piece_of, untaken, Piece, Came, World, IsServerStill, moment_after, PieceComes, PiecePasses, TakesOutput, TakesNothing, AnsweredPiece}
-pub use Rattle.http_edge.specs.Schedule.{KeepsHistory, Opens, StreamEnds, ForgetsConnection, Connection, fresh, heard, faulty_if, ended, Kept, Opened, Forgotten, HasEnded, Taken}
+pub use Rattle.http_edge.specs.Schedule.{Came, IsServerStill, moment_after, PieceComes, PiecePasses, TakesOutput, TakesNothing, AnsweredPiece}
+pub use Rattle.http_edge.specs.Schedule.{KeepsHistory, Opens, StreamEnds, ForgetsConnection, fresh, Kept, Taken}
 pub use Rattle.std.proofs.lemmas.Bool.{false≢true, eqb-true, cases_lt}
 pub use Rattle.std.proofs.lemmas.Bool.Decides.{eqb_tells, nat_tests}
-pub use Rattle.std.proofs.lemmas.List.{drop-append-le, drop_all}
+pub use Rattle.std.proofs.lemmas.List.{drop_all}
 pub use Rattle.std.proofs.lemmas.Option.{same_Some, slice_get_within, get_or_from_slice_get, slice_get-get_or, slice_get_past}
 pub use borrow.Author.Count.{below_more}

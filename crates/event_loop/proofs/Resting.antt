@@ -179,9 +179,9 @@ told_rested k service service' world place places due rested j less =
     ]
 
 -- a connection is at the place, silent for so many seconds, one at least
-pub record IsSilentFor (times : Times) (places : List Place) (k silence : ℕ) : Type 0 where
-  pub place : Place
-  pub here : slice_get places k ≡ Some place
-  pub taken : IsOccupied place.stage
-  pub silence_is : times.steady - place.since ≡ silence
+pub record IsSilentFor (times : Times) (places : List Place) (found : ℕ × Place) (silence : ℕ) : Type 0 where
+  pub within : found.0 < 64
+  pub here : slice_get places found.0 ≡ Some found.1
+  pub taken : IsOccupied found.1.stage
+  pub silence_is : times.steady - found.1.since ≡ silence
   pub some : 0 < silence

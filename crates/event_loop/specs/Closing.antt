@@ -1,13 +1,8 @@
 -- How connections are closed.
 use Rattle.std.specs.Prelude.{◌≡◌, ◌≤◌, ◌<◌, ◌-◌, ℕ, List, Some, slice_get}
-use Rattle.http_edge.specs.Schedule.{Forgotten}
-use Rattle.http_edge.specs.Edges.{SeenEdge}
-use Rattle.http_edge.specs.Reached.{GoesOn}
+use Rattle.event_loop.specs.Names.{Forgotten, SeenEdge, GoesOn, Free, Queue, Told, Empty, Barred, Asked, Waits}
 use Rattle.event_loop.specs.declared.clocks.Times.{Times}
 use Rattle.event_loop.specs.declared.place.Place.{Place}
-use Rattle.event_loop.specs.declared.place.Stage.TheVariants.{Free}
-use Rattle.event_loop.specs.declared.queue.Queue.{Queue}
-use Rattle.event_loop.specs.declared.queue.Queue.TheVariants.{Told, Empty, Barred, Asked, Waits}
 use Rattle.event_loop.specs.Calls as call
 use Rattle.event_loop.specs.Progress.{known, led}
 use Rattle.event_loop.specs.Noting.{Noted, NotesEnd}
@@ -32,11 +27,10 @@ pub data Cause {N C J K H : Type 0} (s : LoopState N C J K H) (k : ℕ) (place :
 
 -- the queue when a connection went
 abbrev pub freed_queue : Queue → Queue
-freed_queue Told = Told
-freed_queue Empty = Empty
 freed_queue (Barred since) = Told
-freed_queue Asked = Empty
 freed_queue Waits = Told
+freed_queue Asked = Empty
+freed_queue queue = queue
 
 -- A connection is closed and forgotten, its fault is noted, and its place is free.
 pub data Closes {N C J K H : Type 0} (p : Promises N C J K H) (k : ℕ) (place : Place) (s : LoopState N C J K H) : LoopState N C J K H → Type 0 where

@@ -1,16 +1,8 @@
 -- How connections come.
 use Rattle.std.specs.Prelude.{◌<◌, ◌+◌, ◌-◌, ◌^◌, ℕ, true, false, min}
-use Rattle.http_edge.specs.Schedule.{Opened}
-use Rattle.http_edge.specs.Edges.{SeenEdge}
-use Rattle.http_edge.specs.Reached.{GoesOn}
-use Rattle.http_edge.specs.Refusals.{IsOpeningRefusal}
-use Rattle.http_edge.specs.declared.fault.EdgeFault.{EdgeFault}
-use Rattle.event_loop.specs.declared.fault.ConnectionFault.TheVariants.{Accept, Refused}
+use Rattle.event_loop.specs.Names.{Opened, SeenEdge, GoesOn, IsOpeningRefusal, EdgeFault, Accept, Refused, Open, Queue, Told, Empty, Barred, Asked, Waits, Later}
 use Rattle.event_loop.specs.declared.place.Place.{Place}
-use Rattle.event_loop.specs.declared.place.Stage.TheVariants.{Open}
-use Rattle.event_loop.specs.declared.queue.Queue.{Queue}
-use Rattle.event_loop.specs.declared.queue.Queue.TheVariants.{Told, Empty, Barred, Asked, Waits}
-use Rattle.event_loop.specs.declared.sockets.Accepted.TheVariants.{Taken, Later, Failed}
+use Rattle.event_loop.specs.declared.sockets.Accepted.TheVariants.{Taken, Failed}
 use Rattle.event_loop.specs.Calls as call
 use Rattle.event_loop.specs.Progress.{led}
 use Rattle.event_loop.specs.Noting.{Noted, NotesFault}
@@ -23,11 +15,9 @@ fresh_place now = record { stage = Open; readable = false; writable = true; hung
 
 -- the queue when the listener was found ready
 abbrev pub told_queue : Queue → Queue
-told_queue Told = Told
 told_queue Empty = Told
-told_queue (Barred since) = Barred since
 told_queue Asked = Waits
-told_queue Waits = Waits
+told_queue queue = queue
 
 -- one connection more came, as far as can be counted
 abbrev pub one_more : ℕ → ℕ

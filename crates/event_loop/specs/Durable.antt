@@ -1,8 +1,6 @@
 -- What a crash leaves of what was done.
 use Rattle.std.specs.Prelude.{◌≡◌, ◌≢◌, ◌⊎◌, ℕ, List, ◌∷◌, Some}
-use Rattle.consent.specs.History.{Event}
-use Rattle.change_codec.specs.Keeping.{Until, IsFrontOf, Holds, HoldsBasis, Leaves}
-use Rattle.http_edge.specs.Reached.{Journey}
+use Rattle.event_loop.specs.Names.{Event, Until, IsFrontOf, Holds, HoldsBasis, Leaves, Journey}
 use Rattle.event_loop.specs.Calls.{Transfer, Wrote}
 use Rattle.event_loop.specs.LoopStates.{Promises, LoopState, IsAllKept}
 use Rattle.event_loop.specs.Served.{LoopStep}

@@ -1,7 +1,6 @@
 -- Laws of what steps lead on to, and of fronts of what happened.
 use Rattle.std.proofs.Common.{◌≡◌, List, ◌++◌, [], sym, ap, ◌∙◌, append_assoc, append-nil}
-use Rattle.change_codec.specs.Keeping.{IsFrontOf}
-use Rattle.consent.specs.History.{Event}
+use Rattle.event_loop.specs.Names.{IsFrontOf, Event}
 use Rattle.event_loop.specs.Durable.{Onward, onward, stays}
 use Rattle.event_loop.specs.LoopStates.{LoopState, Promises}
 use Rattle.event_loop.specs.Served.{Served, begins, goes}

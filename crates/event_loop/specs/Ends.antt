@@ -1,16 +1,13 @@
 -- How the loop ends.
 use Rattle.std.specs.Prelude.{◌≡◌, ◌⊎◌, ◌≤◌, ◌<◌, ℕ, List, Option, Some, None}
-use Rattle.http_edge.specs.Reached.{Journey, Reached}
+use Rattle.event_loop.specs.Names.{Journey, Reached, LoopFault, Ready, HeldMeanwhile, KeepsBasis, KeepsNot, TellsBasis}
 use Rattle.event_loop.specs.declared.clocks.Times.{Times}
-use Rattle.event_loop.specs.declared.fault.LoopFault.{LoopFault}
 use Rattle.event_loop.specs.declared.fault.LoopFault.TheVariants.{Wait, Clock, Keep, Rounds}
 use Rattle.event_loop.specs.declared.limits.Limits.{Limits}
-use Rattle.event_loop.specs.declared.sockets.Ready.{Ready}
 use Rattle.event_loop.specs.declared.tools.Tools.{Tools}
 use Rattle.event_loop.specs.Calls as call
 use Rattle.event_loop.specs.Calls.{Keeping, IsDone}
 use Rattle.event_loop.specs.Done.{HaveDone}
-use Rattle.change_codec.specs.Keeping.{HeldMeanwhile, KeepsBasis, KeepsNot, TellsBasis}
 use Rattle.event_loop.specs.Durable.{Carries, Onward, KeeperHolds, IsWriteKept, IsDurable, IsDurableToEnd, MomentIsHeld, MomentStays}
 use Rattle.event_loop.specs.Places.{AllFree}
 use Rattle.event_loop.specs.LoopStates.{Promises, LoopState, IsAllKept, IsUnkept, with_call}

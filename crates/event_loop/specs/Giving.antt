@@ -1,16 +1,9 @@
 -- How bytes of a connection are given to the edge.
 use Rattle.std.specs.Prelude.{◌≡◌, ◌⊎◌, ◌≤◌, ℕ, true, false, List, [], ◌++◌, None, length}
-use Rattle.rand_chacha.specs.ChaCha.{ChaCha}
-use Rattle.hook_host.specs.declared.host.HookHost.{Ghosts as Hosting}
+use Rattle.event_loop.specs.Names.{ChaCha, Hosting, Piece, SeenEdge, PieceGoesOn, is_closing, IsPieceRefusal, EdgeFault, IsBrought}
 use Rattle.heads.specs.Message.{Message}
-use Rattle.http_edge.specs.Schedule.{Piece}
-use Rattle.http_edge.specs.Edges.{SeenEdge}
-use Rattle.http_edge.specs.Reached.{PieceGoesOn, is_closing}
-use Rattle.http_edge.specs.Refusals.{IsPieceRefusal}
-use Rattle.http_edge.specs.declared.fault.EdgeFault.{EdgeFault}
 use Rattle.http_edge.specs.declared.fault.EdgeFault.TheVariants.{TooManyRequests}
 use Rattle.http_edge.specs.Sources.{draws_for, draws_behind}
-use Rattle.http_edge.specs.Pieces.{IsBrought}
 use Rattle.http_edge.specs.contracts.chance.ChaCha20RngDrawSource.TheImpl as generators
 use Rattle.event_loop.specs.Progress.{Progress, known, led}
 

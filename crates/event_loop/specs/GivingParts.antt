@@ -1,8 +1,5 @@
 -- Beside Giving: only the contracts of this crate's own parts and their proofs cite this, no public clause.
-use Rattle.rand_chacha.specs.ChaCha.{ChaCha}
-use Rattle.hook_host.specs.declared.host.HookHost.{Ghosts as Hosting}
-use Rattle.http_edge.specs.Pieces.{SuppliedEdge}
-use Rattle.http_edge.specs.Reached.{Journey, Reached}
+use Rattle.event_loop.specs.Names.{ChaCha, Hosting, SuppliedEdge, Journey, Reached}
 use Rattle.event_loop.specs.Progress.{Progress}
 
 -- an edge with its draws, on the journey that led to it

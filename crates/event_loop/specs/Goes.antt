@@ -1,18 +1,11 @@
 -- How each part of the loop leads on. Only the contracts of its parts and their proofs cite this: no public clause does.
 use Rattle.std.specs.Prelude.{◌≡◌, ◌≢◌, ◌⊎◌, ◌≤◌, ◌<◌, ◌+◌, ◌-◌, ℕ, Bool, true, false, List, [], ◌∷◌, Option, Some, length, slice_get, slice_set, None, ⊤}
-use Rattle.hook_host.specs.declared.host.HookHost.{Ghosts as Hosting}
-use Rattle.http_edge.specs.Schedule.{World, Connection, connection_at, untaken}
-use Rattle.http_edge.specs.Edges.{SeenEdge}
-use Rattle.http_edge.specs.Reached.{InEach, Journey, Reached, is_closing}
+use Rattle.event_loop.specs.Names.{Hosting, World, Connection, connection_at, untaken, SeenEdge, InEach, Journey, Reached, is_closing, LoopFault, Free, Told, Barred, Waits, Ready}
 use Rattle.event_loop.specs.declared.due.Due.{Due}
 use Rattle.event_loop.specs.declared.due.Due.TheVariants.{Close, Work, Rest}
-use Rattle.event_loop.specs.declared.fault.LoopFault.{LoopFault}
 use Rattle.event_loop.specs.declared.place.Place.{Place}
-use Rattle.event_loop.specs.declared.place.Stage.TheVariants.{Free}
-use Rattle.event_loop.specs.declared.queue.Queue.TheVariants.{Told, Barred, Waits}
 use Rattle.event_loop.specs.declared.report.Report.{Report}
 use Rattle.event_loop.specs.declared.service.Service.{Service}
-use Rattle.event_loop.specs.declared.sockets.Ready.{Ready}
 use Rattle.event_loop.specs.declared.tools.Tools.{Tools}
 use Rattle.event_loop.specs.Calls.{Call, CallKind, Reading, Keeping, Writing, Accepting, IsDone, waits, done_since}
 use Rattle.event_loop.specs.Noting.{Noted}
@@ -115,11 +108,11 @@ pub record DoneAfter (earlier later : List Call) : Type 0 where
   pub keeps : (kind : CallKind) → IsDone kind earlier → IsDone kind later
 
 -- a connection is there, and none took no byte of a reply for longer
-pub record IsLongestAt (places : List Place) (k : ℕ) : Type 0 where
-  pub place : Place
-  pub here : slice_get places k ≡ Some place
-  pub taken : IsOccupied place.stage
-  pub longest : IsSilentLongest places place
+pub record IsLongestAt (places : List Place) (found : ℕ × Place) : Type 0 where
+  pub within : found.0 < 64
+  pub here : slice_get places found.0 ≡ Some found.1
+  pub taken : IsOccupied found.1.stage
+  pub longest : IsSilentLongest places found.1
 
 -- the other places are as they were, and so are their connections
 pub record LeavesOthers (k : ℕ) (service : Service) (world : World) (service' : Service) (world' : World) : Type 0 where
@@ -216,18 +209,18 @@ IsReported service =
 abbrev pub OnlyTells : Service → Service → Type 0
 OnlyTells service service' = service' ≡ record service { told = service'.told; full = service'.full }
 
--- nobody is silent for too long, nor is accepting barred, nor is a report due
-pub record IsQuick (service : Service) : Type 0 where
+-- nobody is silent for too long, nor is accepting barred
+pub record IsCalm (service : Service) : Type 0 where
   pub idle : NobodyIsSilent service
   pub crowded : service.queue ≡ Waits → AreWithin service.limits.crowded service.times service.places
   pub tried : IsTried service
-  pub reported : IsReported service
 
 -- all places are settled, and nobody is to be accepted, or it was tried since the last wait
 pub record IsReadyToWait {H : Type 0} (service : Service) (past : Past H) : Type 0 where
   pub settled : AreAllSettled service past
   pub queue : service.queue ≢ Told ⊎ IsDone Accepting past.calls
-  pub quick : IsQuick service
+  pub calm : IsCalm service
+  pub reported : IsReported service
 
 -- HOW THE PARTS LEAD ON
 

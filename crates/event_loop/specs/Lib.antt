@@ -1,5 +1,4 @@
 -- What public clauses cite. docs/DEFINITIONS.md says what to read in which order.
-pub mod FaultTexts
 pub mod Calls
 pub mod Done
 pub mod Places
@@ -21,3 +20,5 @@ pub mod Ends
 -- What only the contracts of this crate's own parts and their proofs cite.
 pub mod GivingParts
 pub mod Goes
+-- What these files import, passed on.
+pub mod Names

@@ -1,18 +1,12 @@
 -- What the loop knows and works with, at one time.
 use Rattle.std.specs.Prelude.{◌≡◌, ◌≢◌, ℕ, List, ◌∷◌, Option, Some, slice_set}
-use Rattle.hook_host.specs.declared.host.HookHost.{Ghosts as Hosting}
-use Rattle.consent.specs.History.{Event}
-use Rattle.http_edge.specs.Schedule.{World}
-use Rattle.event_loop.specs.declared.sockets.Sockets.{Ghosts as Sockets}
+use Rattle.event_loop.specs.Names.{Hosting, Event, World, Sockets, Journal, Queue, Ready}
 use Rattle.event_loop.specs.declared.clocks.Clocks.{Ghosts as Clocks}
-use Rattle.event_loop.specs.declared.journal.Journal.{Ghosts as Journal}
 use Rattle.endpoints.specs.Keeping.{Keeping}
 use Rattle.event_loop.specs.declared.clocks.Times.{Times}
 use Rattle.event_loop.specs.declared.limits.Limits.{Limits}
 use Rattle.event_loop.specs.declared.place.Place.{Place}
 use Rattle.event_loop.specs.declared.report.LastTold.{LastTold}
-use Rattle.event_loop.specs.declared.queue.Queue.{Queue}
-use Rattle.event_loop.specs.declared.sockets.Ready.{Ready}
 use Rattle.event_loop.specs.Calls.{Call}
 use Rattle.event_loop.specs.Progress.{Progress}
 use Rattle.event_loop.specs.Noting.{Noted}

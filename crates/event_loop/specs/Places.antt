@@ -1,10 +1,6 @@
 -- What is to be done at a place.
 use Rattle.std.specs.Prelude.{◌≡◌, ◌≤◌, ◌<◌, ℕ, Bool, true, false, List, [], Option, Some, count_by, length, slice_get, ⊤}
-use Rattle.http_edge.specs.Schedule.{Connection, untaken}
-use Rattle.http_edge.specs.Reached.{is_closing}
-use Rattle.event_loop.specs.declared.fault.ConnectionFault.{ConnectionFault}
-use Rattle.event_loop.specs.declared.place.Stage.{Stage}
-use Rattle.event_loop.specs.declared.place.Stage.TheVariants.{Free, Open, Ended, Broken}
+use Rattle.event_loop.specs.Names.{Connection, untaken, is_closing, ConnectionFault, Stage, Free, Open, Ended, Broken}
 use Rattle.event_loop.specs.declared.place.Place.{Place}
 
 -- so many connections are served at once

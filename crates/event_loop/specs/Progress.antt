@@ -1,10 +1,6 @@
 -- How far the edge was led.
 use Rattle.std.specs.Prelude.{ℕ, [], ◌∷◌, Option}
-use Rattle.rand_chacha.specs.ChaCha.{ChaCha}
-use Rattle.hook_host.specs.declared.host.HookHost.{Ghosts as Hosting}
-use Rattle.http_edge.specs.Schedule.{Connection, Happening, connection_at}
-use Rattle.http_edge.specs.Edges.{SeenEdge}
-use Rattle.http_edge.specs.Reached.{GoesOn, Journey, Reached, led_on}
+use Rattle.event_loop.specs.Names.{ChaCha, Hosting, Connection, Happening, connection_at, SeenEdge, GoesOn, Journey, Reached, led_on}
 
 -- an edge, the generator of its draws, and the journey that led to it
 pub record Progress (H : Type 0) : Type 0 where

@@ -1,13 +1,8 @@
 -- How connections are read.
 use Rattle.std.specs.Prelude.{◌≡◌, ◌≤◌, ◌<◌, ℕ, false, ◌||◌, List, nat_le, length}
-use Rattle.http_edge.specs.Schedule.{HasEnded, piece_of}
-use Rattle.http_edge.specs.Edges.{SeenEdge}
-use Rattle.http_edge.specs.Reached.{GoesOn}
-use Rattle.http_edge.specs.Refusals.{IsEndingRefusal}
-use Rattle.http_edge.specs.declared.fault.EdgeFault.{EdgeFault}
-use Rattle.event_loop.specs.declared.fault.ConnectionFault.TheVariants.{Read, Refused}
+use Rattle.event_loop.specs.Names.{HasEnded, piece_of, SeenEdge, GoesOn, IsEndingRefusal, EdgeFault, Refused, Ended, Broken}
+use Rattle.event_loop.specs.declared.fault.ConnectionFault.TheVariants.{Read}
 use Rattle.event_loop.specs.declared.place.Place.{Place}
-use Rattle.event_loop.specs.declared.place.Stage.TheVariants.{Ended, Broken}
 use Rattle.event_loop.specs.Calls as call
 use Rattle.event_loop.specs.Calls.{Bytes, End, Nothing, Failed}
 use Rattle.event_loop.specs.Progress.{Progress, led}

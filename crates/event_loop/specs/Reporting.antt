@@ -1,9 +1,7 @@
 -- What the journal is told of the server, and when.
 use Rattle.std.specs.Prelude.{◌≡◌, ◌≤◌, ◌-◌, ℕ, Bool, true, nat_le, Option, Some, None, IsSome, length}
-use Rattle.event_loop.specs.declared.journal.Journal.{Ghosts as Journal}
+use Rattle.event_loop.specs.Names.{Journal, Notice, ImageRefused, Reported, StoreFull}
 use Rattle.event_loop.specs.declared.report.LastTold.{LastTold}
-use Rattle.event_loop.specs.declared.report.Notice.{Notice}
-use Rattle.event_loop.specs.declared.report.Notice.TheVariants.{ImageRefused, Reported, StoreFull}
 use Rattle.event_loop.specs.declared.report.Report.{Report}
 use Rattle.event_loop.specs.Places.{open_count}
 use Rattle.event_loop.specs.LoopStates.{Promises, LoopState}

@@ -1,17 +1,13 @@
 -- All that the loop does, step by step.
 use Rattle.std.specs.Prelude.{◌≡◌, ◌≢◌, ◌⊎◌, ◌<◌, ◌≤◌, ◌-◌, ℕ, Bool, true, false, ◌||◌, List, [], ◌∷◌, Option, Some, None, IsSome, slice_get, length}
+use Rattle.event_loop.specs.Names.{Told, Empty, Barred, Waits, Ready, Keeps, KeepsBasis, SeenEdge, GoesOn, Connection, Notice, Reported}
 use Rattle.event_loop.specs.declared.clocks.Times.{Times}
 use Rattle.event_loop.specs.declared.place.Place.{Place}
-use Rattle.event_loop.specs.declared.queue.Queue.TheVariants.{Told, Empty, Barred, Waits}
-use Rattle.event_loop.specs.declared.sockets.Ready.{Ready}
 use Rattle.event_loop.specs.declared.sockets.Ready.TheVariants as ready
 use Rattle.event_loop.specs.Calls as call
 use Rattle.event_loop.specs.Calls.{Call, Reading, Keeping, Writing, Accepting, IsDone, done_since}
 use Rattle.event_loop.specs.Progress.{known, led, IsReached}
-use Rattle.change_codec.specs.Keeping.{Keeps, KeepsBasis}
-use Rattle.http_edge.specs.Edges.{SeenEdge}
-use Rattle.http_edge.specs.Reached.{GoesOn}
-use Rattle.http_edge.specs.Schedule.{Connection, Kept}
+use Rattle.http_edge.specs.Schedule.{Kept}
 use Rattle.event_loop.specs.Places.{IsOccupied, MayRead, MayWrite, NeedsNoRead, NeedsNoWrite, IsOver, IsPlaceAtRest, AllFree, places_limit, ready_limit}
 use Rattle.event_loop.specs.LoopStates.{Promises, LoopState, IsAllKept, IsUnkept, with_call, with_place}
 use Rattle.event_loop.specs.Coming.{AcceptsOne, told_queue}
@@ -21,8 +17,6 @@ use Rattle.event_loop.specs.Closing.{AreWithin, Cause, Closes}
 use Rattle.event_loop.specs.Reporting.{IsDue, Tells, TellsRefusal, is_long_ago}
 use Rattle.event_loop.specs.Moments.{KeepsTimes}
 use Rattle.event_loop.specs.declared.report.LastTold.{LastTold}
-use Rattle.event_loop.specs.declared.report.Notice.{Notice}
-use Rattle.event_loop.specs.declared.report.Notice.TheVariants.{Reported}
 use Rattle.event_loop.specs.declared.report.Report.{Report}
 
 -- nothing is to be done now: at no place, and nobody is to be accepted

@@ -1,9 +1,8 @@
 //! Accepting connections.
-ghost use Rattle.std.specs.Prelude.{◌≡◌, ◌≢◌, ◌<◌, ℕ, ⊤, Some, IfSome, IfNone};
-ghost use Rattle.event_loop.specs.declared.queue.Queue.TheVariants.{Told, Waits};
+ghost use Rattle.std.specs.Prelude.{◌≡◌, ◌<◌, ⊤, Some, IfSome, IfNone};
+ghost use Rattle.event_loop.specs.declared.queue.Queue.TheVariants.{Told};
 ghost use Rattle.event_loop.specs.Places.{IsFreeAt, AllTaken};
-ghost use Rattle.event_loop.specs.Closing.{AreWithin};
-ghost use Rattle.event_loop.specs.Goes.{IsTried, LeadsToAccepts, running, keeping, promises};
+ghost use Rattle.event_loop.specs.Goes.{IsCalm, LeadsToAccepts, running, keeping, promises};
 
 use crate::fault::ConnectionFault;
 use crate::limits::PLACES;
@@ -28,80 +27,69 @@ impl Service {
         }
         None
     }
+}
 
+impl<N: Sockets, C: Clocks, J: Journal, K: ImageKeeper, H: HookHost> Tools<N, C, J, K, H> {
     // Accepts a connection at a place, if one waits.
-    fn admit<N: Sockets, C: Clocks, J: Journal, K: ImageKeeper, H: HookHost>(
-        &mut self,
-        tools: &mut Tools<N, C, J, K, H>,
-        k: u32,
-    )
+    fn admit(&mut self, service: &mut Service, k: u32)
         requires bound { k < 64 }
-        requires free { IsFreeAt self.old.places k }
-        requires told { self.old.queue ≡ Told }
-        ensures leads { LeadsToAccepts (promises N.Sockets C.Clocks J.Journal (keeping K.Keeper K.ImageKeeper.own) H.HookHost) ⊤ (running self.old tools.old) (running self.new tools.new) }
-        ensures within { (limit : ℕ) → AreWithin limit self.old.times self.old.places → AreWithin limit self.new.times self.new.places }
-        ensures waits { self.new.queue ≢ Waits }
-        ensures tried { IsTried self.new }
-        ensures limits { self.new.limits ≡ self.old.limits }
+        requires free { IsFreeAt service.old.places k }
+        requires told { service.old.queue ≡ Told }
+        ensures leads { LeadsToAccepts (promises N.Sockets C.Clocks J.Journal (keeping K.Keeper K.ImageKeeper.own) H.HookHost) ⊤ (running service.old self.old) (running service.new self.new) }
+        ensures calm { IsCalm service.old → IsCalm service.new }
     {
-        match tools.sockets.accept(k) {
-            Accepted::Taken => match tools.edge.event(Event::Open(ConnectionNo::new(k))) {
+        match self.sockets.accept(k) {
+            Accepted::Taken => match self.edge.event(Event::Open(ConnectionNo::new(k))) {
                 Ok(()) => {
-                    self.places[k as usize] = Place {
+                    service.places[k as usize] = Place {
                         stage: Stage::Open,
                         readable: false,
                         writable: true,
                         hung: false,
-                        since: self.times.steady,
+                        since: service.times.steady,
                     };
-                    self.accepted = self.accepted.saturating_add(1);
+                    service.accepted = service.accepted.saturating_add(1);
                 }
                 Err(fault) => {
-                    tools.sockets.close(k);
+                    self.sockets.close(k);
                     let cause = ConnectionFault::Refused(fault);
                     note(
-                        &mut self.noted,
-                        &mut tools.journal,
+                        &mut service.noted,
+                        &mut self.journal,
                         cause,
-                        self.times.steady,
+                        service.times.steady,
                     );
                 }
             },
-            Accepted::Later => self.queue = Queue::Empty,
+            Accepted::Later => service.queue = Queue::Empty,
             Accepted::Failed => {
-                self.queue = Queue::Barred(self.times.steady);
+                service.queue = Queue::Barred(service.times.steady);
                 let cause = ConnectionFault::Accept;
                 note(
-                    &mut self.noted,
-                    &mut tools.journal,
+                    &mut service.noted,
+                    &mut self.journal,
                     cause,
-                    self.times.steady,
+                    service.times.steady,
                 );
             }
         }
     }
 
     /// Accepts connections while one may wait. Where all places are taken, the listener is asked whether one waits.
-    pub(crate) fn admit_all<N: Sockets, C: Clocks, J: Journal, K: ImageKeeper, H: HookHost>(
-        &mut self,
-        tools: &mut Tools<N, C, J, K, H>,
-    )
-        ensures leads { LeadsToAccepts (promises N.Sockets C.Clocks J.Journal (keeping K.Keeper K.ImageKeeper.own) H.HookHost) (self.new.queue ≡ Told) (running self.old tools.old) (running self.new tools.new) }
-        ensures within { (limit : ℕ) → AreWithin limit self.old.times self.old.places → AreWithin limit self.new.times self.new.places }
-        ensures waits { self.new.queue ≡ Waits → self.old.queue ≡ Waits }
-        ensures tried { IsTried self.old → IsTried self.new }
-        ensures limits { self.new.limits ≡ self.old.limits }
+    pub(crate) fn admit_all(&mut self, service: &mut Service)
+        ensures leads { LeadsToAccepts (promises N.Sockets C.Clocks J.Journal (keeping K.Keeper K.ImageKeeper.own) H.HookHost) (service.new.queue ≡ Told) (running service.old self.old) (running service.new self.new) }
+        ensures calm { IsCalm service.old → IsCalm service.new }
     {
         for _nth in 0..PLACES {
-            let Queue::Told = self.queue else {
+            let Queue::Told = service.queue else {
                 return;
             };
-            let Some(k) = self.free_place() else {
-                tools.sockets.ask();
-                self.queue = Queue::Asked;
+            let Some(k) = service.free_place() else {
+                self.sockets.ask();
+                service.queue = Queue::Asked;
                 return;
             };
-            self.admit(tools, k);
+            self.admit(service, k);
         }
     }
 }

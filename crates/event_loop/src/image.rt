@@ -1,29 +1,16 @@
 //! An image in the place of what is kept.
-ghost use Rattle.std.specs.Prelude.{◌≡◌, true, false, Some, OnOk, IfErr};
+ghost use Rattle.std.specs.Prelude.{◌≡◌, Some, OnOk, IfErr};
 ghost use Rattle.event_loop.specs.Reporting.{TellsRefusal};
-ghost use Rattle.http_edge.specs.Reached.{InEach};
 ghost use Rattle.event_loop.specs.Goes.{LeadsToNoImage, LeadsToShort, running, keeping, promises};
-ghost use Rattle.event_loop.specs.LoopStates.{IsAllKept, IsUnkept};
 
 use crate::fault::LoopFault;
+use crate::keep::unkept;
 use crate::limits::MINUTE;
 use crate::report::Notice;
 use crate::service::Service;
 use crate::tell::is_long_ago;
 use crate::tools::{Clocks, HookHost, Journal, Sockets, Tools};
 use endpoints::{ImageFault, ImageKeeper};
-use http_edge::Edge;
-
-// Whether nothing is unkept.
-fn is_all_kept<H: HookHost>(edge: &Edge<H>) -> bool
-    ensures kept { result ≡ true → InEach H.HookHost edge.now IsAllKept }
-    ensures unkept { result ≡ false → InEach H.HookHost edge.now IsUnkept }
-{
-    match edge.unkept() {
-        Some(batch) => batch.is_empty(),
-        None => true,
-    }
-}
 
 impl Service {
     // An image is refused now. The journal is told once, until one is put.
@@ -36,31 +23,30 @@ impl Service {
         }
         self.refused = Some(self.times.steady);
     }
+}
 
+impl<N: Sockets, C: Clocks, J: Journal, K: ImageKeeper, H: HookHost> Tools<N, C, J, K, H> {
     /// Where nothing is unkept, an image of the server is put in the place of what is kept, where that is long. One that is
     /// refused is tried again after a minute.
-    pub(crate) fn put_image<N: Sockets, C: Clocks, J: Journal, K: ImageKeeper, H: HookHost>(
-        &mut self,
-        tools: &mut Tools<N, C, J, K, H>,
-    ) -> Result<(), LoopFault>
-        ensures put { OnOk result (LeadsToShort (promises N.Sockets C.Clocks J.Journal (keeping K.Keeper K.ImageKeeper.own) H.HookHost) (running self.old tools.old) (running self.new tools.new)) }
-        ensures same { OnOk result (self.new ≡ record self.old { refused = self.new.refused }) }
-        ensures failed { IfErr result (λ fault. LeadsToNoImage (promises N.Sockets C.Clocks J.Journal (keeping K.Keeper K.ImageKeeper.own) H.HookHost) (running self.old tools.old) fault (running self.new tools.new)) }
+    pub(crate) fn put_image(&mut self, service: &mut Service) -> Result<(), LoopFault>
+        ensures put { OnOk result (LeadsToShort (promises N.Sockets C.Clocks J.Journal (keeping K.Keeper K.ImageKeeper.own) H.HookHost) (running service.old self.old) (running service.new self.new)) }
+        ensures same { OnOk result (service.new ≡ record service.old { refused = service.new.refused }) }
+        ensures failed { IfErr result (λ fault. LeadsToNoImage (promises N.Sockets C.Clocks J.Journal (keeping K.Keeper K.ImageKeeper.own) H.HookHost) (running service.old self.old) fault (running service.new self.new)) }
     {
-        if !is_long_ago(self.refused, self.times.steady, MINUTE) {
+        if !is_long_ago(service.refused, service.times.steady, MINUTE) {
             return Ok(());
         }
-        if !is_all_kept(&tools.edge) {
+        if let Some(_batch) = unkept(&self.edge) {
             return Ok(());
         }
-        let Err(fault) = tools.keeper.put_image(tools.edge.server()) else {
-            self.refused = None;
+        let Err(fault) = self.keeper.put_image(self.edge.server()) else {
+            service.refused = None;
             return Ok(());
         };
         match fault {
             ImageFault::Failed => Err(LoopFault::Keep),
             _ => {
-                self.note_refusal(&mut tools.journal);
+                service.note_refusal(&mut self.journal);
                 Ok(())
             }
         }

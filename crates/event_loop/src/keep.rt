@@ -1,27 +1,44 @@
 //! Keeping what changed.
-ghost use Rattle.std.specs.Prelude.{OnOk, IfErr};
+ghost use Rattle.std.specs.Prelude.{OnOk, OnSome, IfErr, IfSome, IfNone, IsSome};
+ghost use Rattle.change_codec.specs.Happened.{Happened};
+ghost use Rattle.http_edge.specs.Edges.{unkept_of};
+ghost use Rattle.http_edge.specs.Reached.{InEach};
+ghost use Rattle.event_loop.specs.LoopStates.{IsAllKept, IsUnkept};
 ghost use Rattle.event_loop.specs.Goes.{LeadsToKept, LeadsToLoss, keeping, promises};
 
 use crate::fault::LoopFault;
 use crate::tools::{Clocks, HookHost, ImageKeeper, Journal, Sockets, Tools};
-use change_codec::Keeper;
+use change_codec::{Batch, Keeper};
+use http_edge::Edge;
 
-/// What is unkept is kept, all at once.
-pub(crate) fn keep_all<N: Sockets, C: Clocks, J: Journal, K: ImageKeeper, H: HookHost>(
-    tools: &mut Tools<N, C, J, K, H>,
-) -> Result<(), LoopFault>
-    ensures kept { OnOk result (LeadsToKept (promises N.Sockets C.Clocks J.Journal (keeping K.Keeper K.ImageKeeper.own) H.HookHost) tools.old tools.new) }
-    ensures lost { IfErr result (λ fault. LeadsToLoss (promises N.Sockets C.Clocks J.Journal (keeping K.Keeper K.ImageKeeper.own) H.HookHost) tools.old fault tools.new) }
+/// What is unkept, if anything is.
+pub(crate) fn unkept<H: HookHost>(edge: &Edge<H>) -> Option<&Batch>
+    ensures noted { OnSome result (IsSome (unkept_of edge.now)) }
+    ensures some { IfSome result (λ batch. InEach H.HookHost edge.now (λ world. (it : IsUnkept world) × Happened it.kept batch.now.facts world.history)) }
+    ensures none { IfNone result (InEach H.HookHost edge.now IsAllKept) }
 {
-    let Some(batch) = tools.edge.unkept() else {
-        return Ok(());
+    let Some(batch) = edge.unkept() else {
+        return None;
     };
     if batch.is_empty() {
-        return Ok(());
+        return None;
     }
-    let Ok(()) = tools.keeper.keep(batch) else {
-        return Err(LoopFault::Keep);
-    };
-    tools.edge.forget_unkept();
-    Ok(())
+    Some(batch)
+}
+
+impl<N: Sockets, C: Clocks, J: Journal, K: ImageKeeper, H: HookHost> Tools<N, C, J, K, H> {
+    /// What is unkept is kept, all at once.
+    pub(crate) fn keep_all(&mut self) -> Result<(), LoopFault>
+        ensures kept { OnOk result (LeadsToKept (promises N.Sockets C.Clocks J.Journal (keeping K.Keeper K.ImageKeeper.own) H.HookHost) self.old self.new) }
+        ensures lost { IfErr result (λ fault. LeadsToLoss (promises N.Sockets C.Clocks J.Journal (keeping K.Keeper K.ImageKeeper.own) H.HookHost) self.old fault self.new) }
+    {
+        let Some(batch) = unkept(&self.edge) else {
+            return Ok(());
+        };
+        let Ok(()) = self.keeper.keep(batch) else {
+            return Err(LoopFault::Keep);
+        };
+        self.edge.forget_unkept();
+        Ok(())
+    }
 }

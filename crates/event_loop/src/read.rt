@@ -87,57 +87,53 @@ fn give_all<H: HookHost>(
     Ok(())
 }
 
-impl Service {
+impl<N: Sockets, C: Clocks, J: Journal, K: ImageKeeper, H: HookHost> Tools<N, C, J, K, H> {
     /// Reads a connection once, where it may be read, and gives what came to the edge.
-    pub(crate) fn read<N: Sockets, C: Clocks, J: Journal, K: ImageKeeper, H: HookHost>(
-        &mut self,
-        tools: &mut Tools<N, C, J, K, H>,
-        k: u32,
-    )
+    pub(crate) fn read(&mut self, service: &mut Service, k: u32)
         requires bound { k < 64 }
-        ensures acts { LeadsToActs (promises N.Sockets C.Clocks J.Journal (keeping K.Keeper K.ImageKeeper.own) H.HookHost) (to_read k) (running self.old tools.old) (running self.new tools.new) }
-        ensures due { self.new.due ≡ self.old.due }
+        ensures acts { LeadsToActs (promises N.Sockets C.Clocks J.Journal (keeping K.Keeper K.ImageKeeper.own) H.HookHost) (to_read k) (running service.old self.old) (running service.new self.new) }
+        ensures due { service.new.due ≡ service.old.due }
     {
-        let place = self.place_at(k);
-        if !may_read(&tools.edge, place, k) {
+        let place = service.place_at(k);
+        if !may_read(&self.edge, place, k) {
             return;
         }
         let i = k as usize;
         let connection = ConnectionNo::new(k);
-        match tools.sockets.read(k, &mut self.buffer) {
+        match self.sockets.read(k, &mut service.buffer) {
             Received::Bytes(count) => {
-                let bytes = &self.buffer[..count];
+                let bytes = &service.buffer[..count];
                 match give_all(
-                    &mut tools.edge,
-                    &mut tools.generator,
+                    &mut self.edge,
+                    &mut self.generator,
                     connection,
                     bytes,
-                    self.times.moment,
+                    service.times.moment,
                 ) {
-                    Ok(()) => self.places[i] = place.read(count),
+                    Ok(()) => service.places[i] = place.read(count),
                     Err(fault) => {
                         let stage = Stage::Broken(ConnectionFault::Refused(fault));
-                        self.places[i] = Place { stage, ..place };
+                        service.places[i] = Place { stage, ..place };
                     }
                 }
             }
-            Received::End => match tools.edge.event(Event::End(connection)) {
+            Received::End => match self.edge.event(Event::End(connection)) {
                 Ok(()) => {
                     let stage = Stage::Ended;
-                    self.places[i] = Place { stage, ..place };
+                    service.places[i] = Place { stage, ..place };
                 }
                 Err(fault) => {
                     let stage = Stage::Broken(ConnectionFault::Refused(fault));
-                    self.places[i] = Place { stage, ..place };
+                    service.places[i] = Place { stage, ..place };
                 }
             },
             Received::Later => {
                 let readable = false;
-                self.places[i] = Place { readable, ..place };
+                service.places[i] = Place { readable, ..place };
             }
             Received::Failed => {
                 let stage = Stage::Broken(ConnectionFault::Read);
-                self.places[i] = Place { stage, ..place };
+                service.places[i] = Place { stage, ..place };
             }
         }
     }

@@ -3,9 +3,8 @@ ghost use Rattle.std.specs.Prelude.{◌≡◌, ◌≤◌, length, true, false, O
 ghost use Rattle.event_loop.specs.Places.{AllFree};
 ghost use Rattle.event_loop.specs.Goes.{IsBusy, IsLimit, MayRest, LeadsRound, LeadsWrong, running, keeping, promises};
 
-use crate::clocks::{Clocks, Second};
+use crate::clocks::Clocks;
 use crate::fault::LoopFault;
-use crate::keep::keep_all;
 use crate::limits::PLACES;
 use crate::queue::Queue;
 use crate::service::Service;
@@ -36,7 +35,7 @@ impl Service {
     {
         match self.queue {
             Queue::Told => true,
-            _ => self.has_due(),
+            _ => self.due.end() > 0,
         }
     }
 
@@ -58,44 +57,46 @@ impl Service {
         }
         Some(SECOND)
     }
+}
 
+impl<N: Sockets, C: Clocks, J: Journal, K: ImageKeeper, H: HookHost> Tools<N, C, J, K, H> {
     /// Puts an image in the place of what is kept, where that is long. Then waits once, looks at the clocks, whose moment is
     /// kept, notes what was found, reads each place, keeps what changed, writes to each, closes and accepts, and then tells
     /// the journal what is due.
-    pub(crate) fn round<N: Sockets, C: Clocks, J: Journal, K: ImageKeeper, H: HookHost>(
+    pub(crate) fn round(
         &mut self,
-        tools: &mut Tools<N, C, J, K, H>,
+        service: &mut Service,
         found: &mut [Ready],
     ) -> Result<(), LoopFault>
         requires room { 65 ≤ length found.old }
-        ensures goes { OnOk result (LeadsRound (promises N.Sockets C.Clocks J.Journal (keeping K.Keeper K.ImageKeeper.own) H.HookHost) 1 (running self.old tools.old) (running self.new tools.new)) }
-        ensures wrong { IfErr result (λ fault. LeadsWrong (promises N.Sockets C.Clocks J.Journal (keeping K.Keeper K.ImageKeeper.own) H.HookHost) fault (running self.old tools.old) (running self.new tools.new)) }
+        ensures goes { OnOk result (LeadsRound (promises N.Sockets C.Clocks J.Journal (keeping K.Keeper K.ImageKeeper.own) H.HookHost) 1 (running service.old self.old) (running service.new self.new)) }
+        ensures wrong { IfErr result (λ fault. LeadsWrong (promises N.Sockets C.Clocks J.Journal (keeping K.Keeper K.ImageKeeper.own) H.HookHost) fault (running service.old self.old) (running service.new self.new)) }
     {
-        if let Err(fault) = self.put_image(tools) {
+        if let Err(fault) = self.put_image(service) {
             return Err(fault);
         }
-        let limit = self.wait_limit();
-        let Some(count) = tools.sockets.wait(limit, found) else {
+        let limit = service.wait_limit();
+        let Some(count) = self.sockets.wait(limit, found) else {
             return Err(LoopFault::Wait);
         };
-        let Some(times) = tools.clocks.read() else {
+        let Some(times) = self.clocks.read() else {
             return Err(LoopFault::Clock);
         };
-        let Ok(()) = tools.keeper.keep_moment(times.moment) else {
+        let Ok(()) = self.keeper.keep_moment(times.moment) else {
             return Err(LoopFault::Keep);
         };
-        let second = Second::of(times.steady, self.times.steady);
-        self.times = times;
-        self.hear_all(tools, &found[..count]);
-        self.read_all(tools);
-        if let Err(fault) = keep_all(tools) {
+        let is_same_second = times.steady == service.times.steady;
+        service.times = times;
+        self.hear_all(service, &found[..count]);
+        self.read_all(service);
+        if let Err(fault) = self.keep_all() {
             return Err(fault);
         }
-        self.write_all(tools);
-        self.tidy(tools, second);
-        self.make_room(tools);
-        self.admit_all(tools);
-        self.tell(tools);
+        self.write_all(service);
+        self.tidy(service, is_same_second);
+        self.make_room(service);
+        self.admit_all(service);
+        self.tell(service);
         Ok(())
     }
 }

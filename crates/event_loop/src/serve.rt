@@ -8,17 +8,14 @@ use crate::service::Service;
 use crate::sockets::{Ready, Sockets};
 use crate::tools::{Clocks, HookHost, ImageKeeper, Journal, Tools};
 
-impl Service {
+impl<N: Sockets, C: Clocks, J: Journal, K: ImageKeeper, H: HookHost> Tools<N, C, J, K, H> {
     // Makes round after round.
-    fn rounds<N: Sockets, C: Clocks, J: Journal, K: ImageKeeper, H: HookHost>(
-        &mut self,
-        tools: &mut Tools<N, C, J, K, H>,
-    ) -> LoopFault
-        ensures { LeadsWrong (promises N.Sockets C.Clocks J.Journal (keeping K.Keeper K.ImageKeeper.own) H.HookHost) result (running self.old tools.old) (running self.new tools.new) }
+    fn rounds(&mut self, service: &mut Service) -> LoopFault
+        ensures { LeadsWrong (promises N.Sockets C.Clocks J.Journal (keeping K.Keeper K.ImageKeeper.own) H.HookHost) result (running service.old self.old) (running service.new self.new) }
     {
         let mut found = [Ready::Listener; 65];
         for _nth in 0..u64::MAX {
-            if let Err(fault) = self.round(tools, &mut found) {
+            if let Err(fault) = self.round(service, &mut found) {
                 return fault;
             }
         }
@@ -38,8 +35,8 @@ pub fn serve_all<N: Sockets, C: Clocks, J: Journal, K: ImageKeeper, H: HookHost>
         return LoopFault::Clock;
     };
     let mut service = Service::new(limits, times);
-    let fault = service.rounds(tools);
-    service.leave_all(tools);
-    service.tell_last(tools);
+    let fault = tools.rounds(&mut service);
+    tools.leave_all(&mut service);
+    tools.tell_last(&service);
     fault
 }

@@ -1,8 +1,8 @@
 //! What the loop knows.
-ghost use Rattle.std.specs.Prelude.{◌≡◌, ◌<◌, true, false, None, Some, length, slice_get};
+ghost use Rattle.std.specs.Prelude.{◌≡◌, ◌<◌, None, Some, length, slice_get};
 ghost use Rattle.event_loop.specs.declared.queue.Queue.TheVariants.{Empty};
 ghost use Rattle.event_loop.specs.Places.{AllFree};
-ghost use Rattle.event_loop.specs.Goes.{IsDueSomewhere, IsDueNowhere};
+ghost use Rattle.event_loop.specs.Goes.{IsDueNowhere};
 
 use crate::clocks::Times;
 use crate::due::DuePlaces;
@@ -78,13 +78,5 @@ impl Service {
         ensures { slice_get self.now.places k ≡ Some result }
     {
         self.places[k as usize]
-    }
-
-    /// Whether something may be due at some place.
-    pub(crate) fn has_due(&self) -> bool
-        ensures due { result ≡ true → IsDueSomewhere self.now }
-        ensures none { result ≡ false → IsDueNowhere self.now }
-    {
-        self.due.end() > 0
     }
 }

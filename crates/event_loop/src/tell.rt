@@ -34,96 +34,82 @@ impl Service {
         }
         count
     }
+}
 
+impl<N: Sockets, C: Clocks, J: Journal, K: ImageKeeper, H: HookHost> Tools<N, C, J, K, H> {
     // What there is to report.
-    fn report_now<N: Sockets, C: Clocks, J: Journal, K: ImageKeeper, H: HookHost>(
-        &self,
-        tools: &Tools<N, C, J, K, H>,
-    ) -> Report
-        ensures { TellsNow (promises N.Sockets C.Clocks J.Journal (keeping K.Keeper K.ImageKeeper.own) H.HookHost) (running self.now tools.now) result }
+    fn report_now(&self, service: &Service) -> Report
+        ensures { TellsNow (promises N.Sockets C.Clocks J.Journal (keeping K.Keeper K.ImageKeeper.own) H.HookHost) (running service.now self.now) result }
     {
-        let server = tools.edge.server();
+        let server = self.edge.server();
         Report {
             moment: server.moment(),
-            seconds: self.times.steady.saturating_sub(self.began),
-            open: self.open_count(),
-            accepted: self.accepted,
+            seconds: service.times.steady.saturating_sub(service.began),
+            open: service.open_count(),
+            accepted: service.accepted,
             tally: *server.tally(),
             records: server.record_count(),
             consents: server.consent_count(),
             hooks: server.hook_count(),
-            state: tools.keeper.size(),
+            state: self.keeper.size(),
         }
     }
 
     // Where reports are wanted, the journal is told that the store was full, unless it was within a minute.
-    fn tell_full<N: Sockets, C: Clocks, J: Journal, K: ImageKeeper, H: HookHost>(
-        &mut self,
-        tools: &mut Tools<N, C, J, K, H>,
-    )
-        requires wanted { IsSome self.old.limits.report }
-        ensures leads { SettlesAll (promises N.Sockets C.Clocks J.Journal (keeping K.Keeper K.ImageKeeper.own) H.HookHost) (running self.old tools.old) (running self.new tools.new) }
-        ensures rest { OnlyTells self.old self.new }
-        ensures report { self.new.told.report ≡ self.old.told.report }
+    fn tell_full(&mut self, service: &mut Service)
+        requires wanted { IsSome service.old.limits.report }
+        ensures leads { SettlesAll (promises N.Sockets C.Clocks J.Journal (keeping K.Keeper K.ImageKeeper.own) H.HookHost) (running service.old self.old) (running service.new self.new) }
+        ensures rest { OnlyTells service.old service.new }
+        ensures report { service.new.told.report ≡ service.old.told.report }
     {
-        let full = tools.edge.server().tally().wanted.store_room;
-        if full == self.full {
+        let full = self.edge.server().tally().wanted.store_room;
+        if full == service.full {
             return;
         }
-        self.full = full;
-        if !is_long_ago(self.told.full, self.times.steady, MINUTE) {
+        service.full = full;
+        if !is_long_ago(service.told.full, service.times.steady, MINUTE) {
             return;
         }
-        tools.journal.report(&Notice::StoreFull);
-        self.told.full = Some(self.times.steady);
+        self.journal.report(&Notice::StoreFull);
+        service.told.full = Some(service.times.steady);
     }
 
     // And what there is to report, unless so many seconds have not passed.
-    fn tell_report<N: Sockets, C: Clocks, J: Journal, K: ImageKeeper, H: HookHost>(
-        &mut self,
-        tools: &mut Tools<N, C, J, K, H>,
-        every: u64,
-    )
-        requires wanted { self.old.limits.report ≡ Some every }
-        ensures leads { SettlesAll (promises N.Sockets C.Clocks J.Journal (keeping K.Keeper K.ImageKeeper.own) H.HookHost) (running self.old tools.old) (running self.new tools.new) }
-        ensures rest { OnlyTells self.old self.new }
-        ensures reported { IsReported self.new }
+    fn tell_report(&mut self, service: &mut Service, every: u64)
+        requires wanted { service.old.limits.report ≡ Some every }
+        ensures leads { SettlesAll (promises N.Sockets C.Clocks J.Journal (keeping K.Keeper K.ImageKeeper.own) H.HookHost) (running service.old self.old) (running service.new self.new) }
+        ensures rest { OnlyTells service.old service.new }
+        ensures reported { IsReported service.new }
     {
-        if self.times.steady.saturating_sub(self.told.report) < every {
+        if service.times.steady.saturating_sub(service.told.report) < every {
             return;
         }
-        let report = self.report_now(tools);
-        tools.journal.report(&Notice::Reported(report));
-        self.told.report = self.times.steady;
+        let report = self.report_now(service);
+        self.journal.report(&Notice::Reported(report));
+        service.told.report = service.times.steady;
     }
 
     /// Where reports are wanted, the journal is told what is due.
-    pub(crate) fn tell<N: Sockets, C: Clocks, J: Journal, K: ImageKeeper, H: HookHost>(
-        &mut self,
-        tools: &mut Tools<N, C, J, K, H>,
-    )
-        ensures leads { SettlesAll (promises N.Sockets C.Clocks J.Journal (keeping K.Keeper K.ImageKeeper.own) H.HookHost) (running self.old tools.old) (running self.new tools.new) }
-        ensures rest { OnlyTells self.old self.new }
-        ensures reported { IsReported self.new }
+    pub(crate) fn tell(&mut self, service: &mut Service)
+        ensures leads { SettlesAll (promises N.Sockets C.Clocks J.Journal (keeping K.Keeper K.ImageKeeper.own) H.HookHost) (running service.old self.old) (running service.new self.new) }
+        ensures rest { OnlyTells service.old service.new }
+        ensures reported { IsReported service.new }
     {
-        let Some(every) = self.limits.report else {
+        let Some(every) = service.limits.report else {
             return;
         };
-        self.tell_full(tools);
-        self.tell_report(tools, every);
+        self.tell_full(service);
+        self.tell_report(service, every);
     }
 
     /// Where reports are wanted, there is a last one.
-    pub(crate) fn tell_last<N: Sockets, C: Clocks, J: Journal, K: ImageKeeper, H: HookHost>(
-        &self,
-        tools: &mut Tools<N, C, J, K, H>,
-    )
-        ensures { LeadsLast (promises N.Sockets C.Clocks J.Journal (keeping K.Keeper K.ImageKeeper.own) H.HookHost) (running self.now tools.old) (running self.now tools.new) }
+    pub(crate) fn tell_last(&mut self, service: &Service)
+        ensures { LeadsLast (promises N.Sockets C.Clocks J.Journal (keeping K.Keeper K.ImageKeeper.own) H.HookHost) (running service.now self.old) (running service.now self.new) }
     {
-        let Some(_every) = self.limits.report else {
+        let Some(_every) = service.limits.report else {
             return;
         };
-        let report = self.report_now(tools);
-        tools.journal.report(&Notice::Reported(report));
+        let report = self.report_now(service);
+        self.journal.report(&Notice::Reported(report));
     }
 }

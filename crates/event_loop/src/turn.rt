@@ -7,18 +7,14 @@ use crate::service::Service;
 use crate::sockets::{Ready, Sockets};
 use crate::tools::{Clocks, HookHost, ImageKeeper, Journal, Tools};
 
-impl Service {
+impl<N: Sockets, C: Clocks, J: Journal, K: ImageKeeper, H: HookHost> Tools<N, C, J, K, H> {
     // What was found ready is noted.
-    fn hear<N: Sockets, C: Clocks, J: Journal, K: ImageKeeper, H: HookHost>(
-        &mut self,
-        tools: &Tools<N, C, J, K, H>,
-        ready: Ready,
-    )
-        ensures hears { HearsOf (promises N.Sockets C.Clocks J.Journal (keeping K.Keeper K.ImageKeeper.own) H.HookHost) ready (running self.old tools.now) (running self.new tools.now) }
-        ensures within { NobodyIsSilent self.old → NobodyIsSilent self.new }
+    fn hear(&self, service: &mut Service, ready: Ready)
+        ensures hears { HearsOf (promises N.Sockets C.Clocks J.Journal (keeping K.Keeper K.ImageKeeper.own) H.HookHost) ready (running service.old self.now) (running service.new self.now) }
+        ensures within { NobodyIsSilent service.old → NobodyIsSilent service.new }
     {
         match ready {
-            Ready::Listener => self.queue = self.queue.told(),
+            Ready::Listener => service.queue = service.queue.told(),
             Ready::Connection {
                 place: k,
                 readable,
@@ -28,55 +24,45 @@ impl Service {
                 if k >= PLACES {
                     return;
                 }
-                let place = self.place_at(k);
-                self.places[k as usize] = place.told(readable, writable, hung);
-                self.due.add(k);
+                let place = service.place_at(k);
+                service.places[k as usize] = place.told(readable, writable, hung);
+                service.due.add(k);
             }
         }
     }
 
     /// All that was found ready is noted.
-    pub(crate) fn hear_all<N: Sockets, C: Clocks, J: Journal, K: ImageKeeper, H: HookHost>(
-        &mut self,
-        tools: &Tools<N, C, J, K, H>,
-        found: &[Ready],
-    )
-        ensures hears { LeadsToHearing (promises N.Sockets C.Clocks J.Journal (keeping K.Keeper K.ImageKeeper.own) H.HookHost) found.now (running self.old tools.now) [] (running self.new tools.now) }
-        ensures within { NobodyIsSilent self.old → NobodyIsSilent self.new }
+    pub(crate) fn hear_all(&self, service: &mut Service, found: &[Ready])
+        ensures hears { LeadsToHearing (promises N.Sockets C.Clocks J.Journal (keeping K.Keeper K.ImageKeeper.own) H.HookHost) found.now (running service.old self.now) [] (running service.new self.now) }
+        ensures within { NobodyIsSilent service.old → NobodyIsSilent service.new }
     {
         for index in 0..found.len() {
-            self.hear(tools, found[index]);
+            self.hear(service, found[index]);
         }
     }
 
     /// Each connection where something may be due is read once, where it may be.
-    pub(crate) fn read_all<N: Sockets, C: Clocks, J: Journal, K: ImageKeeper, H: HookHost>(
-        &mut self,
-        tools: &mut Tools<N, C, J, K, H>,
-    )
-        ensures { LeadsReading (promises N.Sockets C.Clocks J.Journal (keeping K.Keeper K.ImageKeeper.own) H.HookHost) 64 (running self.old tools.old) (running self.new tools.new) }
+    pub(crate) fn read_all(&mut self, service: &mut Service)
+        ensures { LeadsReading (promises N.Sockets C.Clocks J.Journal (keeping K.Keeper K.ImageKeeper.own) H.HookHost) 64 (running service.old self.old) (running service.new self.new) }
     {
-        for k in 0..self.due.end() {
-            if !self.due.is_at(k) {
+        for k in 0..service.due.end() {
+            if !service.due.is_at(k) {
                 continue;
             }
-            self.read(tools, k);
+            self.read(service, k);
         }
     }
 
     /// Each connection where something may be due is written to once, where it may be, and closed where it is over.
-    pub(crate) fn write_all<N: Sockets, C: Clocks, J: Journal, K: ImageKeeper, H: HookHost>(
-        &mut self,
-        tools: &mut Tools<N, C, J, K, H>,
-    )
-        ensures { LeadsWriting (promises N.Sockets C.Clocks J.Journal (keeping K.Keeper K.ImageKeeper.own) H.HookHost) 64 (running self.old tools.old) (running self.new tools.new) }
+    pub(crate) fn write_all(&mut self, service: &mut Service)
+        ensures { LeadsWriting (promises N.Sockets C.Clocks J.Journal (keeping K.Keeper K.ImageKeeper.own) H.HookHost) 64 (running service.old self.old) (running service.new self.new) }
     {
-        for k in 0..self.due.end() {
-            if !self.due.is_at(k) {
+        for k in 0..service.due.end() {
+            if !service.due.is_at(k) {
                 continue;
             }
-            self.write(tools, k);
-            self.settle(tools, k);
+            self.write(service, k);
+            self.settle(service, k);
         }
     }
 }

@@ -9,40 +9,36 @@ use crate::sockets::{Sent, Sockets};
 use crate::tools::{Clocks, HookHost, ImageKeeper, Journal, Tools};
 use http_edge::ConnectionNo;
 
-impl Service {
+impl<N: Sockets, C: Clocks, J: Journal, K: ImageKeeper, H: HookHost> Tools<N, C, J, K, H> {
     /// Writes to a connection once, where there is output and the socket may take it.
-    pub(crate) fn write<N: Sockets, C: Clocks, J: Journal, K: ImageKeeper, H: HookHost>(
-        &mut self,
-        tools: &mut Tools<N, C, J, K, H>,
-        k: u32,
-    )
+    pub(crate) fn write(&mut self, service: &mut Service, k: u32)
         requires bound { k < 64 }
-        ensures acts { LeadsToActs (promises N.Sockets C.Clocks J.Journal (keeping K.Keeper K.ImageKeeper.own) H.HookHost) (to_write k) (running self.old tools.old) (running self.new tools.new) }
-        ensures due { self.new.due ≡ self.old.due }
+        ensures acts { LeadsToActs (promises N.Sockets C.Clocks J.Journal (keeping K.Keeper K.ImageKeeper.own) H.HookHost) (to_write k) (running service.old self.old) (running service.new self.new) }
+        ensures due { service.new.due ≡ service.old.due }
     {
         let i = k as usize;
-        let place = self.place_at(k);
+        let place = service.place_at(k);
         if !place.may_take() {
             return;
         }
         let connection = ConnectionNo::new(k);
-        let output = tools.edge.output(connection);
+        let output = self.edge.output(connection);
         if output.is_empty() {
             return;
         }
-        match tools.sockets.write(k, output) {
+        match self.sockets.write(k, output) {
             Sent::Bytes(count) => {
-                tools.edge.take(connection, count);
-                let since = self.times.steady;
-                self.places[i] = Place { since, ..place };
+                self.edge.take(connection, count);
+                let since = service.times.steady;
+                service.places[i] = Place { since, ..place };
             }
             Sent::Later => {
                 let writable = false;
-                self.places[i] = Place { writable, ..place };
+                service.places[i] = Place { writable, ..place };
             }
             Sent::Failed => {
                 let stage = Stage::Broken(ConnectionFault::Write);
-                self.places[i] = Place { stage, ..place };
+                service.places[i] = Place { stage, ..place };
             }
         }
     }

@@ -1,14 +1,13 @@
 -- What is given was decided by each hook.
 use Rattle.std.proofs.Common.{arith, ◌≡◌, inl, inr, ℕ, List, [], ◌∷◌, length, refl, sym, ap, ◌∙◌}
+use Rattle.headline.specs.Names.{Access, Refresh, Checked, narrowed_by, narrowed_by_hook}
 use Rattle.headline.proofs.Names.{fold, All-nil, All-cons, RegistryRecord, Change, Grant, grants, is_named, Spent, Token, Ask, Narrowed, Allowed, Denied, EmptyScope, met, met_with, Extent, Outcome}
 use Rattle.headline.proofs.Names.{Setting, own_ask, access_issued, new_token, Occasion, outcome_of, setting_on}
 use Rattle.std.specs.Prelude.{All}
 use Rattle.consent.specs.History.{Event}
-use Rattle.consent.specs.declared.grant.TokenKind.TheVariants.{Access, Refresh}
 use Rattle.consent.specs.Changes.{issued_with, token_issued}
 use Rattle.consent.specs.declared.change.NewToken.{NewToken}
-use Rattle.verifier.specs.Verdicts.{Checked}
-use Rattle.hook_chain.specs.Exits.{narrowed_by, narrowed_by_hook, narrowed_further}
+use Rattle.hook_chain.specs.Exits.{narrowed_further}
 use Rattle.headline.specs.Decided.{AllowInTurn, IsOfLeft, IsDecided}
 use Rattle.headline.proofs.Bearing.{find_contains}
 use Rattle.headline.proofs.Ways.{IsLeft, Refreshing, Way, ByToken, Once, Twice, Refreshed, Own, at_each, both_issued, code_ask, one_issued, outcome_by, refresh_ask}

@@ -1,14 +1,11 @@
 -- Calls that were made on a new edge, one more at a time.
 use Rattle.std.proofs.Common.{◌≡◌, List, [], ◌∷◌, ◌++◌, length, take, refl, sym, ap, subst, ◌∙◌}
+use Rattle.headline.specs.Names.{SeenEdge, Journey, Reached, led_on, new_journey, EdgeCall, Take, Forget, Upshot, Done, Refused}
 use Rattle.headline.proofs.Names.{Hosting, Outset, Happening, Opened, Came, HasEnded, Taken, Forgotten, connection_at, piece_of, untaken, IsMade}
-use Rattle.http_edge.specs.Edges.{SeenEdge}
-use Rattle.http_edge.specs.Reached.{GoesOn, Journey, Reached, led_on, new_journey}
+use Rattle.http_edge.specs.Reached.{GoesOn}
 use Rattle.http_edge.proofs.Showing.{shows_output}
 use Rattle.http_edge.specs.declared.event.Event.TheVariants as event
-use Rattle.headline.specs.declared.call.EdgeCall.{EdgeCall}
-use Rattle.headline.specs.declared.call.EdgeCall.TheVariants.{Event, Take, Forget}
-use Rattle.headline.specs.declared.call.Upshot.{Upshot}
-use Rattle.headline.specs.declared.call.Upshot.TheVariants.{Done, Refused}
+use Rattle.headline.specs.declared.call.EdgeCall.TheVariants.{Event}
 use Rattle.headline.specs.Calls.{Lead}
 use Rattle.headline.specs.Making.{CallLeads}
 

@@ -1,18 +1,8 @@
 -- What is told of live tokens (RFC 7662, section 2.2).
 use Rattle.std.specs.Prelude.{◌≡◌, ◌≤◌, ◌<◌, ◌+◌, ℕ, List, true, false, Some, codes, option_map}
-use Rattle.params.specs.Form.{value_sent}
-use Rattle.params.specs.Scope.{scope_text}
-use Rattle.clients.specs.RegistryRecord.{RegistryRecord}
-use Rattle.clients.specs.Clients.{client_at}
-use Rattle.clients.specs.Owners.{sub_of}
-use Rattle.consent.specs.History.{Event, Grant, grant_at, has_ended, is_code, is_single_use, is_spent}
-use Rattle.consent.specs.declared.grant.Kind.TheVariants.{Token}
-use Rattle.consent.specs.declared.grant.TokenKind.{TokenKind}
-use Rattle.messages.specs.Reply.{Body}
-use Rattle.messages.specs.Reply.Body.{Active}
-use Rattle.answers.specs.Requesters.{Parameters}
-use Rattle.answers.specs.Texts.{digest_told}
-use Rattle.endpoints.specs.Bounded.{token_life_limit}
+use Rattle.headline.specs.Names.{value_sent, scope_text, RegistryRecord, client_at, sub_of, Grant, grant_at, has_ended, is_code, is_single_use, is_spent, Token, TokenKind, Body, Active, Parameters}
+use Rattle.headline.specs.Names.{digest_told, token_life_limit}
+use Rattle.consent.specs.History.{Event}
 use Rattle.headline.specs.Bearers.{BearsWith}
 use Rattle.headline.specs.Grants.{KeepsScope}
 use Rattle.headline.specs.Occasions.{Occasion, GoesTo, reply_on}

@@ -1,8 +1,7 @@
 -- Whose credentials and keys bring about what happens.
 use Rattle.std.specs.Prelude.{◌≡◌, ◌≢◌, ◌⊎◌, ℕ, List, true, false, Some, All, Contains, length}
-use Rattle.clients.specs.RegistryRecord.{RegistryRecord}
-use Rattle.consent.specs.History.{Event, Change, Grant, Terms, code_terms, grant_at, grants, has_ended}
-use Rattle.consent.specs.History.Change.{Consented, CodeGiven, Issued, Spent, FamilyEnded}
+use Rattle.headline.specs.Names.{RegistryRecord, Change, Grant, Terms, code_terms, grant_at, grants, has_ended, Consented, CodeGiven, Issued, Spent, FamilyEnded}
+use Rattle.consent.specs.History.{Event}
 use Rattle.headline.specs.Bearers.{BearsCredentials, BearsOwnerKey, BearsOperatorKey}
 use Rattle.headline.specs.Occasions.{Occasion, history_after, outcome_of}
 

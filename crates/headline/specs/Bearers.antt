@@ -1,11 +1,9 @@
 -- Whose credentials and keys a request bears.
 use Rattle.std.specs.Prelude.{◌≡◌, ℕ, List, true, Some, Ok}
-use Rattle.clients.specs.RegistryRecord.{RegistryRecord}
-use Rattle.clients.specs.Owners.{owner_with}
+use Rattle.headline.specs.Names.{RegistryRecord, owner_with, Parameters, form_of}
 use Rattle.clients.specs.Registry.{is_operator_key}
 use Rattle.authentication.specs.Authentication.{authenticated}
 use Rattle.messages.specs.Asked.{Asked}
-use Rattle.answers.specs.Requesters.{Parameters, form_of}
 
 -- the credentials of the client of this number (RFC 6749, section 2.3.1), beside these parameters of its form
 pub record BearsWith (rules : RegistryRecord) (asked : Asked) (params : Parameters) (client : ℕ) : Type 0 where

@@ -1,17 +1,12 @@
 -- Calls on an edge, and what came of them.
 use Rattle.std.specs.Prelude.{◌≡◌, ⊤, ℕ, List, [], ◌∷◌, Bool, length, take}
-use Rattle.hook_host.specs.declared.host.HookHost.{Ghosts as Hosting}
-use Rattle.http_edge.specs.Answers.{Mishap}
-use Rattle.http_edge.specs.Schedule.{World, Connection, Happening, Opened, Came, HasEnded, Taken, Forgotten, Happens, connection_at, piece_of, untaken}
-use Rattle.http_edge.specs.Reached.{Journey, led_on}
+use Rattle.headline.specs.Names.{Hosting, Mishap, World, Connection, Happening, Opened, Came, HasEnded, Taken, Forgotten, Happens, connection_at, piece_of, untaken, Journey, led_on, EdgeCall, Take}
+use Rattle.headline.specs.Names.{Forget, Upshot, Done, Refused}
 use Rattle.http_edge.specs.Refusals.{IsEventRefusal}
 use Rattle.http_edge.specs.declared.event.Event.TheVariants as event
 use Rattle.http_edge.specs.declared.fault.EdgeFault.{EdgeFault}
 use Rattle.http_edge.specs.declared.fault.EdgeFault.TheVariants.{Memory}
-use Rattle.headline.specs.declared.call.EdgeCall.{EdgeCall}
-use Rattle.headline.specs.declared.call.EdgeCall.TheVariants.{Event, Take, Forget}
-use Rattle.headline.specs.declared.call.Upshot.{Upshot}
-use Rattle.headline.specs.declared.call.Upshot.TheVariants.{Done, Refused}
+use Rattle.headline.specs.declared.call.EdgeCall.TheVariants.{Event}
 
 -- the call, by which these bytes were taken, is what happened, whatever was free in it
 abbrev pub IsHappening : EdgeCall → List ℕ → Happening → Type 0

@@ -1,11 +1,8 @@
 -- What codes are bound to (RFC 6749, section 4.1.3; RFC 7636, section 4.6).
 use Rattle.std.specs.Prelude.{◌≡◌, ℕ, List, true, codes, Some}
+use Rattle.headline.specs.Names.{value_sent, RegistryRecord, Grant, grant_at, is_code, Parameters, form_of, digest_told}
 use Rattle.pkce.specs.Proof.{challenge_of}
-use Rattle.params.specs.Form.{value_sent}
-use Rattle.clients.specs.RegistryRecord.{RegistryRecord}
-use Rattle.consent.specs.History.{Event, Grant, grant_at, is_code}
-use Rattle.answers.specs.Requesters.{Parameters, form_of}
-use Rattle.answers.specs.Texts.{digest_told}
+use Rattle.consent.specs.History.{Event}
 use Rattle.headline.specs.Bearers.{BearsWith}
 use Rattle.headline.specs.Occasions.{Occasion, GoesTo, reply_on}
 

@@ -1,11 +1,9 @@
 -- The requests and the replies of one connection.
 use Rattle.std.specs.Prelude.{◌≡◌, ◌++◌, ℕ, List, All, Some}
-use Rattle.hook_host.specs.declared.host.HookHost.{Ghosts as Hosting}
+use Rattle.headline.specs.Names.{Hosting, Outset, AnsweredRequest, IsOutcomeOfRequest, AreAskedBy, replies_of, World, Connection, Happening, Run, connection_at, faulty_if, first_world}
+use Rattle.headline.specs.Names.{is_closing_phase}
 use Rattle.consent.specs.History.{Event}
 use Rattle.heads.specs.Message.{Messages}
-use Rattle.endpoints.specs.Server.{Outset}
-use Rattle.http_edge.specs.Answers.{AnsweredRequest, IsOutcomeOfRequest, AreAskedBy, replies_of}
-use Rattle.http_edge.specs.Schedule.{World, Connection, Happening, Run, connection_at, faulty_if, first_world, is_closing_phase}
 
 -- The request has its outcome at a moment and after a history. Which ones they are is said by the schedule.
 pub record HasOutcome {H : Type 0} (hosting : Hosting H) (outset : Outset H) (request : AnsweredRequest) : Type 0 where

@@ -1,16 +1,8 @@
 -- What hooks decided before tokens are given.
 use Rattle.std.specs.Prelude.{◌≡◌, ◌⊎◌, ℕ, List, [], ◌∷◌, All, Contains}
-use Rattle.clients.specs.RegistryRecord.{RegistryRecord}
-use Rattle.consent.specs.History.{Event, Change, Grant, grants}
-use Rattle.consent.specs.History.Change.{Issued}
-use Rattle.consent.specs.declared.grant.Kind.TheVariants.{Token}
-use Rattle.consent.specs.declared.grant.TokenKind.{TokenKind}
-use Rattle.consent.specs.declared.grant.TokenKind.TheVariants.{Access, Refresh}
-use Rattle.hook_record.specs.declared.Ask.{Ask}
-use Rattle.hook_record.specs.declared.Narrowed.TheVariants.{Allowed}
+use Rattle.headline.specs.Names.{RegistryRecord, Change, Grant, grants, Issued, Token, TokenKind, Access, Refresh, Ask, Allowed, Checked, narrowed_by, narrowed_by_hook}
+use Rattle.consent.specs.History.{Event}
 use Rattle.hook_record.specs.Narrowing.{met}
-use Rattle.verifier.specs.Verdicts.{Checked}
-use Rattle.hook_chain.specs.Exits.{narrowed_by, narrowed_by_hook}
 use Rattle.headline.specs.Occasions.{Occasion, outcome_of}
 
 -- each hook, in its turn, was asked for what the one before left, and none denied it: this scope and this life are left

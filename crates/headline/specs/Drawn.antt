@@ -1,11 +1,6 @@
 -- Which random bytes codes and tokens come from.
 use Rattle.std.specs.Prelude.{◌≡◌, ◌⊎◌, ℕ, List, [], ◌∷◌, length, map, take}
-use Rattle.std.specs.List.{flat_map}
-use Rattle.sha2.specs.Sha256.{sha256}
-use Rattle.consent.specs.History.{grants}
-use Rattle.hook_host.specs.declared.host.HookHost.{Ghosts as Hosting}
-use Rattle.endpoints.specs.Server.{Outset}
-use Rattle.http_edge.specs.Schedule.{Happening, Came, Resumed, Run, World, first_world}
+use Rattle.headline.specs.Names.{flat_map, sha256, grants, Hosting, Outset, Happening, Came, Resumed, Run, World, first_world}
 
 -- the digests of the draws that were handed in for the requests that a piece completed, two each; and of the codes and tokens
 -- that were there already, where the server goes on from what was kept

@@ -1,13 +1,9 @@
 -- What codes and tokens keep to.
 use Rattle.std.specs.Prelude.{◌≡◌, ◌≢◌, ◌⊎◌, ℕ, List, ◌∷◌, ◌++◌, true, false, Some, None}
-use Rattle.clients.specs.RegistryRecord.{RegistryRecord}
+use Rattle.headline.specs.Names.{RegistryRecord, client_at, Grant, event_at, grant_at, live_grant, code_terms, is_code, is_within, consented_scope, last_consent, Terms, Consented, Hosting, IsOwn}
+use Rattle.headline.specs.Names.{MayHave, SeenServer, Outset, FitsServer}
 use Rattle.clients.specs.ClientRecord.{ClientRecord}
-use Rattle.clients.specs.Clients.{client_at}
-use Rattle.consent.specs.History.{Event, Grant, event_at, grant_at, live_grant, code_terms, is_code, is_within, consented_scope, last_consent, Terms}
-use Rattle.consent.specs.History.Change.{Consented}
-use Rattle.hook_host.specs.declared.host.HookHost.{Ghosts as Hosting}
-use Rattle.endpoints.specs.Bounded.{IsOwn, MayHave}
-use Rattle.endpoints.specs.Server.{SeenServer, Outset, FitsServer}
+use Rattle.consent.specs.History.{Event}
 
 -- the scope is within what the client may have and, unless the token is the client's own, within what the owner consents to now
 pub record KeepsScope (rules : RegistryRecord) (history : List Event) (token : Grant) : Type 0 where

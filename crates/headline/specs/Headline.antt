@@ -1,11 +1,6 @@
 -- What the server is proved to do, in one sentence.
 use Rattle.std.specs.Prelude.{List}
-use Rattle.hook_host.specs.declared.host.HookHost.{Ghosts as Hosting}
-use Rattle.endpoints.specs.Server.{Outset}
-use Rattle.http_edge.specs.Edges.{SeenEdge}
-use Rattle.http_edge.specs.Reached.{Journey, Reached, new_journey}
-use Rattle.headline.specs.declared.call.EdgeCall.{EdgeCall}
-use Rattle.headline.specs.declared.call.Upshot.{Upshot}
+use Rattle.headline.specs.Names.{Hosting, Outset, SeenEdge, Journey, Reached, new_journey, EdgeCall, Upshot}
 use Rattle.headline.specs.Calls.{Lead}
 
 -- The calls were made on a new edge over a server of this outset, had these upshots, and left this edge.

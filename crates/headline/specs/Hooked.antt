@@ -1,16 +1,8 @@
 -- What hooks leave of tokens.
 use Rattle.std.specs.Prelude.{◌≡◌, ◌≤◌, ⊤, ℕ, List, [], ◌∷◌, true, codes}
-use Rattle.params.specs.Scope.{scope_text}
-use Rattle.clients.specs.RegistryRecord.{RegistryRecord}
-use Rattle.consent.specs.History.{Change, Event, is_within}
-use Rattle.consent.specs.History.Change.{Issued}
-use Rattle.consent.specs.declared.grant.TokenKind.TheVariants.{Access}
-use Rattle.hook_record.specs.declared.Ask.{Ask}
+use Rattle.headline.specs.Names.{scope_text, RegistryRecord, Change, is_within, Issued, Access, Ask, Allowed, Body, Tokens, Outcome}
+use Rattle.consent.specs.History.{Event}
 use Rattle.hook_record.specs.declared.Narrowed.{Narrowed}
-use Rattle.hook_record.specs.declared.Narrowed.TheVariants.{Allowed}
-use Rattle.messages.specs.Reply.{Body}
-use Rattle.messages.specs.Reply.Body.{Tokens}
-use Rattle.answers.specs.Outcomes.{Outcome}
 use Rattle.headline.specs.Occasions.{GoesTo, Occasion, outcome_of, reply_on}
 
 -- a host without hooks allows all that is asked

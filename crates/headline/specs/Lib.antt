@@ -16,3 +16,5 @@ pub mod Decided
 pub mod Drawn
 -- What only the contracts of this crate's own parts and their proofs cite.
 pub mod Making
+-- What these files import, passed on.
+pub mod Names

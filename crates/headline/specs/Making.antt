@@ -1,14 +1,8 @@
 -- One call on an edge, wherever the edge was reached. This is what the proofs of `make_calls` speak of.
 use Rattle.std.specs.Prelude.{◌≡◌, [], length, take}
-use Rattle.hook_host.specs.declared.host.HookHost.{Ghosts as Hosting}
-use Rattle.http_edge.specs.Edges.{SeenEdge, output_of}
-use Rattle.http_edge.specs.Reached.{HappeningLeads, InEach}
+use Rattle.headline.specs.Names.{Hosting, SeenEdge, output_of, HappeningLeads, InEach, Taken, Forgotten, EdgeCall, Take, Forget, Upshot, Done, Refused}
 use Rattle.http_edge.specs.Events.{EventLeads}
-use Rattle.http_edge.specs.Schedule.{Taken, Forgotten}
-use Rattle.headline.specs.declared.call.EdgeCall.{EdgeCall}
-use Rattle.headline.specs.declared.call.EdgeCall.TheVariants.{Event, Take, Forget}
-use Rattle.headline.specs.declared.call.Upshot.{Upshot}
-use Rattle.headline.specs.declared.call.Upshot.TheVariants.{Done, Refused}
+use Rattle.headline.specs.declared.call.EdgeCall.TheVariants.{Event}
 use Rattle.headline.specs.Calls.{IsCause}
 
 -- the call leads from the one edge to the other, or is refused and changes nothing

@@ -1,14 +1,9 @@
 -- A request at a server, what it comes to, and what it leaves.
 use Rattle.std.specs.Prelude.{◌≡◌, ◌≤◌, ℕ, List, [], Bool}
-use Rattle.hook_host.specs.declared.host.HookHost.{Ghosts as Hosting}
-use Rattle.clients.specs.RegistryRecord.{RegistryRecord}
-use Rattle.consent.specs.History.{Event, with_changes}
-use Rattle.messages.specs.Target.{path_of}
-use Rattle.messages.specs.Reply.{Reply}
-use Rattle.answers.specs.Outcomes.{Outcome}
+use Rattle.headline.specs.Names.{Hosting, RegistryRecord, with_changes, path_of, Reply, Outcome, SeenServer, Outset, FitsServer}
+use Rattle.consent.specs.History.{Event}
 use Rattle.answers.specs.Setting.{HostSays, Setting}
 use Rattle.endpoints.specs.Replies.{request_outcome}
-use Rattle.endpoints.specs.Server.{SeenServer, Outset, FitsServer}
 use Rattle.endpoints.specs.Steps.{Arrival}
 
 -- a request as it comes, what the host of hooks says then, and whether memory is refused for it

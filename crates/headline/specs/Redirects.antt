@@ -1,17 +1,9 @@
 -- Where user agents are sent (RFC 6749, section 3.1.2).
 use Rattle.std.specs.Prelude.{◌≡◌, ◌⊎◌, ℕ, List, [], ◌∷◌, Some, Ok, true, codes, is_some}
-use Rattle.sha2.specs.Sha256.{sha256}
+use Rattle.headline.specs.Names.{sha256, read_params, value_sent, RegistryRecord, has_redirect, CodeGiven, Redirection, state_pair, query_of, Outcome, Parameters, KnownClient, client_named}
 use Rattle.pkce.specs.Token.{token_text}
-use Rattle.params.specs.Form.{read_params, value_sent}
-use Rattle.clients.specs.RegistryRecord.{RegistryRecord}
-use Rattle.clients.specs.Clients.{has_redirect}
 use Rattle.consent.specs.History.{Event}
-use Rattle.consent.specs.History.Change.{CodeGiven}
 use Rattle.consent.specs.Facts.{GivenCode}
-use Rattle.messages.specs.Reply.{Redirection, state_pair}
-use Rattle.messages.specs.Target.{query_of}
-use Rattle.answers.specs.Outcomes.{Outcome}
-use Rattle.answers.specs.Requesters.{Parameters, KnownClient, client_named}
 use Rattle.headline.specs.Occasions.{Occasion, outcome_of}
 
 -- the user agent is sent to a redirect URI that the request names and that its client has, with the request's own state, if it

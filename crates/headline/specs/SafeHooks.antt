@@ -1,12 +1,9 @@
 -- What the hooks of a server's own chain do.
 use Rattle.std.specs.Prelude.{◌≡◌, ◌↔◌, ℕ, List, [], All, Some, length}
+use Rattle.headline.specs.Names.{Hosting, Ask, Checked, Exit, IsRunTo, exit_within, narrowed_by}
 use Rattle.insn.specs.Step.{Safe}
 use Rattle.insn.specs.Values.{IsRecord, start}
-use Rattle.hook_host.specs.declared.host.HookHost.{Ghosts as Hosting}
-use Rattle.hook_record.specs.declared.Ask.{Ask}
-use Rattle.verifier.specs.Verdicts.{Checked}
 use Rattle.hook_chain.specs.Chains.{Named, hooks_of}
-use Rattle.hook_chain.specs.Exits.{Exit, IsRunTo, exit_within, narrowed_by}
 use Rattle.consent.specs.History.{Event}
 use Rattle.endpoints.specs.Hosts.{HostRun}
 

@@ -1,14 +1,9 @@
 -- What is done with codes and tokens, by requests and their replies.
 use Rattle.std.specs.Prelude.{◌≡◌, ◌≢◌, ◌⊎◌, ◌++◌, ℕ, List, true, codes, Some}
-use Rattle.std.specs.List.{list_any}
+use Rattle.headline.specs.Names.{list_any, value_sent, RegistryRecord, Grant, grant_at, grants, is_code, is_spent, live_grant, Failure, Parameters, form_of, digest_told}
 use Rattle.std.specs.Str.{bytes_eq}
-use Rattle.params.specs.Form.{value_sent}
-use Rattle.clients.specs.RegistryRecord.{RegistryRecord}
-use Rattle.consent.specs.History.{Event, Grant, grant_at, grants, is_code, is_spent, live_grant}
-use Rattle.messages.specs.Reply.Body.{Failure}
+use Rattle.consent.specs.History.{Event}
 use Rattle.messages.specs.declared.error.ErrorName.TheVariants.{InvalidGrant}
-use Rattle.answers.specs.Requesters.{Parameters, form_of}
-use Rattle.answers.specs.Texts.{digest_told}
 use Rattle.answers.specs.Tokens.{is_refresh, live_token}
 use Rattle.headline.specs.Bearers.{BearsWith}
 use Rattle.headline.specs.Occasions.{Occasion, GoesTo, history_after, reply_on}

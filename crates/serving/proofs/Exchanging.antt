@@ -1,19 +1,16 @@
 -- What is written along a service answers what is read along it.
-use Rattle.std.proofs.Common.{◌≡◌, ◌+◌, ◌≤◌, ◌<◌, ◌⊎◌, ◌↔◌, inl, inr, ℕ, List, [], ◌∷◌, ◌++◌, Option, Some, None, Bool, true, false, length, take, drop, append_assoc, append-nil, take-append-drop, refl, sym, ap, subst, ◌∙◌, arith}
-use Rattle.std.proofs.lemmas.List.{drop-drop, drop-append-le}
-use Rattle.std.proofs.lemmas.Bool.{false≢true}
+use Rattle.std.proofs.Common.{◌≡◌, ◌<◌, ◌⊎◌, ◌↔◌, inl, inr, ℕ, List, [], ◌∷◌, ◌++◌, Option, Some, None, take, append_assoc, append-nil, refl, sym, ap, subst, ◌∙◌, arith}
 use Rattle.messages.specs.declared.request.Draws.{Draws}
-use Rattle.heads.specs.Message.{Messages}
-use Rattle.heads.specs.ReadingLaws.{nothing_has_none}
-use Rattle.http_edge.specs.Answers.{Mishap, replies_of}
-use Rattle.http_edge.specs.Schedule.{ended, World, Connection, AnsweredPiece, Happening, Opened, Came, HasEnded, Taken, PieceComes, PiecePasses, Opens, StreamEnds, TakesOutput, connection_at, with_connection, fresh, heard, piece_of, untaken, faulty_if}
+use Rattle.http_edge.specs.Schedule.{Happening, Opened, HasEnded, Taken, connection_at, piece_of, untaken}
 use Rattle.http_edge.specs.Edges.{SeenEdge, output_of}
-use Rattle.http_edge.specs.Reached.{Journey, Reached, GoesOn, HappeningLeads, PieceLeads, is_closing, led_on}
+use Rattle.http_edge.specs.Reached.{Journey, Reached, GoesOn, HappeningLeads, PieceLeads, led_on}
 use Rattle.serving.specs.Streams.{Received, ReadFailed, Sent, Carries, nothing, receives, sends, fails_to_receive, fails_to_send}
 use Rattle.serving.specs.Served.{EdgeStream, ServingScene, Stage, StreamService, edge_stream, Coming, Reading, Finished, Ended, Served, Left, MayWriteAt, IsAttentive, WritesFronts, WriteFails, ServingStep, Runs, none, more, begins, goes, opens, denies, hears, refuses, loses_time, breaks, finishes, stops, closes, ends, ends_nothing, is_over, writes, fails_to_write, forgets}
 use Rattle.serving.specs.Answered.{StreamExchange, MayLose, IsConnectionServed, IsDenied, ServesConnection}
 use Rattle.serving.specs.declared.fault.ServeFault.{ServeFault}
-use Rattle.http_edge.proofs.Connections.{same_connection, found_put, found_fresh, shown}
+use Rattle.serving.specs.Talks.{Talk}
+use Rattle.http_edge.proofs.Connections.{shown}
+use Rattle.serving.proofs.Talking.{talk_opened, talk_lost, talk_came, talk_ended, talk_written}
 
 module _ {H S : Type 0} (t : StreamService H S) (journey : Journey H) (s0 : S) where
   -- an exchange at this edge and stream, with nothing lost
@@ -25,128 +22,52 @@ module _ {H S : Type 0} (t : StreamService H S) (journey : Journey H) (s0 : S) w
     lost : List ℕ
     may_lose : MayLose fault lost
     exchange : StreamExchange t journey s0 (edge_stream e s) lost
-    all : fault ≡ None → untaken (Some exchange.connection) ≡ []
+    all : fault ≡ None → untaken (Some exchange.talk.connection) ≡ []
 
   pub on_opened : (e e' : SeenEdge H) → Reached t.hosting e journey → HappeningLeads t.hosting e e' (Opened t.connection) → Now e' s0
   on_opened e e' reached leads =
       let on = leads journey reached in
-      let opening : Opens journey.world on.world t.connection = on.happens in
-      record {
-        heard = [];
-        written = [];
-        carries = nothing;
-        events = Opened t.connection ∷ [];
-        world = on.world;
-        reached = on.reached;
-        connection = fresh t.connection;
-        here = rw opening.connections (found_fresh journey.world.connections t.connection opening.absent);
-        stream = refl;
-        rest = [];
-        requests = record { reads = refl; none = nothing_has_none };
-        front = refl;
-      }
+      record { heard = []; written = []; carries = nothing; events = Opened t.connection ∷ []; world = on.world; reached = on.reached; talk = talk_opened journey.world on.world t.connection on.happens }
 
   -- the stream alone is another
-  with_stream : (e : SeenEdge H) (s s' : S) (heard written lost : List ℕ) (x : Now e s) → Carries t.does s0 heard written s' → heard ≡ x.connection.stream ++ lost →
-      written ++ untaken (Some x.connection) ≡ x.connection.output → StreamExchange t journey s0 (edge_stream e s') lost
-  with_stream e s s' heard written lost x carries stream front = record {
-    heard = heard;
-    written = written;
-    carries = carries;
-    events = x.events;
-    world = x.world;
-    reached = x.reached;
-    connection = x.connection;
-    here = x.here;
-    stream = stream;
-    rest = x.rest;
-    requests = x.requests;
-    front = front;
-  }
+  with_stream : (e : SeenEdge H) (s s' : S) (heard written lost : List ℕ) (x : Now e s) → Carries t.does s0 heard written s' → Talk heard written lost (connection_at x.world.connections t.connection) →
+      StreamExchange t journey s0 (edge_stream e s') lost
+  with_stream e s s' heard written lost x carries talk = record { heard = heard; written = written; carries = carries; events = x.events; world = x.world; reached = x.reached; talk = talk }
 
   -- the edge did not hear of what was read
   pub on_lost : (e : SeenEdge H) (s s' : S) (piece : List ℕ) → Now e s → t.does s (Received piece) s' → StreamExchange t journey s0 (edge_stream e s') piece
-  on_lost e s s' piece x done =
-      let stream = ap (λ bytes. bytes ++ piece) (x.stream ∙ append-nil x.connection.stream) in
-      with_stream e s s' (x.heard ++ piece) x.written piece x (receives piece x.carries done) stream x.front
+  on_lost e s s' piece x done = with_stream e s s' (x.heard ++ piece) x.written piece x (receives piece x.carries done) (talk_lost x.heard x.written [] piece _ x.talk)
 
   pub on_failed_read : (e : SeenEdge H) (s s' : S) → Now e s → t.does s ReadFailed s' → Now e s'
-  on_failed_read e s s' x done = with_stream e s s' x.heard x.written [] x (fails_to_receive x.carries done) x.stream x.front
+  on_failed_read e s s' x done = with_stream e s s' x.heard x.written [] x (fails_to_receive x.carries done) x.talk
 
   -- one event more, by which the connection is another
-  goes_on : (e' : SeenEdge H) (e : SeenEdge H) (s s' : S) (x : Now e s) (event : Happening) (on : GoesOn t.hosting e' (led_on journey x.events x.world) event) (k k' : Connection)
-      (heard written rest : List ℕ) → connection_at x.world.connections t.connection ≡ Some k → k'.number ≡ k.number →
-      on.world.connections ≡ with_connection t.connection k' x.world.connections → Carries t.does s0 heard written s' → heard ≡ k'.stream ++ [] →
-      Messages k'.stream k'.messages rest → written ++ untaken (Some k') ≡ k'.output → Now e' s'
-  goes_on e' e s s' x event on k k' heard written rest there number_is connections carries stream requests front = record {
-    heard = heard;
-    written = written;
-    carries = carries;
-    events = x.events ++ event ∷ [];
-    world = on.world;
-    reached = rw append_assoc at on.reached;
-    connection = k';
-    here = rw connections (found_put x.world.connections t.connection k k' there number_is);
-    stream = stream;
-    rest = rest;
-    requests = requests;
-    front = front;
-  }
+  goes_on : (e' : SeenEdge H) (e : SeenEdge H) (s s' : S) (x : Now e s) (event : Happening) (on : GoesOn t.hosting e' (led_on journey x.events x.world) event) (heard written : List ℕ) →
+      Carries t.does s0 heard written s' → Talk heard written [] (connection_at on.world.connections t.connection) → Now e' s'
+  goes_on e' e s s' x event on heard written carries talk =
+      record { heard = heard; written = written; carries = carries; events = x.events ++ event ∷ []; world = on.world; reached = rw append_assoc at on.reached; talk = talk }
 
   -- the edge heard it
   pub on_heard : (e e' : SeenEdge H) (s s' : S) (piece : List ℕ) (moment : ℕ) (draws : List Draws) → Now e s → IsAttentive t.hosting e t.connection → t.does s (Received piece) s' →
       PieceLeads t.hosting e e' (piece_of t.connection piece moment) draws → Now e' s'
   on_heard e e' s s' piece moment draws x attentive done leads =
-      let on = leads (led_on journey x.events x.world) x.reached in
-      elim on.on.happens.1 [
-        | inl comes ↦
-            let k = comes.before in
-            let same : x.connection ≡ k = same_connection x.connection k (sym x.here ∙ comes.here) in
-            let within : k.taken ≤ length k.output = (shown e.lanes x.world.connections t.connection k x.reached.shows comes.here).0 in
-            let new : List ℕ = replies_of comes.requests ++ faulty_if on.closes in
-            let k' : Connection = heard k piece comes.messages comes.requests on.closes in
-            let stream = ap (λ bytes. bytes ++ piece) (x.stream ∙ append-nil x.connection.stream ∙ ap (λ (y : Connection). y.stream) same) ∙ sym (append-nil (k.stream ++ piece)) in
-            let front : x.written ++ drop k.taken k.output ≡ k.output = subst (λ (y : Connection). x.written ++ drop y.taken y.output ≡ y.output) same x.front in
-            let behind = ap (λ bytes. x.written ++ bytes) (drop-append-le k.taken k.output new within)
-            ∙ sym (append_assoc x.written (drop k.taken k.output) new) ∙ ap (λ bytes. bytes ++ new) front in
-            goes_on e' e s s' x _ on.on k k' (x.heard ++ piece) x.written comes.rest comes.here refl comes.connections (receives piece x.carries done) stream comes.reads behind
-        | inr passes ↦
-            let stays : false ≡ is_closing (connection_at x.world.connections t.connection) = attentive.stays (led_on journey x.events x.world) x.reached in
-            let closing : is_closing (connection_at x.world.connections t.connection) ≡ true = rw (passes.here, passes.is_closing) refl in
-            absurd (false≢true (stays ∙ closing))
-      ]
+      let now = led_on journey x.events x.world in
+      let on = leads now x.reached in
+      goes_on e' e s s' x _ on.on (x.heard ++ piece) x.written (receives piece x.carries done)
+      (talk_came t.hosting e now on.on.world _ x.heard x.written x.reached (sym (attentive.stays now x.reached)) on.on.happens.1 x.talk)
 
   pub on_ended : (e e' : SeenEdge H) (s : S) → Now e s → HappeningLeads t.hosting e e' (HasEnded t.connection) → Now e' s
   on_ended e e' s x leads =
       let on = leads (led_on journey x.events x.world) x.reached in
-      let ending : StreamEnds x.world on.world t.connection = on.happens in
-      let k = ending.before in
-      let same : x.connection ≡ k = same_connection x.connection k (sym x.here ∙ ending.here) in
-      let requests = subst (λ (y : Connection). Messages y.stream y.messages x.rest) same x.requests in
-      let front = subst (λ (y : Connection). x.written ++ drop y.taken y.output ≡ y.output) same x.front in
-      goes_on e' e s s x _ on k (record k { phase = ended k.phase }) x.heard x.written x.rest ending.here refl ending.connections x.carries
-      (x.stream ∙ ap (λ (y : Connection). y.stream ++ []) same) requests front
+      goes_on e' e s s x _ on x.heard x.written x.carries (talk_ended x.world on.world t.connection x.heard x.written [] on.happens x.talk)
 
   -- a front of the output was written, and taken
   pub on_written : (e e' : SeenEdge H) (s s' : S) (n : ℕ) → Now e s → 0 < n → t.does s (Sent (take n (output_of e t.connection))) s' → HappeningLeads t.hosting e e' (Taken t.connection n) → Now e' s'
   on_written e e' s s' n x some done leads =
       let on = leads (led_on journey x.events x.world) x.reached in
-      elim on.happens [
-        | inl takes ↦
-            let k = takes.before in
-            let same : x.connection ≡ k = same_connection x.connection k (sym x.here ∙ takes.here) in
-            let output : output_of e t.connection ≡ drop k.taken k.output = (shown e.lanes x.world.connections t.connection k x.reached.shows takes.here).1 in
-            let front : x.written ++ drop k.taken k.output ≡ k.output = subst (λ (y : Connection). x.written ++ drop y.taken y.output ≡ y.output) same x.front in
-            let left : take n (output_of e t.connection) ++ drop (k.taken + n) k.output ≡ drop k.taken k.output =
-            ap (λ bytes. take n bytes ++ drop (k.taken + n) k.output) output
-            ∙ ap (λ bytes. take n (drop k.taken k.output) ++ bytes) (sym (drop-drop n k.taken k.output))
-            ∙ take-append-drop n (drop k.taken k.output) in
-            let requests = subst (λ (y : Connection). Messages y.stream y.messages x.rest) same x.requests in
-            let behind = append_assoc x.written (take n (output_of e t.connection)) (drop (k.taken + n) k.output) ∙ ap (λ bytes. x.written ++ bytes) left ∙ front in
-            goes_on e' e s s' x _ on k (record k { taken = k.taken + n }) x.heard (x.written ++ take n (output_of e t.connection)) x.rest takes.here refl takes.connections
-            (sends (take n (output_of e t.connection)) x.carries done) (x.stream ∙ ap (λ (y : Connection). y.stream ++ []) same) requests behind
-        | inr absent ↦ absurd (let zero = absent.nothing in omega (arith, zero, some))
-      ]
+      let front = ap (take n) ((shown e.lanes x.world.connections t.connection x.talk.connection x.reached.shows x.talk.here).1 ∙ ap untaken (sym x.talk.here)) in
+      goes_on e' e s s' x _ on x.heard (x.written ++ take n (output_of e t.connection)) (sends _ x.carries done)
+      (talk_written x.world on.world t.connection n x.heard x.written [] (take n (output_of e t.connection)) some front on.happens x.talk)
 
   -- one front after another
   pub on_writes : (old new : EdgeStream H S) → Now old.edge old.stream → WritesFronts t old new → Now new.edge new.stream
@@ -158,16 +79,16 @@ module _ {H S : Type 0} (t : StreamService H S) (journey : Journey H) (s0 : S) w
   on_failed_write e e' s s' x fails =
       let y = on_writes (edge_stream e s) (edge_stream e' fails.before) x fails.writes in
       elim fails.fails [
-        | inl failed ↦ with_stream e' fails.before s' y.heard y.written [] y (fails_to_send y.carries failed) y.stream y.front
-        | inr sent ↦ with_stream e' fails.before s' y.heard (y.written ++ []) [] y (sends [] y.carries sent) y.stream (ap (λ bytes. bytes ++ untaken (Some y.connection)) (append-nil y.written) ∙ y.front)
+        | inl failed ↦ with_stream e' fails.before s' y.heard y.written [] y (fails_to_send y.carries failed) y.talk
+        | inr sent ↦ with_stream e' fails.before s' y.heard (y.written ++ []) [] y (sends [] y.carries sent) (subst (λ w. Talk y.heard w [] (connection_at y.world.connections t.connection)) (sym (append-nil y.written)) y.talk)
       ]
 
   -- where no output is left, none is untaken
-  pub all_written : (e : SeenEdge H) (s : S) (x : Now e s) → output_of e t.connection ≡ [] → untaken (Some x.connection) ≡ []
-  all_written e s x empty = sym (shown e.lanes x.world.connections t.connection x.connection x.reached.shows x.here).1 ∙ empty
+  pub all_written : (e : SeenEdge H) (s : S) (x : Now e s) → output_of e t.connection ≡ [] → untaken (Some x.talk.connection) ≡ []
+  all_written e s x empty = sym (shown e.lanes x.world.connections t.connection x.talk.connection x.reached.shows x.talk.here).1 ∙ empty
 
   -- a service that is over, with nothing lost
-  ends_whole : (e : SeenEdge H) (s : S) (fault : Option ServeFault) → MayLose fault [] → (x : Now e s) → (fault ≡ None → untaken (Some x.connection) ≡ []) → Over fault e s
+  ends_whole : (e : SeenEdge H) (s : S) (fault : Option ServeFault) → MayLose fault [] → (x : Now e s) → (fault ≡ None → untaken (Some x.talk.connection) ≡ []) → Over fault e s
   ends_whole e s fault may x all = record { lost = []; may_lose = may; exchange = x; all = all }
 
 -- how a service stands at each stage

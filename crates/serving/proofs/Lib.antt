@@ -1,3 +1,4 @@
 pub mod Pieces
 pub mod Following
 pub mod Exchanging
+pub mod Talking

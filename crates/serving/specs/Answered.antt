@@ -1,19 +1,17 @@
 -- What was written to a stream answers what was read from it.
-use Rattle.std.specs.Prelude.{◌≡◌, ◌++◌, ◌≤◌, ◌⊎◌, ℕ, List, [], Option, Some, None, length}
-use Rattle.heads.specs.Message.{Messages}
+use Rattle.std.specs.Prelude.{◌≡◌, ◌≤◌, ◌⊎◌, ℕ, List, [], Option, Some, None, length}
 use Rattle.http_edge.specs.Schedule.{World, Connection, Happening, Forgotten, connection_at, untaken}
 use Rattle.http_edge.specs.Edges.{SeenEdge}
 use Rattle.http_edge.specs.Refusals.{IsOpeningRefusal}
 use Rattle.http_edge.specs.Reached.{Journey, Reached, GoesOn, led_on}
 use Rattle.http_edge.specs.declared.fault.EdgeFault.{EdgeFault}
 use Rattle.serving.specs.Streams.{Carries}
+use Rattle.serving.specs.Talks.{Talk}
 use Rattle.serving.specs.Served.{EdgeStream, StreamService, edge_stream, stream_piece_limit}
 use Rattle.serving.specs.declared.fault.ServeFault.{ServeFault}
 use Rattle.serving.specs.declared.fault.ServeFault.TheVariants as Fault
 
--- What came and went on a stream, and how the connection stands then. The bytes that came are the connection's, but for
--- those that were lost. Its requests are the messages in them. What was written is a front of all its output: of the
--- replies to its requests, as the schedule has them.
+-- What came and went on a stream, which is a talk, and how the connection stands then.
 pub record StreamExchange {H S : Type 0} (t : StreamService H S) (journey : Journey H) (old : S) (new : EdgeStream H S) (lost : List ℕ) : Type 0 where
   pub heard : List ℕ
   pub written : List ℕ
@@ -21,12 +19,7 @@ pub record StreamExchange {H S : Type 0} (t : StreamService H S) (journey : Jour
   pub events : List Happening
   pub world : World
   pub reached : Reached t.hosting new.edge (led_on journey events world)
-  pub connection : Connection
-  pub here : connection_at world.connections t.connection ≡ Some connection
-  pub stream : heard ≡ connection.stream ++ lost
-  pub rest : List ℕ
-  pub requests : Messages connection.stream connection.messages rest
-  pub front : written ++ untaken (Some connection) ≡ connection.output
+  pub talk : Talk heard written lost (connection_at world.connections t.connection)
 
 -- what was read and did not come to the edge: a last piece, which the edge refused or the clock had no moment for
 abbrev pub MayLose : Option ServeFault → List ℕ → Type 0
@@ -41,7 +34,7 @@ pub record IsConnectionServed {H S : Type 0} (t : StreamService H S) (journey : 
   pub lost : List ℕ
   pub may_lose : MayLose fault lost
   pub exchange : StreamExchange t journey old (edge_stream before new.stream) lost
-  pub all : fault ≡ None → untaken (Some exchange.connection) ≡ []
+  pub all : fault ≡ None → untaken (Some exchange.talk.connection) ≡ []
   pub forgotten : GoesOn t.hosting new.edge (led_on journey exchange.events exchange.world) (Forgotten t.connection)
 
 -- it could not be opened, and nothing was done

@@ -1,6 +1,4 @@
 //! Why the service of a connection ends early.
-ghost use Rattle.std.specs.Prelude.{Some};
-ghost use Rattle.serving.specs.FaultTexts.{serve_fault_text};
 
 use http_edge::EdgeFault;
 use std::fmt::{self, Display, Formatter, Write};
@@ -19,8 +17,6 @@ pub enum ServeFault {
 }
 
 impl Display for ServeFault {
-    ghost output = { λ fault. Some (serve_fault_text fault) };
-
     fn fmt<W: Write>(&self, f: &mut Formatter<W>) -> fmt::Result {
         match self {
             ServeFault::Read => write!(f, "Read"),

@@ -4,8 +4,8 @@ use Rattle.std.proofs.lemmas.Grind.{flat_map-append}
 use Rattle.std.proofs.lemmas.List.{take_more, drop_more, take-append-drop, length-take-le, length-map, map-append, map_push}
 use Rattle.http_edge.specs.Answers.{Mishap}
 use Rattle.http_edge.specs.Reached.{GoesOn, Journey}
-use Rattle.transcript.proofs.Names.{take_all, Hosting, Happening, happening, Reached, SeenEdge, Statement, Opens, Brings, Ends, States, LineStandsFor, StandFor, StatementLeads}
-use Rattle.transcript.proofs.Names.{LineLeads, LineFails, RunTo, RunsLines, LinesFail, edge_with, opened_at, opened_by, ReplayFault}
+use Rattle.transcript.proofs.Names.{take_all, Hosting, Happening, happening, Reached, SeenEdge, Statement, Opens, Brings, Ends, LineStandsFor, StandFor, StatementLeads}
+use Rattle.transcript.proofs.Names.{LineLeads, LineFails, RunsLines, LinesFail, edge_with, opened_at, opened_by, ReplayFault}
 use Rattle.transcript.specs.Faults.{IsLineFault}
 
 abbrev pub texts : List (Bor (List ℕ)) → List (List ℕ)

@@ -1,5 +1,5 @@
 -- What is printed of an edge is all that went to its connections.
-use Rattle.std.proofs.Common.{◌≡◌, ◌≢◌, ℕ, List, [], ◌∷◌, ◌++◌, Bool, true, false, Option, Some, None, ◌==◌, map, flat_map, drop, refl, sym, ap, ◌∙◌, subst, append_assoc, append-nil, ⊎_elim, arith}
+use Rattle.std.proofs.Common.{◌≡◌, ◌≢◌, ℕ, List, [], ◌∷◌, ◌++◌, Bool, true, false, Some, None, ◌==◌, map, flat_map, refl, sym, ap, ◌∙◌, subst, append_assoc, append-nil, ⊎_elim, arith}
 use Rattle.transcript.proofs.Names.{AllByRecursion, nat_tests, Hosting, Outset, ended, World, Connection, Happening}
 use Rattle.transcript.proofs.Names.{Happens, Run, first_world, fresh, heard, connection_at, with_connection, SeenEdge, Statement, Opens, Brings, Ends, happening, StandFor, printed}
 use Rattle.transcript.proofs.Names.{RunsLines, AnswersLines, opened_at, printed_from}

@@ -1,10 +1,7 @@
 -- Why a transcript has no answer.
-use Rattle.std.specs.Prelude.{◌≡◌, ◌≢◌, ◌++◌, ⊤, ℕ, List, codes}
-use Rattle.std.specs.Fmt.{decimal}
-use Rattle.clients.specs.FaultTexts.{config_fault_text}
+use Rattle.std.specs.Prelude.{◌≡◌, ◌≢◌, ⊤, ℕ, List}
 use Rattle.clients.specs.declared.fault.ConfigFault.{ConfigFault}
 use Rattle.clients.specs.declared.fault.ConfigFault.TheVariants as config
-use Rattle.http_edge.specs.FaultTexts.{edge_fault_text}
 use Rattle.http_edge.specs.Schedule.{Connection}
 use Rattle.http_edge.specs.declared.fault.EdgeFault.{EdgeFault}
 use Rattle.http_edge.specs.declared.fault.EdgeFault.TheVariants as edge
@@ -21,12 +18,6 @@ of_config fault = Config fault
 abbrev pub of_event : ℕ → EdgeFault → ReplayFault
 of_event line edge.Memory = Memory
 of_event line fault = Refused line fault
-
-abbrev pub replay_fault_text : ReplayFault → List ℕ
-replay_fault_text (Config fault) = codes "Config " ++ config_fault_text fault
-replay_fault_text (BadLine line) = codes "line " ++ decimal line ++ codes ": bad line"
-replay_fault_text (Refused line fault) = codes "line " ++ decimal line ++ codes ": " ++ edge_fault_text fault
-replay_fault_text Memory = codes "Memory"
 
 -- a line states what comes, and its event is refused where these connections are, not for memory
 pub record IsLineRefused (connections : List Connection) (line : List ℕ) (fault : EdgeFault) : Type 0 where

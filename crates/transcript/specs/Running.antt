@@ -3,7 +3,7 @@ use Rattle.std.specs.Prelude.{◌≡◌, ◌≢◌, ◌++◌, ℕ, List, [], ◌
 use Rattle.std.specs.List.{flat_map}
 use Rattle.hook_host.specs.declared.host.HookHost.{Ghosts as Hosting}
 use Rattle.endpoints.specs.Server.{Outset}
-use Rattle.http_edge.specs.Schedule.{World, Happening, Opened, Came, HasEnded, Taken, Forgotten, Kept, Resumed, piece_of}
+use Rattle.http_edge.specs.Schedule.{World, Happening, Opened, HasEnded, piece_of}
 use Rattle.http_edge.specs.Edges.{SeenEdge, output_of}
 use Rattle.http_edge.specs.Reached.{Reached, InEach, HappeningLeads, PieceLeads, new_journey}
 use Rattle.http_edge.specs.declared.fault.EdgeFault.{EdgeFault}
@@ -27,8 +27,7 @@ StatementRefuses hosting edge statement fault = InEach hosting edge (λ world. I
 -- the connection that a statement opens
 abbrev pub opened_by : Statement → List ℕ
 opened_by (Opens c) = c ∷ []
-opened_by (Brings c moment draws piece) = []
-opened_by (Ends c) = []
+opened_by statement = []
 
 -- an edge, and the connections that lines opened on it, in their order
 pub record EdgeOpened (H : Type 0) : Type 0 where
@@ -52,12 +51,7 @@ LineFails hosting edge number line fault = InEach hosting edge (λ world. IsLine
 -- the connection that an event opens
 abbrev pub opened_at : Happening → List ℕ
 opened_at (Opened c) = c ∷ []
-opened_at (Came came) = []
-opened_at (HasEnded c) = []
-opened_at (Taken c n) = []
-opened_at (Forgotten c) = []
-opened_at Kept = []
-opened_at (Resumed history greatest) = []
+opened_at event = []
 
 -- lines were run: their events lead to the edge, and these connections were opened
 pub record RunTo {H : Type 0} (hosting : Hosting H) (outset : Outset H) (lines : List (List ℕ)) (edge : SeenEdge H) (opened : List ℕ) : Type 0 where

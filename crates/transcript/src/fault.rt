@@ -1,7 +1,7 @@
 //! Why a transcript has no answer.
 
-ghost use Rattle.std.specs.Prelude.{◌≡◌, Some};
-ghost use Rattle.transcript.specs.Faults.{of_config, of_event, replay_fault_text};
+ghost use Rattle.std.specs.Prelude.{◌≡◌};
+ghost use Rattle.transcript.specs.Faults.{of_config, of_event};
 ghost use Rattle.transcript.specs.declared.fault.ReplayFault.TheVariants.{Memory};
 
 use clients::ConfigFault;
@@ -36,8 +36,6 @@ impl ReplayFault {
 }
 
 impl Display for ReplayFault {
-    ghost output = { λ fault. Some (replay_fault_text fault) };
-
     fn fmt<W: Write>(&self, f: &mut Formatter<W>) -> fmt::Result {
         match *self {
             ReplayFault::Config(fault) => write!(f, "Config {fault}"),

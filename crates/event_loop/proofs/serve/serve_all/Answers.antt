@@ -22,15 +22,16 @@ returns g c = λ journey reached.
     let ready : IsReadyToWait c.new-service.result past = record {
       settled = λ k less. rested_settled k c.new-service.result past (λ none place here. free_rests place _ (c.new-service.ensures.free k place here)) (c.new-service.ensures.due k less);
       queue = inl (λ told. (let not : Empty ≡ Told = sym c.new-service.ensures.queue ∙ told in absurd (cc)));
-      quick = record { idle = nobody _; crowded = λ waits. nobody _; tried = λ since barred. (let not : Empty ≡ Barred since = sym c.new-service.ensures.queue ∙ barred in absurd (cc)); reported = λ every wanted. inl (ap (λ (l : LastTold). l.report) is_first.told) };
+      calm = record { idle = nobody _; crowded = λ waits. nobody _; tried = λ since barred. (let not : Empty ≡ Barred since = sym c.new-service.ensures.queue ∙ barred in absurd (cc)) };
+      reported = λ every wanted. inl (ap (λ (l : LastTold). l.report) is_first.told);
     } in
     let wrong = c.rounds-fault.ensures first past (begins is_first) ready in
-    let failed = state_of (running c.rounds-fault.new.self c.rounds-fault.new.tools) wrong.found wrong.next in
+    let failed = state_of (running c.rounds-fault.new.service c.rounds-fault.new.self) wrong.found wrong.next in
     let last_reached = (served_answered p first wrong.last wrong.served).reached in
     let shut = c.leave_all.ensures.shut failed wrong.found wrong.next stops ((fails_does p wrong.last failed _ wrong.fails).reached last_reached) in
     let told = c.tell_last.ensures wrong.found shut.next in
-    let emptied : LoopState g.row.N.Denot g.row.C.Denot g.row.J.Denot g.row.K.Denot g.row.H.Denot = state_of (running c.leave_all.new.self c.leave_all.new.tools) wrong.found shut.next in
-    let end : LoopState g.row.N.Denot g.row.C.Denot g.row.J.Denot g.row.K.Denot g.row.H.Denot = state_of (running c.leave_all.new.self c.tell_last.new.tools) wrong.found shut.next in
+    let emptied : LoopState g.row.N.Denot g.row.C.Denot g.row.J.Denot g.row.K.Denot g.row.H.Denot = state_of (running c.leave_all.new.service c.leave_all.new.self) wrong.found shut.next in
+    let end : LoopState g.row.N.Denot g.row.C.Denot g.row.J.Denot g.row.K.Denot g.row.H.Denot = state_of (running c.leave_all.new.service c.tell_last.new.self) wrong.found shut.next in
     let to_end : (s : LoopState g.row.N.Denot g.row.C.Denot g.row.J.Denot g.row.K.Denot g.row.H.Denot) → Onward p s wrong.last → TellsBasis p.keeping.crashes s.keeper end.keeper =
     λ s on. basis_to_end p s wrong.last failed emptied end c.rounds-fault.result on wrong.fails shut.shuts told in
     inl (record {

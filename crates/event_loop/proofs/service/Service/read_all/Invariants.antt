@@ -1,9 +1,0 @@
-use Rattle.std.proofs.Common.{◌≡◌}
-use Rattle.event_loop.proofs.Names.{promises, LeadsReading, running, keeping}
-use Rattle.event_loop.proofs.service.Service.read_all.Given as goal
-
-abbrev pub invariant-loop-k : goal.invariant-loop-k
-invariant-loop-k g l = record {
-  due : l.self.due ≡ l.initial.self.due;
-  reads : LeadsReading (promises g.N.Sockets g.C.Clocks g.J.Journal (keeping g.K.Keeper g.K.ImageKeeper) g.H.HookHost) l.k (running l.initial.self l.initial.tools) (running l.self l.tools);
-}

@@ -1,0 +1,44 @@
+use Rattle.std.proofs.Common.{rules, ◌≡◌, ◌<◌, ◌+◌, ℕ, ap, refl, sym, subst, ◌∙◌, inl, inr, length, arith, length-set}
+use Rattle.event_loop.proofs.Names.{Place, IsFreeAt, same_Some, slice_get_within, promises, Free, Service, shuts, below_more, keeping}
+use Rattle.event_loop.proofs.Leading.{closes_reached}
+use Rattle.event_loop.proofs.Putting.{set_cases}
+use Rattle.event_loop.proofs.tools.Tools.leave_all.Goals as goal
+
+pub loop-k-init : goal.loop-k-init
+loop-k-init g c = record { shut = λ first found past done reached. record { next = past; shuts = done; reached = reached }; size = refl; free = λ j less. absurd (omega (arith, less)) }
+
+pub loop-k-preserved-then-not-is_taken : goal.loop-k-preserved-then-not-is_taken
+loop-k-preserved-then-not-is_taken g c = record {
+  shut = c.loop-k.invariant.shut;
+  size = c.loop-k.invariant.size;
+  free = below_more (IsFreeAt c.loop-k.service.places) c.loop-k.k c.loop-k.invariant.free
+      (λ place here. ap (λ (q : Place). q.stage) (same_Some place c.place_at-place.result (sym here ∙ c.place_at-place.ensures)) ∙ c.is_taken.ensures.free c.if-not-is_taken.true);
+}
+
+pub loop-k-preserved : goal.loop-k-preserved
+loop-k-preserved g c = record {
+  shut = λ first found past done reached.
+      let before = c.loop-k.invariant.shut first found past done reached in
+      let away = c.leave.ensures.away found before.next before.reached in
+      record {
+        next = away.next;
+        shuts = shuts c.loop-k.k c.place_at-place.result before.shuts c.place_at-place.ensures (c.is_taken.ensures.taken c.if-not-is_taken.false) away.closes;
+        reached = closes_reached (promises g.N.Sockets g.C.Clocks g.J.Journal (keeping g.K.Keeper g.K.ImageKeeper) g.H.HookHost) c.loop-k.k c.place_at-place.result _ _ away.closes;
+      };
+  size = ap (λ (s : Service). length s.places) c.leave.ensures.rest ∙ length-set c.loop-k.service.places c.loop-k.k (record c.place_at-place.result { stage = Free }) ∙ c.loop-k.invariant.size;
+  free = subst (λ (s : Service). (j : ℕ) → j < c.loop-k.k + 1 → IsFreeAt s.places j) (sym c.leave.ensures.rest)
+      (λ j less place here. elim (set_cases c.loop-k.service.places c.loop-k.k j (record c.place_at-place.result { stage = Free }) place here) [
+        | inl is ↦ ap (λ (q : Place). q.stage) is.1
+        | inr is ↦ (let other = is.0 in c.loop-k.invariant.free j (omega (arith, less, other)) place is.1)
+      ]);
+}
+
+pub returns-clause-shut : goal.returns-clause-shut
+returns-clause-shut g c = c.loop-k.invariant.shut
+
+pub returns-clause-free : goal.returns-clause-free
+returns-clause-free g c = λ j place here.
+    let size : length c.args.service.now.places ≡ 64 = search rules in
+    let same = c.loop-k.invariant.size in
+    let within = slice_get_within c.loop-k.service.places j place here in
+    c.loop-k.invariant.free j (omega (arith, size, same, within, c.loop-k-test.false)) place here

@@ -1,0 +1,99 @@
+use Rattle.std.proofs.Common.{rules, add-one, ap, ◌≤◌, ◌-◌, ◌∷◌, take, arith, length, ◌≡◌, subst, sym, ◌∙◌, []}
+use Rattle.event_loop.proofs.Names.{eqb-true, promises, Service, Accepting, IsDone, goes, Past, running, state_of, no_wait, no_time, no_moment, keeping}
+use Rattle.event_loop.specs.Served.{waits}
+use Rattle.event_loop.specs.Calls as call
+use Rattle.event_loop.proofs.Leading.{to_then, kept_then}
+use Rattle.event_loop.proofs.Leaving.{may_wait, calm_told, told_or_not}
+use Rattle.event_loop.proofs.tools.Tools.round.Goals as goal
+
+pub returns-in_default-wait-clause-wrong : goal.returns-in_default-wait-clause-wrong
+returns-in_default-wait-clause-wrong g c = λ first past begun was_ready.
+    let size : length c.args.service.now.places ≡ 64 = search rules in
+    let room : 65 ≤ length c.wait.new.found = search (rules, arith, c.requires.room) in
+    let may = may_wait (promises g.N.Sockets g.C.Clocks g.J.Journal (keeping g.K.Keeper g.K.ImageKeeper) g.H.HookHost) c.args.service.now c.put_image.new.service c.args.self.now c.put_image.new.self c.wait_limit-limit.result (length c.wait.new.found) size c.in_default.ensures.same c.wait_limit-limit.ensures room c.in_default.ensures.put first past begun was_ready in
+    record {
+      last = state_of (running c.put_image.new.service c.put_image.new.self) [] past;
+      served = may.0;
+      found = [];
+      next = record past { calls = call.WaitFailed c.wait_limit-limit.result (length c.wait.new.found) ∷ past.calls };
+      fails = no_wait c.wait_limit-limit.result (length c.wait.new.found) c.wait.new.self may.1.1 c.in_default-wait.ensures.done;
+    }
+
+pub returns-in_default-read-clause-wrong : goal.returns-in_default-read-clause-wrong
+returns-in_default-read-clause-wrong g c = λ first past begun was_ready.
+    let heard = take c.in-Some.count c.wait.new.found in
+    let size : length c.args.service.now.places ≡ 64 = search rules in
+    let room : 65 ≤ length c.wait.new.found = search (rules, arith, c.requires.room) in
+    let may = may_wait (promises g.N.Sockets g.C.Clocks g.J.Journal (keeping g.K.Keeper g.K.ImageKeeper) g.H.HookHost) c.args.service.now c.put_image.new.service c.args.self.now c.put_image.new.self c.wait_limit-limit.result (length c.wait.new.found) size c.in_default.ensures.same c.wait_limit-limit.ensures room c.in_default.ensures.put first past begun was_ready in
+    record {
+      last = state_of (running c.put_image.new.service c.put_image.new.self) [] past;
+      served = may.0;
+      found = heard;
+      next = record past { calls = call.Waited c.wait_limit-limit.result (length c.wait.new.found) heard ∷ past.calls };
+      fails = no_time c.wait_limit-limit.result (length c.wait.new.found) heard c.wait.new.self c.read.new.self may.1.1 c.in-Some.ensures.done c.in_default-read.ensures;
+    }
+
+pub returns-in_default-keep_moment-clause-wrong : goal.returns-in_default-keep_moment-clause-wrong
+returns-in_default-keep_moment-clause-wrong g c = λ first past begun was_ready.
+    let heard = take c.in-Some.count c.wait.new.found in
+    let size : length c.args.service.now.places ≡ 64 = search rules in
+    let room : 65 ≤ length c.wait.new.found = search (rules, arith, c.requires.room) in
+    let may = may_wait (promises g.N.Sockets g.C.Clocks g.J.Journal (keeping g.K.Keeper g.K.ImageKeeper) g.H.HookHost) c.args.service.now c.put_image.new.service c.args.self.now c.put_image.new.self c.wait_limit-limit.result (length c.wait.new.found) size c.in_default.ensures.same c.wait_limit-limit.ensures room c.in_default.ensures.put first past begun was_ready in
+    record {
+      last = state_of (running c.put_image.new.service c.put_image.new.self) [] past;
+      served = may.0;
+      found = heard;
+      next = record past { calls = call.Waited c.wait_limit-limit.result (length c.wait.new.found) heard ∷ past.calls };
+      fails = no_moment c.wait_limit-limit.result (length c.wait.new.found) heard c.wait.new.self c.in-Some-read.times c.read.new.self c.keep_moment.new.self may.1.1 c.in-Some.ensures.done c.in-Some-read.ensures c.in_default-keep_moment.ensures.lost c.keep_moment.ensures.meanwhile;
+    }
+
+pub returns-in-Err-keep_all-clause-wrong : goal.returns-in-Err-keep_all-clause-wrong
+returns-in-Err-keep_all-clause-wrong g c = λ first past begun was_ready.
+    let heard = take c.in-Some.count c.wait.new.found in
+    let size : length c.args.service.now.places ≡ 64 = search rules in
+    let room : 65 ≤ length c.wait.new.found = search (rules, arith, c.requires.room) in
+    let may = may_wait (promises g.N.Sockets g.C.Clocks g.J.Journal (keeping g.K.Keeper g.K.ImageKeeper) g.H.HookHost) c.args.service.now c.put_image.new.service c.args.self.now c.put_image.new.self c.wait_limit-limit.result (length c.wait.new.found) size c.in_default.ensures.same c.wait_limit-limit.ensures room c.in_default.ensures.put first past begun was_ready in
+    let waited = goes may.0 (waits c.wait_limit-limit.result (length c.wait.new.found) heard c.wait.new.self c.in-Some-read.times c.read.new.self c.keep_moment.new.self may.1.1 c.in-Some.ensures.done c.in-Some-read.ensures (record { holds = c.in-Ok.ensures.kept; basis = c.in-Ok.ensures.basis; told = c.in-Ok.ensures.told })) in
+    let since : Past g.row.H.Denot = record past { calls = call.Waited c.wait_limit-limit.result (length c.wait.new.found) heard ∷ past.calls } in
+    let told = c.hear_all.ensures.hears first since waited (λ k less. (may.1.0.settled k less).rested) in
+    let read = c.read_all.ensures first [] since (λ kind is. is) told.1 told.0 in
+    record {
+      last = state_of (running c.read_all.new.service c.read_all.new.self) [] read.on.next;
+      served = read.on.served;
+      found = [];
+      next = read.on.next;
+      fails = c.in-Err-keep_all.ensures.lost first [] c.read_all.new.service read.on.next read.not_kept read.on.served;
+    }
+
+pub returns-clause-goes : goal.returns-clause-goes
+returns-clause-goes g c = λ first past begun was_ready.
+    let p = promises g.N.Sockets g.C.Clocks g.J.Journal (keeping g.K.Keeper g.K.ImageKeeper) g.H.HookHost in
+    let heard = take c.in-Some.count c.wait.new.found in
+    let size : length c.args.service.now.places ≡ 64 = search rules in
+    let room : 65 ≤ length c.wait.new.found = search (rules, arith, c.requires.room) in
+    let may = may_wait (promises g.N.Sockets g.C.Clocks g.J.Journal (keeping g.K.Keeper g.K.ImageKeeper) g.H.HookHost) c.args.service.now c.put_image.new.service c.args.self.now c.put_image.new.self c.wait_limit-limit.result (length c.wait.new.found) size c.in_default.ensures.same c.wait_limit-limit.ensures room c.in_default.ensures.put first past begun was_ready in
+    let waited = goes may.0 (waits c.wait_limit-limit.result (length c.wait.new.found) heard c.wait.new.self c.in-Some-read.times c.read.new.self c.keep_moment.new.self may.1.1 c.in-Some.ensures.done c.in-Some-read.ensures (record { holds = c.in-Ok.ensures.kept; basis = c.in-Ok.ensures.basis; told = c.in-Ok.ensures.told })) in
+    let since : Past g.row.H.Denot = record past { calls = call.Waited c.wait_limit-limit.result (length c.wait.new.found) heard ∷ past.calls } in
+    let told = c.hear_all.ensures.hears first since waited (λ k less. (may.1.0.settled k less).rested) in
+    let read = c.read_all.ensures first [] since (λ kind is. is) told.1 told.0 in
+    let written = kept_then p first [] since _ c.read_all.new.service c.write_all.new.service _ c.read_all.new.self c.keep_all.new.self c.write_all.new.self read c.in_default-keep_all.ensures.kept c.write_all.ensures in
+    let on = to_then p [] [] [] _ _ _ _ _ _ (c.tidy.ensures.leads []) (c.make_room.ensures.leads []) first written.on.next written.on.served written.below in
+    let admitted = c.admit_all.ensures.leads [] first on.next on.served on.settled in
+    let last = c.tell.ensures.leads [] first admitted.goes.next admitted.goes.served admitted.goes.settled in
+    let queue : c.tell.new.service.queue ≡ c.admit_all.new.service.queue = ap (λ (s : Service). s.queue) c.tell.ensures.rest in
+    let idle = c.tidy.ensures.within (λ same. written.on.within (c.hear_all.ensures.within (λ k place here taken. subst (λ now. now - place.since ≤ c.put_image.new.service.limits.idle) (sym (eqb-true _ _ same)) (may.1.0.calm.idle k place here taken)))) in
+    record {
+      next = last.next;
+      served = last.served;
+      ready = record {
+        settled = last.settled;
+        queue = told_or_not {P = IsDone Accepting last.next.calls} c.tell.new.service.queue (λ told. last.done.keeps Accepting (admitted.tried (sym queue ∙ told)));
+        calm = calm_told c.admit_all.new.service c.tell.new.service c.tell.ensures.rest (c.admit_all.ensures.calm (c.make_room.ensures.calm idle c.tidy.ensures.tried));
+        reported = c.tell.ensures.reported;
+      };
+      waits_are = last.done.waits ∙ admitted.goes.done.waits ∙ on.done.waits ∙ written.on.done.waits ∙ sym (add-one (call.waits past.calls));
+    }
+
+pub returns-in-Err-clause-wrong : goal.returns-in-Err-clause-wrong
+returns-in-Err-clause-wrong g c = λ first past h ready.
+    record { last = state_of (running c.args.service.now c.args.self.now) [] past; served = h; found = []; next = past; fails = c.in-Err.ensures.failed first [] past h }
