@@ -1,4 +1,4 @@
-pub mod FaultTexts
+pub mod Faults
 pub mod Listening
 pub mod Calls
 pub mod Noting

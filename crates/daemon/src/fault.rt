@@ -2,7 +2,7 @@
 
 ghost use Rattle.std.specs.Prelude.{◌≡◌};
 ghost use Rattle.std.specs.IoError.{error_kind};
-ghost use Rattle.daemon.specs.FaultTexts.{socket_fault};
+ghost use Rattle.daemon.specs.Faults.{socket_fault};
 ghost use Rattle.daemon.specs.declared.fault.ListenFault.TheVariants.{NoSocket};
 
 use batch_file::disk_file::OpenFault;
@@ -65,11 +65,11 @@ pub enum ListenFault {
     Memory,
 }
 
-impl ListenFault {
-    /// There is no socket, for an error of the system.
-    pub(crate) fn no_socket(error: &io::Error) -> ListenFault
-        ensures { result ≡ NoSocket (socket_fault (error_kind error.now)) }
-    {
+// There is no socket, for an error of the system.
+impl From<io::Error> for ListenFault {
+    ghost from_gives = { λ error fault. fault ≡ NoSocket (socket_fault (error_kind error)) };
+
+    fn from(error: io::Error) -> ListenFault {
         ListenFault::NoSocket(SocketFault::of_kind(error.kind()))
     }
 }

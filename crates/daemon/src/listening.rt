@@ -27,14 +27,8 @@ pub fn listen<R: Net, W: Write>(
     ensures done { OnOk result (Announces (W.contents out.old) (W.contents out.new)) }
     ensures silent { IfErr result (λ fault. fault ≢ Unwritten → out.new ≡ out.old) }
 {
-    let listener = match TcpListener::bind(rt, address) {
-        Ok(listener) => listener,
-        Err(error) => return Err(ListenFault::no_socket(&error)),
-    };
-    let bound = match listener.local_addr() {
-        Ok(bound) => bound,
-        Err(error) => return Err(ListenFault::no_socket(&error)),
-    };
+    let listener = TcpListener::bind(rt, address)?;
+    let bound = listener.local_addr()?;
     let Ok(()) = announce(out, bound) else {
         return Err(ListenFault::Unwritten);
     };
@@ -60,13 +54,10 @@ pub fn next_connection<R: Clock, L: OpenListener>(rt: &R, listener: &L) -> Optio
     None
 }
 
-/// Lets a client have what was written to it. A socket that is closed before all of its bytes are read takes back what
-/// its client has not read, so they are read here, as far as they come at once, and dropped.
-pub fn see_off<S: Read + OpenStream>(stream: &mut S) {
-    let _ = stream.shutdown(Shutdown::Write);
-    let _ = stream.set_read_timeout(Some(Duration::from_millis(PAUSE)));
-    let mut buffer = [0; 512];
-    for _ in 0..LAST_PIECES {
+/// Reads at most so many pieces, as far as they come at once, and drops them.
+pub fn drop_rest<S: Read>(stream: &mut S, pieces: u32) {
+    let mut buffer = [0; 2048];
+    for _ in 0..pieces {
         let Ok(count) = stream.read(&mut buffer) else {
             return;
         };
@@ -74,4 +65,12 @@ pub fn see_off<S: Read + OpenStream>(stream: &mut S) {
             return;
         }
     }
+}
+
+/// Lets a client have what was written to it. A socket that is closed before all of its bytes are read takes back what
+/// its client has not read, so they are read here, as far as they come at once, and dropped.
+pub fn see_off<S: Read + OpenStream>(stream: &mut S) {
+    let _ = stream.shutdown(Shutdown::Write);
+    let _ = stream.set_read_timeout(Some(Duration::from_millis(PAUSE)));
+    drop_rest(stream, LAST_PIECES);
 }

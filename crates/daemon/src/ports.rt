@@ -1,9 +1,10 @@
 //! A listener of the machine, and the connections at their places.
 
-ghost use Rattle.std.specs.Prelude.{◌≤◌, length};
+ghost use Rattle.std.specs.Prelude.{length};
 ghost use Rattle.event_loop.specs.Calls.{FindsWithin, ReadsWithin, SendsWithin};
 
 use crate::fault::{ListenFault, SocketFault};
+use crate::listening::drop_rest;
 use event_loop::{Accepted, PLACES, Ready, Received, Sent};
 use mio::event::Event;
 use mio::net::{TcpListener, TcpStream};
@@ -44,7 +45,7 @@ fn listener_at<R: Net>(rt: &R, address: &str) -> Result<TcpListener, ListenFault
     for each in addresses {
         match TcpListener::bind(rt, each) {
             Ok(listener) => return Ok(listener),
-            Err(error) => fault = ListenFault::no_socket(&error),
+            Err(error) => fault = ListenFault::from(error),
         }
     }
     Err(fault)
@@ -77,15 +78,7 @@ fn ready_by(event: &Event) -> Ready {
 /// its client has not read, so they are read here, as far as they have come, and dropped.
 fn see_off(mut stream: TcpStream) {
     let _ = stream.shutdown(Shutdown::Write);
-    let mut buffer = [0; 2048];
-    for _ in 0..LAST_PIECES {
-        let Ok(count) = stream.read(&mut buffer) else {
-            return;
-        };
-        if count == 0 {
-            return;
-        }
-    }
+    drop_rest(&mut stream, LAST_PIECES);
 }
 
 impl Ports {
@@ -94,14 +87,9 @@ impl Ports {
         let events = Events::with_capacity(alloc, TOLD_LIMIT)?;
         let streams = free_places(alloc)?;
         let mut listener = listener_at(rt, address)?;
-        let poll = match Poll::new(rt) {
-            Ok(poll) => poll,
-            Err(error) => return Err(ListenFault::no_socket(&error)),
-        };
-        let registry = poll.registry();
-        if let Err(error) = registry.register(&mut listener, LISTENER, Interest::READABLE) {
-            return Err(ListenFault::no_socket(&error));
-        }
+        let poll = Poll::new(rt)?;
+        poll.registry()
+            .register(&mut listener, LISTENER, Interest::READABLE)?;
         let Ok(address) = listener.local_addr() else {
             return Err(ListenFault::NoSocket(SocketFault::Other));
         };

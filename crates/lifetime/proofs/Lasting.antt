@@ -1,11 +1,13 @@
 -- What a crash leaves of a life whose loop served.
-use Rattle.std.proofs.Common.{◌≡◌, ◌≤◌, ◌⊎◌, ⊎_elim, inl, inr, ℕ, List, [], Option, Some, refl, sym, ap, subst, ◌∙◌, arith}
-use Rattle.lifetime.proofs.Names.{recovered, HoldsBasis, IsFrontOf, Rules, TellsBasis, Event, AllRight, IsBounded, HostRun, AreUnkept, Outset, outset_of, Carries, KeeperHolds, Onward, StandsBetween}
+use Rattle.std.proofs.Common.{◌≡◌, ◌≤◌, ◌⊎◌, ⊎_elim, inl, inr, ℕ, List, [], Some, refl, sym, ap, subst, ◌∙◌, arith}
+use Rattle.lifetime.proofs.Names.{recovered, HoldsBasis, IsFrontOf, Rules, TellsBasis, Event, AllRight, IsBounded, HostRun, Outset, outset_of, Carries, KeeperHolds, Onward, StandsBetween}
 use Rattle.lifetime.proofs.Names.{front_then, same_front, served_on, served_onward, HasServed, LoopState, Served, begins, Tools, Named, SeenEdge, Journey, Reached, SeenKeeper, StandFor, StandsFor}
 use Rattle.lifetime.proofs.Names.{IsPutOn, Tell, TellsRules, rules_of, Given, LifePromises, in_loop, HasLived, IsWhole, Leaves, LeavesKept, LosesNothing, loop_of, Begun, Ending}
 use Rattle.change_codec.specs.Keeping as keeping
 use Rattle.hook_chain.specs.contracts.chain.ChainHookHost.TheImpl as chain
-use Rattle.lifetime.proofs.Losing.{Bears, front_noted, leaves_map, leaves_then, more_loses, old_or_loses, whole_by}
+use Rattle.lifetime.proofs.Losing.{Bears, leaves_then, more_loses, old_or_loses, whole_by}
+use Rattle.event_loop.proofs.Fronts.{served_front}
+use Rattle.state_file.proofs.Put.{leaves_weaker}
 
 module _ {D N C J : Type 0} (p : LifePromises D N C J) (only_now : (d : D) (c : List ℕ) → p.device.left_since d (p.device.moment d) c → p.device.may_leave d c)
     (given : Given D N C J) (begun : Begun D N C J) (before : List Event) (put : IsPutOn p.device begun.outlook.plan.prepared.batches given.device begun.keeper)
@@ -64,11 +66,6 @@ module _ {D N C J : Type 0} (p : LifePromises D N C J) (only_now : (d : D) (c : 
     kept_at : (s : StateHere) → Served (in_loop p) served.first s → (kept : List Event) × (s.progress.journey.world.kept ≡ Some kept)
     kept_at s here = let now = (carried s here).kept before first_kept in (now.0, now.1)
 
-    kept_front : (s : StateHere) → Served (in_loop p) served.first s → (kept : List Event) → s.progress.journey.world.kept ≡ Some kept → IsFrontOf kept s.progress.journey.world.history
-    kept_front s here kept is =
-        front_noted s.progress.edge.server.unkept kept s.progress.journey.world.history
-        (subst (λ (o : Option (List Event)). AreUnkept s.progress.edge.server.unkept o s.progress.journey.world.history) is (reached_at s here).notes)
-
     -- each state's keeper tells the rules
     tells_at : (s : StateHere) → Served (in_loop p) served.first s → HoldsBasis (in_loop p).keeping.crashes s.keeper (Rules (rules_of given.registry))
     tells_at s here = (served.basis served.first s (begins served.is_first) (served_onward (in_loop p) served.first s here)).holds (Rules (rules_of given.registry)) first_tells
@@ -116,7 +113,7 @@ module _ {D N C J : Type 0} (p : LifePromises D N C J) (only_now : (d : D) (c : 
     leaves_then_at : (s : StateHere) (here : Served (in_loop p) served.first s) (on : Onward (in_loop p) s served.last) (kept : List Event) → s.progress.journey.world.kept ≡ Some kept →
         Leaves p s.keeper.file.device served.end.keeper.file.device (IsWhole given.registry kept served.last.progress.journey.world.history)
     leaves_then_at s here on kept is =
-        let all = front_then kept s.progress.journey.world.history served.last.progress.journey.world.history (kept_front s here kept is) (served.carries s served.last here on).front in
+        let all = front_then kept s.progress.journey.world.history served.last.progress.journey.world.history (served_front (in_loop p) served.first s here kept is) (served.carries s served.last here on).front in
         leaves_whole s served.last served.end.keeper kept _ here (served.durable_then first_holds s here on kept is) (served.basis_then s here on)
         (λ c. ⊎_elim (whole_between s served.last served.served kept c)
         (λ stands told. whole_at served.last served.served kept served.last.progress.journey.world.history c all (same_front _ _ refl) stands told))
@@ -136,7 +133,7 @@ module _ {D N C J : Type 0} (p : LifePromises D N C J) (only_now : (d : D) (c : 
     loses_nothing =
         let first = begins served.is_first in
         let on = served_onward (in_loop p) served.first served.last served.served in
-        let all = front_then before served.first.progress.journey.world.history served.last.progress.journey.world.history (kept_front served.first first before first_kept)
+        let all = front_then before served.first.progress.journey.world.history served.last.progress.journey.world.history (served_front (in_loop p) served.first served.first first before first_kept)
         (carried served.last served.served).front in
         let start : LosesNothing p given begun.keeper.file.device before served.last.progress.journey.world.history =
         more_loses p given before begun.keeper.file.device served.last.progress.journey.world.history all
@@ -146,7 +143,7 @@ module _ {D N C J : Type 0} (p : LifePromises D N C J) (only_now : (d : D) (c : 
         (subst (λ (k : SeenKeeper D). Leaves p served.first.keeper.file.device k.file.device (IsWhole given.registry before served.last.progress.journey.world.history)) (sym end_keeper)
         (leaves_then_at served.first first on before first_kept)) in
         leaves_then p given.device begun.keeper.file.device ending.tools.keeper.file.device _ start
-        (leaves_map p begun.keeper.file.device ending.tools.keeper.file.device _ _ (λ c whole. inr whole) then)
+        (leaves_weaker p.device begun.keeper.file.device ending.tools.keeper.file.device _ _ (λ c whole. inr whole) then)
 
     pub has_lived : Reached chain.ghosts edge (loop_of given begun edge before).journey → HasLived p given begun before ending
     has_lived reached = record {

@@ -1,33 +1,19 @@
 -- What a crash leaves of a life that was begun, and of its loop.
-use Rattle.std.proofs.Common.{◌≡◌, ⊎_elim, inl, inr, ℕ, List, [], ◌∷◌, ◌++◌, Option, None, Some, refl, sym, subst, arith}
-use Rattle.lifetime.proofs.Names.{recovered, IsFrontOf, RegistryRecord, Event, AllRight, HostRun, AreUnkept, Named, StandFor, StandsFor, IsOldOr, Tell, TellsRules, rules_of, Given, LifePromises}
+use Rattle.std.proofs.Common.{◌≡◌, ⊎_elim, inl, inr, ℕ, List, [], refl, sym, subst, arith}
+use Rattle.lifetime.proofs.Names.{recovered, IsFrontOf, RegistryRecord, Event, AllRight, HostRun, Named, StandFor, StandsFor, IsOldOr, Tell, TellsRules, rules_of, Given, LifePromises}
 use Rattle.lifetime.proofs.Names.{IsWhole, Leaves, LosesNothing, front_then, same_front}
-use Rattle.change_codec.specs.HappenedLaws.{Happened-front}
-use Rattle.change_codec.specs.Spelling.{DatedFact}
+use Rattle.state_file.specs.ReplayingLaws.{front_run}
+use Rattle.state_file.proofs.Put.{leaves_weaker}
+use Rattle.state_file.proofs.Redone.{right_before}
 use Rattle.hook_chain.specs.contracts.chain.ChainHookHost.TheImpl as chain
 
 -- FRONTS
 
-before_right : (rules : RegistryRecord) (start front more : List Event) → AllRight rules start (front ++ more) → AllRight rules start front
-before_right rules start [] more right = tt
-before_right rules start (e ∷ front) more right = (right.0, before_right rules (start ++ e ∷ []) front more right.1)
-
 front_right : (rules : RegistryRecord) (front all : List Event) → IsFrontOf front all → AllRight rules [] all → AllRight rules [] front
-front_right rules front all is right = before_right rules [] front is.0 (subst (λ (h : List Event). AllRight rules [] h) is.1 right)
-
-before_ran : (first now : List Named) (front more : List Event) → HostRun chain.ghosts first (front ++ more) now → (mid : List Named) × HostRun chain.ghosts first front mid
-before_ran first now [] more ran = (first, refl)
-before_ran first now (e ∷ front) more ran = let rest = before_ran ran.0 now front more ran.2 in (rest.0, (ran.0, ran.1, rest.1))
+front_right rules front all is right = right_before rules [] front is.0 (subst (λ (h : List Event). AllRight rules [] h) is.1 right)
 
 front_ran : (front all : List Event) (host : List Named) → IsFrontOf front all → HostRun chain.ghosts [] all host → (mid : List Named) × HostRun chain.ghosts [] front mid
-front_ran front all host is ran = before_ran [] host front is.0 (subst (λ (h : List Event). HostRun chain.ghosts [] h host) is.1 ran)
-
--- what was kept is a front of what happened
-pub front_noted : (unkept : Option (List DatedFact)) (kept history : List Event) → AreUnkept unkept (Some kept) history → IsFrontOf kept history
-front_noted unkept kept history noted = elim unkept as (λ u. AreUnkept u (Some kept) history → IsFrontOf kept history) [
-  | None ↦ (λ none. absurd none)
-  | Some facts ↦ (λ happened. Happened-front kept history facts happened)
-] noted
+front_ran front all host is ran = front_run [] host front is.0 (subst (λ (h : List Event). HostRun chain.ghosts [] h host) is.1 ran)
 
 -- WHAT IS WHOLE
 
@@ -68,13 +54,6 @@ whole_batches rules batches history c bears same =
 module _ {D N C J : Type 0} (p : LifePromises D N C J) where
   -- CRASHES, ONE RUN AFTER THE OTHER
 
-  pub leaves_map : (old new : D) (P Q : List ℕ → Type 0) → ((c : List ℕ) → P c → Q c) → Leaves p old new P → Leaves p old new Q
-  leaves_map old new P Q f leaves = record {
-    later = leaves.later;
-    each = λ c left. f c (leaves.each c left);
-    before = λ t c le left. ⊎_elim inl (λ is. inr (f c is)) (leaves.before t c le left);
-  }
-
   pub leaves_then : (a b c : D) (P : List ℕ → Type 0) → Leaves p a b P → Leaves p b c P → Leaves p a c P
   leaves_then a b c P one two = record {
     later = omega (arith, one.later, two.later);
@@ -86,7 +65,7 @@ module _ {D N C J : Type 0} (p : LifePromises D N C J) where
     -- what was left before the life stays; what has the batches is whole
     pub old_or_loses : (device : D) (batches : List (List ℕ)) → Bears given.registry batches before → Leaves p given.device device (IsOldOr p.device given.device batches) →
         LosesNothing p given device before before
-    old_or_loses device batches bears = leaves_map given.device device _ _ (λ c. ⊎_elim inl (λ same. inr (whole_batches given.registry batches before c bears same)))
+    old_or_loses device batches bears = leaves_weaker p.device given.device device _ _ (λ c. ⊎_elim inl (λ same. inr (whole_batches given.registry batches before c bears same)))
 
     pub more_loses : (device : D) (all : List Event) → IsFrontOf before all → LosesNothing p given device before before → LosesNothing p given device before all
-    more_loses device all front = leaves_map given.device device _ _ (λ c. ⊎_elim inl (λ whole. inr (whole_more given.registry before before all c front whole)))
+    more_loses device all front = leaves_weaker p.device given.device device _ _ (λ c. ⊎_elim inl (λ whole. inr (whole_more given.registry before before all c front whole)))

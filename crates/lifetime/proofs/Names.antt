@@ -1,21 +1,15 @@
 -- The names of other crates that more than one file of these proofs uses.
+pub use Rattle.lifetime.specs.Names.{IsFrontOf, RegistryRecord, Event, Outset, outset_of, SeenServer, Onward, HasServed, ServesNothing, LoopState, Served, Named, SeenEdge, Journey, Reached}
+pub use Rattle.lifetime.specs.Names.{resumed_journey, HookFact, SeenKeeper, WasLived, StandsFor, until_of, IsPutOn, IsOfDisk, IsOldOr, IsUntouched, Tell, TellsRules, rules_of, StateFault}
 pub use Rattle.batch_file.specs.Frames.{recovered, torn_of}
-pub use Rattle.change_codec.specs.Keeping.{IsFrontOf, HoldsBasis, Rules, TellsBasis}
-pub use Rattle.clients.specs.RegistryRecord.{RegistryRecord}
-pub use Rattle.consent.specs.History.{Event}
+pub use Rattle.change_codec.specs.Keeping.{HoldsBasis, Rules, TellsBasis}
 pub use Rattle.endpoints.specs.Bounded.{AllRight, IsBounded}
 pub use Rattle.endpoints.specs.Hosts.{HostRun}
-pub use Rattle.endpoints.specs.Server.{AreUnkept, Outset, outset_of, SeenServer}
-pub use Rattle.event_loop.specs.Durable.{Onward, Carries, KeeperHolds, StandsBetween}
+pub use Rattle.event_loop.specs.Durable.{Carries, KeeperHolds, StandsBetween}
 pub use Rattle.event_loop.specs.DurableLaws.{front_then, same_front, served_onward, served_on}
-pub use Rattle.event_loop.specs.Ends.{HasServed, ServesNothing}
-pub use Rattle.event_loop.specs.LoopStates.{LoopState}
-pub use Rattle.event_loop.specs.Served.{Served, begins}
+pub use Rattle.event_loop.specs.Served.{begins}
 pub use Rattle.event_loop.specs.declared.tools.Tools.{Tools}
-pub use Rattle.hook_chain.specs.Chains.{Named}
-pub use Rattle.http_edge.specs.Edges.{SeenEdge}
-pub use Rattle.http_edge.specs.Reached.{Journey, Reached, resumed_journey}
-pub use Rattle.image_codec.specs.Facts.{HookFact, hook_fact}
+pub use Rattle.image_codec.specs.Facts.{hook_fact}
 pub use Rattle.lifetime.specs.Found.{ComesOf, IsHeir, MayBeFound, at_first, ever, grows, is_it, narrows, once_settled, settled_at}
 pub use Rattle.lifetime.specs.Given.{Given, LifePromises, in_loop, life_promises, given}
 pub use Rattle.lifetime.specs.Lives.{HasLived, HasNotLived, IsLife, IsWhole, LosesNothing, is_ahead, is_refused, is_unopened, is_unsettled, Leaves, LeavesKept, loop_of, CannotSettle}
@@ -24,13 +18,8 @@ pub use Rattle.lifetime.specs.Plans.{IsPlanOf, begun_from, RefusesPlan, bytes_un
 pub use Rattle.lifetime.specs.Starts.{Begun, Settles, LooksAt, Outlook, too_far_at}
 pub use Rattle.lifetime.specs.declared.life.Life.{Life}
 pub use Rattle.lifetime.specs.declared.plan.Plan.{Plan}
-pub use Rattle.lifetime.specs.declared.serving.Ending.{Ending}
-pub use Rattle.state_file.specs.Knowing.{SeenKeeper}
-pub use Rattle.state_file.specs.Runs.{WasLived}
-pub use Rattle.state_file.specs.Standing.{StandFor, StandsFor, until_of}
-pub use Rattle.state_file.specs.Starting.{IsPutOn, IsOfDisk, IsOldOr, IsUntouched}
-pub use Rattle.state_file.specs.Telling.{Tell, TellsRules, rules_of}
-pub use Rattle.state_file.specs.declared.fault.StateFault.{StateFault}
+pub use Rattle.lifetime.specs.declared.going_on.Ending.{Ending}
+pub use Rattle.state_file.specs.Standing.{StandFor}
 pub use Rattle.state_narrowing.specs.Narrowing.{history_under, HasLeftOfEach, IsNarrower}
 pub use Rattle.state_narrowing.specs.declared.narrowed.Narrowed.{Narrowed}
 pub use Rattle.std.specs.Prelude.{Contains, is_some, IsSome}

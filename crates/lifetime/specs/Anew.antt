@@ -1,17 +1,13 @@
 -- A server that is started without a file of its state, and keeps nothing.
 use Rattle.std.specs.Prelude.{List}
+use Rattle.lifetime.specs.Names.{Keeping, keeping, Outset, Promises, Named, new_journey}
 use Rattle.change_codec.specs.contracts.keeper.NoKeeperKeeper.TheImpl as no_keeper
 use Rattle.change_codec.specs.declared.keeper.NoKeeper.{NoKeeper}
-use Rattle.endpoints.specs.Keeping.{Keeping, keeping}
-use Rattle.endpoints.specs.Server.{Outset}
 use Rattle.endpoints.specs.contracts.image_keeper.NoKeeperImageKeeper.TheImpl as no_imaging
-use Rattle.event_loop.specs.LoopStates.{Promises}
-use Rattle.hook_chain.specs.Chains.{Named}
-use Rattle.http_edge.specs.Reached.{new_journey}
 use Rattle.lifetime.specs.Serving.{Serves}
 use Rattle.lifetime.specs.declared.means.Means.{Means}
-use Rattle.lifetime.specs.declared.serving.AnewEnd.{AnewEnd}
-use Rattle.lifetime.specs.declared.serving.Ending.{Ending}
+use Rattle.lifetime.specs.declared.going_on.AnewEnd.{AnewEnd}
+use Rattle.lifetime.specs.declared.going_on.Ending.{Ending}
 
 -- nothing is kept
 abbrev pub keeping_nothing : Keeping NoKeeper

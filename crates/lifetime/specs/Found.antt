@@ -1,18 +1,12 @@
 -- What may be found after any number of lives, each of them begun on what a crash of one before left.
 use Rattle.std.specs.Prelude.{◌≡◌, ℕ, List, Option, None, Some, Contains}
-use Rattle.change_codec.specs.Keeping.{IsFrontOf}
-use Rattle.clients.specs.RegistryRecord.{RegistryRecord}
-use Rattle.consent.specs.History.{Event}
-use Rattle.event_loop.specs.Durable.{Onward}
-use Rattle.event_loop.specs.Served.{Served}
+use Rattle.lifetime.specs.Names.{IsFrontOf, RegistryRecord, Event, Onward, Served, SeenKeeper, WasLived}
 use Rattle.narrowing.specs.Left.{left_under}
-use Rattle.state_file.specs.Knowing.{SeenKeeper}
-use Rattle.state_file.specs.Runs.{WasLived}
 use Rattle.lifetime.specs.Given.{Given, LifePromises, LifeState, in_loop}
 use Rattle.lifetime.specs.Lives.{HasLived, IsLife, has_stopped, is_unopened}
 use Rattle.lifetime.specs.Starts.{Begun}
 use Rattle.lifetime.specs.declared.life.Life.{Life}
-use Rattle.lifetime.specs.declared.serving.Ending.{Ending}
+use Rattle.lifetime.specs.declared.going_on.Ending.{Ending}
 
 -- the moment of the device at which a life had put its file there, if it came so far
 abbrev pub settled_at : {D N C J : Type 0} {p : LifePromises D N C J} {given : Given D N C J} {life : Life D N C J} → IsLife p given life → Option ℕ

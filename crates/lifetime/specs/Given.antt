@@ -1,18 +1,11 @@
 -- What a life is handed, and what is promised of that.
 use Rattle.std.specs.Prelude.{ℕ, ◌+◌, ◌-◌, ◌^◌, min, List, Some}
+use Rattle.lifetime.specs.Names.{RegistryRecord, Keeping, Promises, LoopState, promises, Journal, Named, HookFact, IsLongFile, SeenKeeper, file_crashes, LifeEnd}
 use Rattle.batch_file.specs.declared.device.Device.{Ghosts as Device}
-use Rattle.clients.specs.RegistryRecord.{RegistryRecord}
-use Rattle.endpoints.specs.Keeping.{Keeping}
-use Rattle.event_loop.specs.LoopStates.{Promises, LoopState, promises}
 use Rattle.event_loop.specs.declared.clocks.Clocks.{Ghosts as Clocks}
-use Rattle.event_loop.specs.declared.journal.Journal.{Ghosts as Journal}
 use Rattle.event_loop.specs.declared.sockets.Sockets.{Ghosts as Sockets}
-use Rattle.hook_chain.specs.Chains.{Named}
 use Rattle.hook_chain.specs.contracts.chain.ChainHookHost.TheImpl as chain
-use Rattle.image_codec.specs.Facts.{HookFact}
-use Rattle.state_file.specs.Knowing.{IsLongFile, SeenKeeper, file_crashes}
 use Rattle.lifetime.specs.declared.life.Life.{Life}
-use Rattle.lifetime.specs.declared.life.LifeEnd.{LifeEnd}
 use Rattle.lifetime.specs.declared.means.Means.{Means}
 
 -- what is promised of a device, of sockets, of clocks and of a journal

@@ -1,25 +1,10 @@
 -- One life of a server on the file of its state.
 use Rattle.std.specs.Prelude.{◌≡◌, ◌⊎◌, ℕ, List, [], None, Some}
-use Rattle.batch_file.specs.Crashes.{LeavesOnly}
-use Rattle.clients.specs.RegistryRecord.{RegistryRecord}
-use Rattle.consent.specs.History.{Event}
-use Rattle.change_codec.specs.Keeping.{IsFrontOf}
+use Rattle.lifetime.specs.Names.{LeavesOnly, RegistryRecord, Event, IsFrontOf, outset_of, Onward, Beginning, HasServed, ServesNothing, Served, Named, SeenEdge, Reached, resumed_journey, SeenKeeper}
+use Rattle.lifetime.specs.Names.{OfEachRun, StandsFor, IsOfDisk, IsUntouched, TellsRules, rules_of, StateFault}
 use Rattle.endpoints.specs.Bounded.{AllRight, IsBounded}
 use Rattle.endpoints.specs.Hosts.{HostRun}
-use Rattle.endpoints.specs.Server.{outset_of}
-use Rattle.event_loop.specs.Durable.{Onward}
-use Rattle.event_loop.specs.Ends.{Beginning, HasServed, ServesNothing}
-use Rattle.event_loop.specs.Served.{Served}
-use Rattle.hook_chain.specs.Chains.{Named}
 use Rattle.hook_chain.specs.contracts.chain.ChainHookHost.TheImpl as chain
-use Rattle.http_edge.specs.Edges.{SeenEdge}
-use Rattle.http_edge.specs.Reached.{Reached, resumed_journey}
-use Rattle.state_file.specs.Knowing.{SeenKeeper}
-use Rattle.state_file.specs.Runs.{OfEachRun}
-use Rattle.state_file.specs.Standing.{StandsFor}
-use Rattle.state_file.specs.Starting.{IsOfDisk, IsUntouched}
-use Rattle.state_file.specs.Telling.{TellsRules, rules_of}
-use Rattle.state_file.specs.declared.fault.StateFault.{StateFault}
 use Rattle.lifetime.specs.Given.{Given, LifePromises, LifeState, in_loop, life_of}
 use Rattle.lifetime.specs.Plans.{RefusesPlan, begun_from}
 use Rattle.lifetime.specs.Serving.{tools_of}
@@ -27,7 +12,7 @@ use Rattle.lifetime.specs.Starts.{Begun, LooksAt, MayReport, Outlook, Settles, t
 use Rattle.lifetime.specs.declared.life.Life.{Life}
 use Rattle.lifetime.specs.declared.life.LifeEnd.TheVariants as ends
 use Rattle.lifetime.specs.declared.means.Means.{Means}
-use Rattle.lifetime.specs.declared.serving.Ending.{Ending}
+use Rattle.lifetime.specs.declared.going_on.Ending.{Ending}
 
 -- WHAT A CRASH LEAVES
 

@@ -1,24 +1,15 @@
 -- Beside Lives: only the contracts of this crate's own parts and their proofs cite this, no public clause.
 use Rattle.std.specs.Prelude.{◌≡◌, ℕ, List, Option}
-use Rattle.batch_file.specs.Crashes.{LeavesOnly}
-use Rattle.clients.specs.RegistryRecord.{RegistryRecord}
-use Rattle.endpoints.specs.Server.{SeenServer}
-use Rattle.hook_chain.specs.Chains.{Named}
-use Rattle.event_loop.specs.declared.clocks.Times.{Times}
-use Rattle.image_codec.specs.Facts.{HookFact}
-use Rattle.state_file.specs.Knowing.{SeenKeeper}
-use Rattle.state_file.specs.Starting.{IsOfDisk, IsOldOr, IsPutOn, IsUntouched}
-use Rattle.state_file.specs.declared.fault.StateFault.{StateFault}
+use Rattle.lifetime.specs.Names.{LeavesOnly, RegistryRecord, SeenServer, Named, Times, HookFact, SeenKeeper, IsOfDisk, IsOldOr, IsPutOn, IsUntouched, StateFault, Refused, Stopped, Unopened}
 use Rattle.lifetime.specs.Given.{LifePromises, given, in_loop, life_of}
 use Rattle.lifetime.specs.Lives.{IsLife, means_left}
 use Rattle.lifetime.specs.Plans.{IsPlanOf}
 use Rattle.lifetime.specs.Serving.{ServesFrom}
 use Rattle.lifetime.specs.Starts.{MayReport, Outlook, ReportsAll, start_notices, torn_notices}
 use Rattle.lifetime.specs.declared.life.Life.{Life}
-use Rattle.lifetime.specs.declared.life.LifeEnd.TheVariants.{Refused, Stopped, Unopened}
 use Rattle.lifetime.specs.declared.means.Means.{Means}
 use Rattle.lifetime.specs.declared.plan.Plan.{Plan}
-use Rattle.lifetime.specs.declared.serving.Ending.{Ending}
+use Rattle.lifetime.specs.declared.going_on.Ending.{Ending}
 
 -- a server that was started went on from there with its keeper and its means
 pub data IsGoneOn {D N C J : Type 0} (p : LifePromises D N C J) (server : SeenServer (List Named)) (keeper : SeenKeeper D) (means : Means N C J) :

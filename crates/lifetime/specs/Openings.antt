@@ -1,7 +1,6 @@
 -- How clients are told where sockets listen.
 use Rattle.std.specs.Prelude.{◌≡◌, Bool, true, false}
-use Rattle.lifetime.specs.declared.life.LifeEnd.{LifeEnd}
-use Rattle.lifetime.specs.declared.life.LifeEnd.TheVariants.{Unopened, Stopped}
+use Rattle.lifetime.specs.Names.{LifeEnd, Unopened, Stopped}
 
 -- by the end of a life: they were told where the server served, could not be told, or nothing was tried
 abbrev pub IsOpenedBy : {O : Type 0} → (O → Bool → O → Type 0) → O → LifeEnd → O → Type 0

@@ -1,18 +1,10 @@
 -- What a start makes of the bytes of a state file, before anything is written.
 use Rattle.std.specs.Prelude.{◌≡◌, ◌≤◌, ◌⊎◌, ◌↔◌, ℕ, List, [], Option, None, Some, IsSome, IfSome, option_map}
+use Rattle.lifetime.specs.Names.{RegistryRecord, Event, outset_of, Named, HookFact, OfEachRun, IsMomentTold, until_of, Tell, rules_of, StateFault}
 use Rattle.batch_file.specs.Frames.{recovered, torn_of}
-use Rattle.clients.specs.RegistryRecord.{RegistryRecord}
-use Rattle.consent.specs.History.{Event}
-use Rattle.endpoints.specs.Server.{outset_of}
-use Rattle.hook_chain.specs.Chains.{Named}
 use Rattle.hook_chain.specs.contracts.chain.ChainHookHost.TheImpl as chain
-use Rattle.image_codec.specs.Facts.{HookFact}
 use Rattle.state_file.specs.Hooks.{with_hooks}
 use Rattle.state_file.specs.Making.{MakesFrom, OnBytes, RefusesMaking, on_bytes}
-use Rattle.state_file.specs.Runs.{OfEachRun}
-use Rattle.state_file.specs.Standing.{IsMomentTold, until_of}
-use Rattle.state_file.specs.Telling.{Tell, rules_of}
-use Rattle.state_file.specs.declared.fault.StateFault.{StateFault}
 use Rattle.state_file.specs.declared.fault.StateFault.TheVariants as state
 use Rattle.state_narrowing.specs.Narrowing.{HasLeft, IsNarrower, IsUnnarrowed, history_under}
 use Rattle.state_narrowing.specs.declared.narrowed.Narrowed.{Narrowed}

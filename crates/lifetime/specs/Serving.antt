@@ -1,15 +1,9 @@
 -- A server that serves its connections until it can't go on.
 use Rattle.std.specs.Prelude.{◌⊎◌, ℕ, List, Some}
-use Rattle.consent.specs.History.{Event}
-use Rattle.endpoints.specs.Server.{SeenServer, Outset, FitsServer, Notes}
-use Rattle.event_loop.specs.Ends.{HasServed, ServesNothing}
-use Rattle.event_loop.specs.LoopStates.{Promises}
+use Rattle.lifetime.specs.Names.{Event, SeenServer, Outset, FitsServer, Notes, HasServed, ServesNothing, Promises, Named, SeenEdge, Journey, Reached, resumed_journey}
 use Rattle.event_loop.specs.declared.tools.Tools.{Tools}
-use Rattle.hook_chain.specs.Chains.{Named}
-use Rattle.http_edge.specs.Edges.{SeenEdge}
-use Rattle.http_edge.specs.Reached.{Journey, Reached, resumed_journey}
 use Rattle.lifetime.specs.declared.means.Means.{Means}
-use Rattle.lifetime.specs.declared.serving.Ending.{Ending}
+use Rattle.lifetime.specs.declared.going_on.Ending.{Ending}
 
 -- the tools of the loop: what a server was handed, its keeper and an edge
 abbrev pub tools_of : {N C J K H : Type 0} → Means N C J → K → SeenEdge H → Tools N C J K H

@@ -3,17 +3,17 @@
 #![tactic(auto)]
 
 mod clock;
+mod going_on;
 mod laws;
 mod life;
 mod means;
 mod opening;
 mod plan;
-mod serving;
 mod settling;
 
+pub use going_on::{AnewEnd, live_anew};
 pub use laws::lives_lose_nothing;
 pub use life::{Life, LifeEnd, live};
 pub use means::Means;
 pub use opening::{Opening, Unopened};
 pub use plan::{Plan, plan_of};
-pub use serving::{AnewEnd, live_anew};

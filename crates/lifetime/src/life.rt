@@ -8,10 +8,10 @@ ghost use Rattle.lifetime.specs.Openings.{IsOpenedBy};
 ghost use Rattle.lifetime.specs.LivesParts.{Begins, IsGoneOn, LivesBy, outlook_of};
 
 use crate::clock::too_far;
+use crate::going_on::{Ending, go_on_with};
 use crate::means::Means;
 use crate::opening::Opening;
 use crate::plan::{Plan, plan_of};
-use crate::serving::{Ending, go_on_with};
 use crate::settling::settle;
 use batch_file::appending::BatchFault;
 use batch_file::device::Device;

@@ -1,10 +1,9 @@
 -- A server as an image, and a server made of one.
 use Rattle.std.proofs.Common.{◌≡◌, ℕ, List, [], ◌∷◌, ◌++◌, map, refl, sym, ap, ◌∙◌, subst}
+use Rattle.state_file.specs.Names.{HostRun, layout_of}
 use Rattle.state_file.proofs.Names.{FitsConsents, kept_consents, Event, KeptConsent, AllRight, SeenServer, FitsServer, Outset, outset_of, Hosting, record_fact, HookFact, ImageFact, IsImageFor}
 use Rattle.state_file.proofs.Names.{Installs, IsMadeOf, Restored}
-use Rattle.endpoints.specs.Hosts.{HostRun}
 use Rattle.endpoints.specs.Restoring.{AreOf}
-use Rattle.endpoints.specs.Layouts.{layout_of}
 use Rattle.token_store.specs.Image.{kept_told}
 use Rattle.token_store.specs.ImageLaws.{all_same}
 use Rattle.token_store.specs.Fits.{FitsHistory, FitsStore}

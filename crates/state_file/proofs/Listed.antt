@@ -1,5 +1,5 @@
 -- The clients of a registry, one after the other.
-use Rattle.std.proofs.Common.{◌≡◌, ◌+◌, ◌-◌, ◌++◌, ◌∙◌, ℕ, zero, suc, List, [], ◌∷◌, map, take, Some, refl, sym, ap, subst, arith}
+use Rattle.std.proofs.Common.{◌≡◌, ◌+◌, ◌-◌, ◌++◌, ◌∙◌, ℕ, zero, suc, List, [], ◌∷◌, map, take, Some, refl, sym, ap, arith}
 use Rattle.state_file.proofs.Names.{◌==◌, slice_get, ne_eqb, map_push, ClientRecord, ClientFact, client_fact, ClientRules, client_told}
 use Rattle.std.specs.Prelude.{false}
 use Rattle.clients.specs.Clients.{client_at}

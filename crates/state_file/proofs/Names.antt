@@ -1,30 +1,29 @@
 -- The names of other crates that more than one file of these proofs uses.
+pub use Rattle.state_file.specs.Names.{recovered, frames_size, Device, Happened, Basis, Until, Rules, ClientFact, RulesFact, DatedFact, HaveSpelling, batch_spelling, RegistryRecord, Event, is_within}
+pub use Rattle.state_file.specs.Names.{with_change, happens, Outset, SeenServer, FitsServer, Notes, AreNoted, Hosting, HookFact, ImageFact, ImageFits, image_spelling, rules_spelling, RulesFit}
+pub use Rattle.state_file.specs.Names.{StateFault, option_or, bytes_eq}
 pub use Rattle.batch_file.specs.Crashes.{LeavesOnly, Only, IsUnplaced}
-pub use Rattle.batch_file.specs.Frames.{recovered, IsOldOrNew, IsOnDisk, IsAsBefore, file_size, frames_size, lists}
+pub use Rattle.batch_file.specs.Frames.{IsOldOrNew, IsOnDisk, IsAsBefore, file_size, lists}
 pub use Rattle.batch_file.specs.declared.appending.BatchFile.{BatchFile}
-pub use Rattle.batch_file.specs.declared.device.Device.{Ghosts as Device}
-pub use Rattle.change_codec.specs.Happened.{Happened, meaning_of, dated, all_dated}
+pub use Rattle.change_codec.specs.Happened.{meaning_of, dated, all_dated}
 pub use Rattle.change_codec.specs.HappenedLaws.{Happened-front, Happened-split, meaning_of-told, Happened-joined}
-pub use Rattle.change_codec.specs.Keeping.{Basis, Until, Rules, Holds, HoldsBasis, Keeps, KeepsBasis, KeepsNot, LeavesEither, StandsForEither, TellsBasis}
-pub use Rattle.change_codec.specs.Rules.{ClientFact, RulesFact}
-pub use Rattle.change_codec.specs.Spelling.{DatedFact, HaveSpelling, batch_spelling, dated_fact, dated_facts}
+pub use Rattle.change_codec.specs.Keeping.{Holds, HoldsBasis, Keeps, KeepsBasis, KeepsNot, LeavesEither, StandsForEither, TellsBasis}
+pub use Rattle.change_codec.specs.Spelling.{dated_fact, dated_facts}
 pub use Rattle.change_codec.specs.declared.dated.DatedChange.{DatedChange}
 pub use Rattle.clients.specs.ClientRecord.{ClientRecord}
-pub use Rattle.clients.specs.RegistryRecord.{RegistryRecord}
 pub use Rattle.consent.specs.Consents.{FitsConsents, kept_consents}
 pub use Rattle.consent.specs.Facts.{Fact, Issued, FamilyEnded, fact_of}
-pub use Rattle.consent.specs.History.{Event, is_within, event_at, grant_at, with_change, Change as happens}
+pub use Rattle.consent.specs.History.{event_at, grant_at}
 pub use Rattle.consent.specs.RecordFacts.{record_fact}
 pub use Rattle.consent.specs.declared.change.Changes.TheVariants.{One}
 pub use Rattle.consent.specs.declared.kept_consent.KeptConsent.{KeptConsent}
 pub use Rattle.consent.specs.declared.record_version.RecordVersion.TheVariants.{First}
 pub use Rattle.endpoints.specs.Bounded.{AllRight, token_life_limit}
 pub use Rattle.endpoints.specs.Noting.{with_notes}
-pub use Rattle.endpoints.specs.Server.{AreUnkept, Outset, SeenServer, FitsServer, outset_of, Notes, NowNotes, AreNoted}
+pub use Rattle.endpoints.specs.Server.{AreUnkept, outset_of, NowNotes}
 pub use Rattle.endpoints.specs.declared.image_keeper.ImageFault.TheVariants.{TooLong}
-pub use Rattle.hook_host.specs.declared.host.HookHost.{Ghosts as Hosting}
-pub use Rattle.image_codec.specs.Facts.{HookFact, ImageFact, client_fact, hook_fact, image_fact, rules_fact}
-pub use Rattle.image_codec.specs.Spelling.{ImageFits, image_spelling, rules_spelling, RulesFit, rules_fields}
+pub use Rattle.image_codec.specs.Facts.{client_fact, hook_fact, image_fact, rules_fact}
+pub use Rattle.image_codec.specs.Spelling.{rules_fields}
 pub use Rattle.image_codec.specs.SpellingLaws.{one_image, one_rules, rules_of_fitting}
 pub use Rattle.image_codec.specs.declared.image.ClientRules.{ClientRules}
 pub use Rattle.image_codec.specs.declared.image.KeptHook.{KeptHook}
@@ -42,7 +41,6 @@ pub use Rattle.state_file.specs.StandingLaws.{AreTold-changes, StandFor-joined, 
 pub use Rattle.state_file.specs.Starting.{IsOldOr, IsPutOn}
 pub use Rattle.state_file.specs.Telling.{client_told, rules_of, Tell, last_rules, TellsIn, IsOfRules, rules_in}
 pub use Rattle.state_file.specs.TellingLaws.{last_rules-push, tell_in, tell_one, tells_one}
-pub use Rattle.state_file.specs.declared.fault.StateFault.{StateFault}
 pub use Rattle.state_file.specs.declared.keeper.Known.{Known}
 pub use Rattle.state_file.specs.declared.restored.Restored.{Restored}
 pub use Rattle.std.proofs.lemmas.Bool.{eqb-true, lt-ltb, ne_eqb, iff_false}
@@ -51,7 +49,6 @@ pub use Rattle.std.proofs.lemmas.Grind.{common_steps}
 pub use Rattle.std.proofs.lemmas.List.{drop_all, drop_more, map_push, append-nil, map-append, take-append-drop, take_all, take_more}
 pub use Rattle.std.proofs.lemmas.Slice.Eq.{bytes_eq-Decides}
 pub use Rattle.std.specs.List.{slice_get}
-pub use Rattle.std.specs.Option.{option_or, option_copied}
+pub use Rattle.std.specs.Option.{option_copied}
 pub use Rattle.std.specs.Prelude.{max, if◌then◌else◌, option_map, IfSome, IsSome, unwrap_or, ◌==◌, ◌/◌, IfErr, IsTrue}
-pub use Rattle.std.specs.Str.{bytes_eq}
 pub use Rattle.wire.specs.Format.{ok_is}

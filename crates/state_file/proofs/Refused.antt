@@ -9,7 +9,7 @@ use Rattle.endpoints.specs.Redo.{RefusesRedo, history_refusal}
 use Rattle.endpoints.specs.declared.redo.RedoFault.{RedoFault}
 use Rattle.endpoints.specs.declared.redo.RedoFault.TheVariants as redoing
 use Rattle.hook_host.specs.declared.fault.HookFault.{HookFault}
-use Rattle.state_file.specs.FaultTexts.{of_redoing}
+use Rattle.state_file.specs.Faults.{of_redoing}
 use Rattle.state_file.specs.declared.fault.StateFault.TheVariants as state
 
 -- what the batch tells is not read

@@ -1,15 +1,10 @@
 -- When a registry's rules are as wide as those that a file tells, and where they first are not.
 use Rattle.std.specs.Prelude.{◌≡◌, ◌≤◌, ◌<◌, ◌^◌, ◌⊎◌, ℕ, zero, suc, List, [], ◌∷◌, length, map, Option, None, Some, if◌then◌else◌, string_bytes}
-use Rattle.std.specs.Str.{bytes_eq}
-use Rattle.wire.specs.declared.fault.Fault.{Fault}
-use Rattle.consent.specs.History.{is_within}
-use Rattle.change_codec.specs.Rules.{ClientFact, RulesFact}
-use Rattle.image_codec.specs.Spelling.{image_reading, rules_reading}
-use Rattle.image_codec.specs.Spelling.{RulesCount, rules_spelling}
+use Rattle.state_file.specs.Names.{bytes_eq, Fault, is_within, ClientFact, RulesFact, image_reading, rules_reading, RulesCount, rules_spelling, StateFault, NoRules, Spelling, ScopeMoved, OwnerMoved}
+use Rattle.state_file.specs.Names.{ClientMoved, ClientNarrowed, LifeNarrowed}
 use Rattle.std.specs.Prelude.{Err}
 use Rattle.state_file.specs.Telling.{last_rules, Tell, TellsIn, BeginWithRules}
-use Rattle.state_file.specs.declared.fault.StateFault.{StateFault}
-use Rattle.state_file.specs.declared.fault.StateFault.TheVariants.{Memory, TooLong, NoRules, Spelling, ScopeMoved, OwnerMoved, ClientMoved, ClientNarrowed, LifeNarrowed}
+use Rattle.state_file.specs.declared.fault.StateFault.TheVariants.{Memory, TooLong}
 
 -- the first of the names told that does not have its place now
 abbrev pub first_moved : List (List ℕ) → List (List ℕ) → Option (List ℕ)

@@ -1,11 +1,7 @@
 -- The hooks that a history sets.
 use Rattle.std.specs.Prelude.{◌≡◌, ◌++◌, ℕ, List, [], ◌∷◌, Option, Some, is_some, find, filter, not, if◌then◌else◌, All}
-use Rattle.std.specs.Str.{bytes_eq}
-use Rattle.consent.specs.History.{Event, Change, with_change}
-use Rattle.consent.specs.History.{Change as happens}
+use Rattle.state_file.specs.Names.{bytes_eq, Event, Change, with_change, happens, DatedFact, HaveSpelling, batch_spelling, HookFact}
 use Rattle.consent.specs.Facts.{Fact, HookSet, HookGone}
-use Rattle.change_codec.specs.Spelling.{DatedFact, HaveSpelling, batch_spelling}
-use Rattle.image_codec.specs.Facts.{HookFact}
 
 -- the hook of the name
 abbrev pub hook_named : List ℕ → List HookFact → Option HookFact

@@ -1,13 +1,8 @@
 -- What a keeper knows of its file.
 use Rattle.std.specs.Prelude.{◌≡◌, ◌⊎◌, ◌<◌, ◌≤◌, ◌^◌, ◌/◌, ℕ, List, [], ◌∷◌, length, Option, IfSome, if◌then◌else◌}
-use Rattle.batch_file.specs.Frames.{recovered}
+use Rattle.state_file.specs.Names.{recovered, Device, Basis, Until, Rules, Crashes, crashes, Event, RulesFact, rules_spelling}
 use Rattle.batch_file.specs.declared.appending.BatchFault.{BatchFault}
 use Rattle.batch_file.specs.declared.appending.BatchFile.{BatchFile}
-use Rattle.batch_file.specs.declared.device.Device.{Ghosts as Device}
-use Rattle.change_codec.specs.Keeping.{Basis, Until, Rules, Crashes, crashes}
-use Rattle.consent.specs.History.{Event}
-use Rattle.change_codec.specs.Rules.{RulesFact}
-use Rattle.image_codec.specs.Spelling.{rules_spelling}
 use Rattle.state_file.specs.Hooks.{hooks_set_in}
 use Rattle.state_file.specs.Standing.{StandFor, StandsFor, begins_image, until_of}
 use Rattle.state_file.specs.Telling.{Tell}

@@ -7,7 +7,7 @@ pub mod Resuming
 pub mod Runs
 pub mod Making
 pub mod Starting
-pub mod FaultTexts
+pub mod Faults
 pub mod Knowing
 pub mod Renewing
 -- What only the contracts of this crate's own parts and their proofs cite.
@@ -18,3 +18,5 @@ pub mod TellingLaws
 pub mod ResumingLaws
 pub mod ReplayingLaws
 pub mod RunLaws
+-- What these files import, passed on.
+pub mod Names

@@ -1,11 +1,6 @@
 -- What a server is started with on the bytes of a state file, before anything is written.
 use Rattle.std.specs.Prelude.{◌≡◌, ◌≤◌, ◌⊎◌, ◌+◌, ◌^◌, ℕ, List, [], length, Some, unwrap_or}
-use Rattle.batch_file.specs.Frames.{frames_size, recovered, torn_of}
-use Rattle.change_codec.specs.Spelling.{batch_spelling}
-use Rattle.consent.specs.History.{Event}
-use Rattle.endpoints.specs.Server.{Outset, SeenServer}
-use Rattle.hook_host.specs.declared.host.HookHost.{Ghosts as Hosting}
-use Rattle.image_codec.specs.Facts.{HookFact}
+use Rattle.state_file.specs.Names.{frames_size, recovered, torn_of, batch_spelling, Event, Outset, SeenServer, Hosting, HookFact, StateFault}
 use Rattle.state_file.specs.Hooks.{AreSet, with_hooks}
 use Rattle.state_file.specs.Knowing.{IsLong, image_size}
 use Rattle.state_file.specs.Renewing.{HasTooMuch}
@@ -13,7 +8,6 @@ use Rattle.state_file.specs.Resuming.{AnswersFor, OfEachHistory, RefusesResume, 
 use Rattle.state_file.specs.Standing.{IsMomentTold, StandFor, until_of}
 use Rattle.state_file.specs.Telling.{Tell, rules_of}
 use Rattle.state_file.specs.declared.restored.Restored.{Restored}
-use Rattle.state_file.specs.declared.fault.StateFault.{StateFault}
 use Rattle.state_file.specs.declared.fault.StateFault.TheVariants as state
 
 -- what a server is started on: what stands in a file, the registry with a host, and the hooks that it is to have

@@ -1,14 +1,8 @@
 -- Beside Making: only the contracts of this crate's own parts and their proofs cite this, no public clause.
 use Rattle.std.specs.Prelude.{◌≡◌, ◌⊎◌, ◌≤◌, ◌^◌, ◌++◌, ℕ, List, [], ◌∷◌, length}
-use Rattle.change_codec.specs.Spelling.{DatedFact, HaveSpelling, batch_spelling}
-use Rattle.endpoints.specs.Imaging.{OfFitted}
-use Rattle.endpoints.specs.Server.{SeenServer}
-use Rattle.hook_host.specs.declared.host.HookHost.{Ghosts as Hosting}
-use Rattle.change_codec.specs.Rules.{RulesFact}
-use Rattle.image_codec.specs.Spelling.{RulesFit, rules_spelling}
+use Rattle.state_file.specs.Names.{DatedFact, HaveSpelling, batch_spelling, OfFitted, SeenServer, Hosting, RulesFact, RulesFit, rules_spelling, StateFault}
 use Rattle.state_file.specs.Standing.{StandFor, until_of}
 use Rattle.state_file.specs.Telling.{Tell}
-use Rattle.state_file.specs.declared.fault.StateFault.{StateFault}
 use Rattle.state_file.specs.declared.fault.StateFault.TheVariants as state
 
 -- the rules stand behind the old batches, unless these told just them

@@ -1,10 +1,6 @@
 -- When an image is put in the place of a state file's batches.
 use Rattle.std.specs.Prelude.{◌≡◌, ◌⊎◌, ◌≤◌, ◌^◌, ℕ, List, length}
-use Rattle.endpoints.specs.Server.{SeenServer}
-use Rattle.hook_host.specs.declared.host.HookHost.{Ghosts as Hosting}
-use Rattle.image_codec.specs.Facts.{HookFact, ImageFact}
-use Rattle.image_codec.specs.Spelling.{ImageCounts, ImageFits, image_spelling, rules_spelling}
-use Rattle.endpoints.specs.Imaging.{OfFitted}
+use Rattle.state_file.specs.Names.{SeenServer, Hosting, HookFact, ImageFact, ImageCounts, ImageFits, image_spelling, rules_spelling, OfFitted}
 use Rattle.endpoints.specs.declared.image_keeper.ImageFault.{ImageFault}
 use Rattle.endpoints.specs.declared.image_keeper.ImageFault.TheVariants.{Memory, TooLong, Unwritten, Failed}
 use Rattle.state_file.specs.Hooks.{hooks_set_in}

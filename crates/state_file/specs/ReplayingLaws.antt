@@ -1,19 +1,12 @@
 -- A chain of hooks that is made again of what is left of them.
 use Rattle.std.proofs.Common.{◌≡◌, ℕ, List, [], ◌∷◌, ◌++◌, Bool, true, false, refl, sym, ap, ◌∙◌, subst, append_assoc, append-nil}
-use Rattle.std.specs.Str.{bytes_eq}
+use Rattle.state_file.specs.Names.{bytes_eq, Event, Change, IsFrontOf, HostStep, HostRun, Named, IsAcceptedCode, IsInstalled, without_name, layout_of, HookFact}
 use Rattle.consent.specs.declared.record_version.RecordVersion.{RecordVersion}
-use Rattle.consent.specs.History.{Event, Change}
-use Rattle.consent.specs.History.Change.{Consented, CodeGiven, Issued, Spent, FamilyEnded, HookSet, HookGone}
-use Rattle.change_codec.specs.Keeping.{IsFrontOf}
+use Rattle.consent.specs.History.Change.{HookSet, HookGone}
 use Rattle.encoding.proofs.Reading.{one_program}
-use Rattle.endpoints.specs.Hosts.{HostStep, HostRun}
-use Rattle.hook_chain.specs.Chains.{Named, IsAcceptedCode, IsInstalled, without_name}
 use Rattle.hook_chain.specs.contracts.chain.ChainHookHost.TheImpl as chain
-use Rattle.endpoints.specs.Layouts.{layout_of}
-use Rattle.image_codec.specs.Facts.{HookFact}
 use Rattle.state_file.specs.Hooks.{hooks_after, hooks_set_in, hooks_with, without_hook}
 use Rattle.state_file.specs.Resuming.{Installs, Replays}
-use Rattle.verifier.specs.Verdicts.{Checked}
 
 -- the chain has just these hooks
 abbrev Has : List Named → List HookFact → Type 0
@@ -24,9 +17,8 @@ Has (n ∷ ns) (h ∷ hs) = (n.name ≡ h.name) × IsAcceptedCode (layout_of h.v
 
 has_push : (ns : List Named) (hs : List HookFact) (n : Named) (h : HookFact) → Has ns hs → n.name ≡ h.name → IsAcceptedCode (layout_of h.version) h.code n.hook → Has (ns ++ n ∷ []) (hs ++ h ∷ [])
 has_push [] [] n h has name accepted = (name, accepted, tt)
-has_push [] (g ∷ hs) n h has name accepted = absurd has
-has_push (m ∷ ns) [] n h has name accepted = absurd has
 has_push (m ∷ ns) (g ∷ hs) n h has name accepted = (has.0, has.1, has_push ns hs n h has.2 name accepted)
+has_push _ _ n h has name accepted = absurd has
 
 has_passed : (name : List ℕ) (n : Named) (ns : List Named) (h : HookFact) (hs : List HookFact) (b : Bool) → bytes_eq name n.name ≡ b → bytes_eq name h.name ≡ b →
     Has (n ∷ ns) (h ∷ hs) → Has (without_name name ns) (without_hook name hs) → Has (without_name name (n ∷ ns)) (without_hook name (h ∷ hs))
@@ -35,10 +27,9 @@ has_passed name n ns h hs false e f has rest = rw (e, f) (has.0, has.1, rest)
 
 has_without : (name : List ℕ) (ns : List Named) (hs : List HookFact) → Has ns hs → Has (without_name name ns) (without_hook name hs)
 has_without name [] [] has = tt
-has_without name [] (h ∷ hs) has = absurd has
-has_without name (n ∷ ns) [] has = absurd has
 has_without name (n ∷ ns) (h ∷ hs) has =
     has_passed name n ns h hs (bytes_eq name n.name) refl (ap (bytes_eq name) (sym has.0)) has (has_without name ns hs has.2)
+has_without name _ _ has = absurd has
 
 -- what is installed is behind them
 installed_has : (old new : List Named) (hooks : List HookFact) (name : List ℕ) (version : RecordVersion) (code : List ℕ) → IsInstalled old name (layout_of version) code new → Has old hooks →
@@ -50,11 +41,7 @@ installed_has old new hooks name version code step has =
 step_has : (old new : List Named) (change : Change) (hooks : List HookFact) → HostStep chain.ghosts old change new → Has old hooks → Has new (hooks_with hooks change)
 step_has old new (HookSet name version code) hooks step has = installed_has old new hooks name version code step has
 step_has old new (HookGone name) hooks step has = subst (λ (ns : List Named). Has ns (without_hook name hooks)) (sym step.left) (has_without name old hooks has)
-step_has old new (Consented owner client mask) hooks step has = subst (λ (ns : List Named). Has ns hooks) (sym step) has
-step_has old new (CodeGiven family code digest) hooks step has = subst (λ (ns : List Named). Has ns hooks) (sym step) has
-step_has old new (Issued family parties token) hooks step has = subst (λ (ns : List Named). Has ns hooks) (sym step) has
-step_has old new (Spent digest) hooks step has = subst (λ (ns : List Named). Has ns hooks) (sym step) has
-step_has old new (FamilyEnded family) hooks step has = subst (λ (ns : List Named). Has ns hooks) (sym step) has
+step_has old new _ hooks step has = subst (λ (ns : List Named). Has ns hooks) (sym step) has
 
 -- a chain that came through a history has what is left of its hooks
 run_has : (first now : List Named) (hooks : List HookFact) (history : List Event) → HostRun chain.ghosts first history now → Has first hooks → Has now (hooks_after hooks history)
@@ -69,12 +56,6 @@ installs_has old new before (h ∷ hooks) installs has =
     subst (λ (hs : List HookFact). Has new hs) (append_assoc before (h ∷ []) hooks)
     (installs_has installs.0 new (before ++ h ∷ []) hooks installs.2 (installed_has old installs.0 before h.name h.version h.code installs.1 has))
 
-same_named : (a b : Named) → a.name ≡ b.name → a.hook ≡ b.hook → a ≡ b
-same_named a b name hook = λ i. record { name = name i; hook = hook i }
-
-same_checked : (a b : Checked) → a.program ≡ b.program → a.layout ≡ b.layout → a ≡ b
-same_checked a b program layout = λ i. record { program = program i; layout = layout i }
-
 -- no two chains have just these hooks
 has_one : (a b : List Named) (hooks : List HookFact) → Has a hooks → Has b hooks → a ≡ b
 has_one [] [] [] has other = refl
@@ -84,11 +65,12 @@ has_one [] b (h ∷ hooks) has other = absurd has
 has_one (m ∷ a) [] (h ∷ hooks) has other = absurd other
 has_one (m ∷ a) (n ∷ b) (h ∷ hooks) has other =
     let program = one_program h.code m.hook.program n.hook.program has.1.spelled other.1.spelled in
-    let here : m ≡ n = same_named m n (has.0 ∙ sym other.0) (same_checked m.hook n.hook program (has.1.layout_is ∙ sym other.1.layout_is)) in
+    let name : m.name ≡ n.name = has.0 ∙ sym other.0 in
+    let layout : m.hook.layout ≡ n.hook.layout = has.1.layout_is ∙ sym other.1.layout_is in
     let rest : a ≡ b = has_one a b hooks has.2 other.2 in
-    λ i. here i ∷ rest i
+    λ i. record { name = name i; hook = record { program = program i; layout = layout i } } ∷ rest i
 
-front_run : (first now : List Named) (front more : List Event) → HostRun chain.ghosts first (front ++ more) now → (mid : List Named) × HostRun chain.ghosts first front mid
+pub front_run : (first now : List Named) (front more : List Event) → HostRun chain.ghosts first (front ++ more) now → (mid : List Named) × HostRun chain.ghosts first front mid
 front_run first now [] more run = (first, refl)
 front_run first now (e ∷ front) more run = let rest = front_run run.0 now front more run.2 in (rest.0, (run.0, run.1, rest.1))
 

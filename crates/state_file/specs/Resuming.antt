@@ -1,25 +1,14 @@
 -- What a server does that is started on a state file.
 use Rattle.std.specs.Prelude.{◌≡◌, ◌≢◌, ◌⊎◌, ◌++◌, ℕ, List, [], ◌∷◌, false, None, Some, string_bytes}
-use Rattle.batch_file.specs.Frames.{RefusesFile, recovered}
+use Rattle.state_file.specs.Names.{RefusesFile, recovered, Happened, IsFrontOf, DatedFact, RegistryRecord, Event, HostRun, SeenServer, Outset, FitsServer, Notes, AreNoted, layout_of, Hosting}
+use Rattle.state_file.specs.Names.{RulesFact, HookFact, ImageFact, StateFault, NotState, Version, Damaged, Spelling, Follows, Image, HookDiffers, Hook}
 use Rattle.batch_file.specs.declared.framing.ReadFault.TheVariants as reading
-use Rattle.change_codec.specs.Happened.{Happened}
-use Rattle.change_codec.specs.Keeping.{IsFrontOf}
-use Rattle.change_codec.specs.Spelling.{DatedFact}
-use Rattle.clients.specs.RegistryRecord.{RegistryRecord}
-use Rattle.consent.specs.History.{Event}
 use Rattle.endpoints.specs.Bounded.{AllRight}
-use Rattle.endpoints.specs.Hosts.{HostRun}
-use Rattle.endpoints.specs.Server.{SeenServer, Outset, FitsServer, Notes, AreNoted}
-use Rattle.endpoints.specs.Layouts.{layout_of}
-use Rattle.hook_host.specs.declared.host.HookHost.{Ghosts as Hosting}
-use Rattle.change_codec.specs.Rules.{RulesFact}
-use Rattle.image_codec.specs.Facts.{HookFact, ImageFact}
 use Rattle.state_file.specs.Comparing.{RefuseRules, TakesRules}
 use Rattle.state_file.specs.Hooks.{AreSet, hooks_behind, hooks_set_in, hook_named, with_hooks}
 use Rattle.state_file.specs.Standing.{AreTold, BeginWithImage, IsImageOf, StandsFor, begins_image, last_moment}
 use Rattle.state_file.specs.Telling.{TellsRules, rules_of}
-use Rattle.state_file.specs.declared.fault.StateFault.{StateFault}
-use Rattle.state_file.specs.declared.fault.StateFault.TheVariants.{Memory, NotState, Version, Damaged, Spelling, Follows, Image, HookDiffers, Hook}
+use Rattle.state_file.specs.declared.fault.StateFault.TheVariants.{Memory}
 use Rattle.state_file.specs.declared.restored.Restored.{Restored}
 
 -- CHANGES MADE AGAIN

@@ -1,7 +1,6 @@
 -- What was right under the rules that a file tells. For proofs alone.
 use Rattle.std.proofs.Common.{inl, inr, ℕ, List, []}
-use Rattle.clients.specs.RegistryRecord.{RegistryRecord}
-use Rattle.consent.specs.History.{Event}
+use Rattle.state_file.specs.Names.{RegistryRecord, Event}
 use Rattle.endpoints.specs.Widening.{IsWider}
 use Rattle.endpoints.specs.WideningLaws.{all_right-wider}
 use Rattle.state_file.specs.Resuming.{IsRight, WasRight}

@@ -1,9 +1,6 @@
 -- A chain of hooks that came through a history was run.
 use Rattle.std.proofs.Common.{◌⊎◌, inl, inr, ℕ, List, []}
-use Rattle.batch_file.specs.Frames.{recovered}
-use Rattle.consent.specs.History.{Event}
-use Rattle.endpoints.specs.Hosts.{HostRun}
-use Rattle.hook_chain.specs.Chains.{Named}
+use Rattle.state_file.specs.Names.{recovered, Event, HostRun, Named}
 use Rattle.hook_chain.specs.contracts.chain.ChainHookHost.TheImpl as chain
 use Rattle.state_file.specs.ReplayingLaws.{replays}
 use Rattle.state_file.specs.Resuming.{HaveNoImage, WasRun}

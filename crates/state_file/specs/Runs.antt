@@ -1,9 +1,6 @@
 -- The histories that the bytes of a state file stand for, and that a server with a chain of hooks came through.
 use Rattle.std.specs.Prelude.{◌⊎◌, ℕ, List, []}
-use Rattle.batch_file.specs.Frames.{recovered}
-use Rattle.consent.specs.History.{Event}
-use Rattle.endpoints.specs.Hosts.{HostRun}
-use Rattle.hook_chain.specs.Chains.{Named}
+use Rattle.state_file.specs.Names.{recovered, Event, HostRun, Named}
 use Rattle.hook_chain.specs.contracts.chain.ChainHookHost.TheImpl as chain
 use Rattle.state_file.specs.Resuming.{HaveNoImage, WasRight}
 use Rattle.state_file.specs.Standing.{StandsFor}

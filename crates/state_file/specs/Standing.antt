@@ -1,15 +1,10 @@
 -- What a state file stands for.
 use Rattle.std.specs.Prelude.{◌≡◌, ◌⊎◌, ◌++◌, ◌^◌, ◌==◌, ◌&&◌, ℕ, zero, suc, max, nat_lt, length, List, [], ◌∷◌, Bool, true, false, Option, None, Some, IsSome, if◌then◌else◌, map, unwrap_or}
+use Rattle.state_file.specs.Names.{recovered, Event, DatedFact, HaveSpelling, batch_spelling, Happened, ImageFact, ImageFits, image_spelling}
 use Rattle.std.proofs.Common.{inl, inr}
 use Rattle.std.specs.Int.{w64, from_be_bytes, to_be_bytes}
-use Rattle.batch_file.specs.Frames.{recovered}
 use Rattle.consent.specs.Consents.{FitsConsents, kept_consents}
-use Rattle.consent.specs.History.{Event}
-use Rattle.change_codec.specs.Spelling.{DatedFact, HaveSpelling, batch_spelling}
-use Rattle.change_codec.specs.Happened.{Happened}
-use Rattle.image_codec.specs.Facts.{ImageFact}
 use Rattle.token_store.specs.Image.{kept_told}
-use Rattle.image_codec.specs.Spelling.{ImageFits, image_spelling}
 use Rattle.token_store.specs.Fits.{FitsHistory}
 use Rattle.state_file.specs.Hooks.{hooks_set_in}
 

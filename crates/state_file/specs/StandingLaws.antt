@@ -1,14 +1,9 @@
 -- What batches stand for once there are more of them. For proofs alone.
 use Rattle.std.proofs.Common.{◌≡◌, ◌≤◌, ◌∙◌, inl, inr, ℕ, max, List, [], ◌∷◌, ◌++◌, refl, sym, ap, subst, append_assoc, arith}
+use Rattle.state_file.specs.Names.{recovered, Event, DatedFact, HaveSpelling, batch_spelling, Happened, ImageFact, ImageFits, image_spelling}
 use Rattle.std.proofs.lemmas.List.{append-nil}
-use Rattle.std.specs.Prelude.{IsSome, unwrap_or}
-use Rattle.batch_file.specs.Frames.{recovered}
-use Rattle.consent.specs.History.{Event}
-use Rattle.change_codec.specs.Spelling.{DatedFact, HaveSpelling, batch_spelling}
-use Rattle.change_codec.specs.Happened.{Happened}
+use Rattle.std.specs.Prelude.{IsSome}
 use Rattle.change_codec.specs.HappenedLaws.{Happened-joined}
-use Rattle.image_codec.specs.Facts.{ImageFact}
-use Rattle.image_codec.specs.Spelling.{ImageFits, image_spelling}
 use Rattle.state_file.specs.Standing.{AreTold, Begin, IsImageOf, StandFor, StandsFor, horizon, horizon_in, until_of}
 
 -- the changes of some batches, and of those behind them
@@ -86,13 +81,9 @@ StandFor-image image more history fits told is = record {
 
 -- HORIZONS
 
-max_both : (a b c : ℕ) → max a (max b c) ≡ max (max a b) c
-max_both a b c = omega arith
-
 pub until_of-append : (batches more : List (List ℕ)) → until_of (batches ++ more) ≡ max (until_of batches) (until_of more)
 until_of-append [] more = omega arith
-until_of-append (batch ∷ batches) more =
-    ap (λ (m : ℕ). max (unwrap_or (horizon_in batch) 0) m) (until_of-append batches more) ∙ max_both (unwrap_or (horizon_in batch) 0) (until_of batches) (until_of more)
+until_of-append (batch ∷ batches) more = let later = until_of-append batches more in omega (arith, later)
 
 -- more batches tell no earlier moment
 pub until_of-more : (batches more : List (List ℕ)) → until_of batches ≤ until_of (batches ++ more)

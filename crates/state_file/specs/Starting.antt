@@ -1,11 +1,9 @@
 -- How what a start makes is put on a device.
 use Rattle.std.specs.Prelude.{◌≡◌, ◌⊎◌, ℕ, List, None}
+use Rattle.state_file.specs.Names.{recovered, Device, StateFault}
 use Rattle.batch_file.specs.Crashes.{LeavesOnly, Only}
-use Rattle.batch_file.specs.Frames.{recovered}
-use Rattle.batch_file.specs.declared.device.Device.{Ghosts as Device}
 use Rattle.state_file.specs.Knowing.{SeenKeeper}
 use Rattle.state_file.specs.Making.{end_of}
-use Rattle.state_file.specs.declared.fault.StateFault.{StateFault}
 use Rattle.state_file.specs.declared.fault.StateFault.TheVariants as state
 
 -- what a crash left stands for the batches, or is what one at the old moment might have left

@@ -1,12 +1,7 @@
 -- The rules that a state file tells.
 use Rattle.std.specs.Prelude.{◌≡◌, ◌⊎◌, ℕ, zero, suc, List, [], ◌∷◌, length, map, Option, None, Some}
-use Rattle.std.specs.Option.{option_or}
-use Rattle.batch_file.specs.Frames.{recovered}
+use Rattle.state_file.specs.Names.{option_or, recovered, RegistryRecord, ClientFact, RulesFact, ImageFact, RulesFit, ImageFits, rules_spelling, image_spelling}
 use Rattle.clients.specs.ClientRecord.{ClientRecord}
-use Rattle.clients.specs.RegistryRecord.{RegistryRecord}
-use Rattle.change_codec.specs.Rules.{ClientFact, RulesFact}
-use Rattle.image_codec.specs.Facts.{ImageFact}
-use Rattle.image_codec.specs.Spelling.{RulesFit, ImageFits, rules_spelling, image_spelling}
 
 -- what is told of a client
 abbrev pub client_told : ClientRecord → ClientFact

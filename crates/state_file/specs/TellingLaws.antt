@@ -1,11 +1,8 @@
 -- What rules a state file tells once it has one batch more, and that it tells one. For proofs alone.
 use Rattle.std.proofs.Common.{◌≡◌, inl, inr, ℕ, List, [], ◌∷◌, ◌++◌, Option, None, Some, refl, sym, ap, ◌∙◌, subst}
+use Rattle.state_file.specs.Names.{option_or, Fault, RulesFact, ImageFact}
 use Rattle.std.specs.Prelude.{Ok, Err}
-use Rattle.std.specs.Option.{option_or}
-use Rattle.wire.specs.declared.fault.Fault.{Fault}
 use Rattle.image_codec.specs.SpellingLaws.{image_reading_again, one_image, one_rules, rules_reading_again}
-use Rattle.change_codec.specs.Rules.{RulesFact}
-use Rattle.image_codec.specs.Facts.{ImageFact}
 use Rattle.state_file.specs.Comparing.{IsMisspelled}
 use Rattle.state_file.specs.Telling.{rules_in, last_rules, Tell, TellsIn}
 

@@ -1,7 +1,7 @@
 //! Why a server is not started on a state file.
 
-ghost use Rattle.std.specs.Prelude.{◌≡◌, Some};
-ghost use Rattle.state_file.specs.FaultTexts.{of_adding, of_reading, of_redoing, of_replacing, of_restoring, of_encoding, state_fault_of_decoding, state_fault_text};
+ghost use Rattle.std.specs.Prelude.{◌≡◌};
+ghost use Rattle.state_file.specs.Faults.{of_adding, of_reading, of_redoing, of_replacing, of_restoring, of_encoding, state_fault_of_decoding};
 ghost use Rattle.state_file.specs.declared.fault.StateFault.TheVariants.{Memory};
 
 use batch_file::device::ReplaceFault;
@@ -59,8 +59,6 @@ pub enum StateFault {
 }
 
 impl Display for StateFault {
-    ghost output = { λ fault. Some (state_fault_text fault) };
-
     fn fmt<W: Write>(&self, f: &mut Formatter<W>) -> fmt::Result {
         match self {
             StateFault::Memory => write!(f, "Memory"),

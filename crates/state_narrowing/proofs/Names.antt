@@ -5,7 +5,7 @@ pub use Rattle.consent.specs.declared.kept_record.KeptRecord.{KeptRecord}
 pub use Rattle.image_codec.specs.Facts.{HookFact, ImageFact, rules_fact, image_fact}
 pub use Rattle.state_file.proofs.Lasting.{StandFor-image_horizon, Tell-image, until_of-image, until_of-less}
 pub use Rattle.state_file.specs.Comparing.{IsUnread, KeepClients, client_names, first_moved}
-pub use Rattle.state_file.specs.FaultTexts.{of_encoding}
+pub use Rattle.state_file.specs.Faults.{of_encoding}
 pub use Rattle.state_file.specs.Standing.{IsImageOf, StandFor, StandsFor, horizons, until_of}
 pub use Rattle.state_file.specs.Telling.{last_rules, Tell, TellsRules, client_told, rules_of, TellsIn}
 pub use Rattle.state_file.specs.TellingLaws.{tell_in, tells_none, tell_one}

@@ -1,5 +1,5 @@
 use Rattle.http_edge.specs.Reached.{resumed_journey}
-use Rattle.lifetime.proofs.serving.go_on_with.Goals as goal
+use Rattle.lifetime.proofs.going_on.go_on_with.Goals as goal
 
 pub returns : goal.returns
 returns g c outset history m fits notes =

@@ -1,5 +1,5 @@
 use Rattle.lifetime.specs.Anew.{has_stopped}
-use Rattle.lifetime.proofs.serving.live_anew.Goals as goal
+use Rattle.lifetime.proofs.going_on.live_anew.Goals as goal
 
 pub returns : goal.returns
 returns g c =

@@ -1,0 +1,23 @@
+-- The names of types and of other crates that more than one file of these definitions uses.
+pub use Rattle.batch_file.specs.Frames.{recovered, frames_size, torn_of, RefusesFile}
+pub use Rattle.batch_file.specs.declared.device.Device.{Ghosts as Device}
+pub use Rattle.change_codec.specs.Happened.{Happened}
+pub use Rattle.change_codec.specs.Keeping.{Basis, Until, Rules, Crashes, crashes, IsFrontOf}
+pub use Rattle.change_codec.specs.Rules.{ClientFact, RulesFact}
+pub use Rattle.change_codec.specs.Spelling.{DatedFact, HaveSpelling, batch_spelling}
+pub use Rattle.clients.specs.RegistryRecord.{RegistryRecord}
+pub use Rattle.consent.specs.History.{is_within, Event, Change, with_change, Change as happens}
+pub use Rattle.endpoints.specs.Hosts.{HostStep, HostRun}
+pub use Rattle.endpoints.specs.Imaging.{OfFitted}
+pub use Rattle.endpoints.specs.Layouts.{layout_of}
+pub use Rattle.endpoints.specs.Server.{Outset, SeenServer, FitsServer, Notes, AreNoted}
+pub use Rattle.hook_chain.specs.Chains.{Named, IsAcceptedCode, IsInstalled, without_name}
+pub use Rattle.hook_host.specs.declared.host.HookHost.{Ghosts as Hosting}
+pub use Rattle.image_codec.specs.Facts.{HookFact, ImageFact}
+pub use Rattle.image_codec.specs.Spelling.{image_reading, rules_reading, RulesCount, rules_spelling, RulesFit, ImageCounts, ImageFits, image_spelling}
+pub use Rattle.state_file.specs.declared.fault.StateFault.{StateFault}
+pub use Rattle.state_file.specs.declared.fault.StateFault.TheVariants.{NoRules, Spelling, ScopeMoved, OwnerMoved, ClientMoved, ClientNarrowed, LifeNarrowed, NotState, Version, Damaged, Follows}
+pub use Rattle.state_file.specs.declared.fault.StateFault.TheVariants.{Image, HookDiffers, Hook}
+pub use Rattle.std.specs.Option.{option_or}
+pub use Rattle.std.specs.Str.{bytes_eq}
+pub use Rattle.wire.specs.declared.fault.Fault.{Fault}
