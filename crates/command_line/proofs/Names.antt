@@ -1,5 +1,5 @@
 -- The names of other crates that more than one file of these proofs uses.
-pub use Rattle.clients.specs.RegistryRecord.{RegistryRecord}
+pub use Rattle.command_line.specs.Names.{RegistryRecord, Serve, Start, Output, Prints, IsUntouched, Outputs, CommandFault, HookFact, hook_fact, clock_limit, hook_said, string_bytes}
 pub use Rattle.command_line.specs.Hooks.{AreFactsOf, hook_fact_of, in_file, IsFactOf, RefusesHooks, TakesHook, TakesHooks, said_of}
 pub use Rattle.command_line.specs.Listening.{EndsService, FailsService, ServiceFiles, HasAll, HasEnded, ServeEnded, handed, registry_bytes, files_in}
 pub use Rattle.command_line.specs.Services.{GiveServe, GiveStart, NameService, address_of, limits_of}
@@ -7,10 +7,5 @@ pub use Rattle.command_line.specs.Startings.{Startings, EndsAnew, EndsOn, EndsSt
 pub use Rattle.command_line.specs.declared.hook_files.HookRead.{HookRead}
 pub use Rattle.command_line.specs.declared.service.ServeWords.{ServeWords}
 pub use Rattle.command_line.specs.declared.service.Service.{Service}
-pub use Rattle.command_line.specs.declared.service.Service.TheVariants.{Serve, Start}
-pub use Rattle.commands.specs.Outputs.{Output, Prints, output, outputs, IsUntouched, Outputs}
-pub use Rattle.commands.specs.declared.fault.CommandFault.{CommandFault}
-pub use Rattle.image_codec.specs.Facts.{HookFact, hook_fact}
-pub use Rattle.start_words.specs.Options.{clock_limit, hook_said}
+pub use Rattle.commands.specs.Outputs.{output, outputs}
 pub use Rattle.std.proofs.lemmas.List.{map-append, drop_all}
-pub use Rattle.std.specs.String.{string_bytes}

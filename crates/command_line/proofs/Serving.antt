@@ -1,12 +1,10 @@
 -- How a service fails.
 use Rattle.std.proofs.Common.{◌≡◌, inl, inr, ℕ, List, Option, None, Some, Result, Ok, Err, subst, sym}
+use Rattle.command_line.specs.Names.{HoldsRegistry, Announces, ListenFault}
 use Rattle.command_line.proofs.Names.{RegistryRecord, IsUntouched, Output, Outputs, HookFact, clock_limit, FailsService, HasAll, HasEnded, ServeEnded, ServiceFiles, handed, registry_bytes}
 use Rattle.command_line.proofs.Names.{address_of, limits_of, EndsAnew, EndsOn, EndsStart, Startings, CommandFault, ServeWords, Service, Serve}
 use Rattle.std.specs.Prelude.{OnOk, IfErr}
-use Rattle.commands.specs.Config.{HoldsRegistry}
-use Rattle.daemon.specs.Listening.{Announces}
 use Rattle.daemon.specs.Starts.{handed_anew, handed_on}
-use Rattle.daemon.specs.declared.fault.ListenFault.{ListenFault}
 use Rattle.daemon.specs.declared.fault.OpeningFault.{OpeningFault}
 use Rattle.event_loop.specs.declared.limits.Limits.{Limits}
 use Rattle.command_line.specs.Faults.{IsOfListening, IsOfOpening}

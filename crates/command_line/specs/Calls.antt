@@ -1,16 +1,11 @@
 -- What the words of a command line call for, and the file that is read for it.
 use Rattle.std.specs.Prelude.{◌≡◌, ⊤, ℕ, ◌-◌, Bool, false, ◌||◌, if◌then◌else◌, List, [], ◌∷◌, codes, length, map, Option, None, Some, option_map, unwrap_or, slice_get, Result, Ok, Err}
+use Rattle.command_line.specs.Names.{string_bytes, Call, Command, State, CommandFault, BadArguments, OutOfMemory, HookSaid, file_named_by, IsCommand, Arguments}
 use Rattle.std.specs.Str.{bytes_eq}
-use Rattle.std.specs.String.{string_bytes}
-use Rattle.command_line.specs.declared.call.Call.{Call}
-use Rattle.command_line.specs.declared.call.Call.TheVariants.{Command, State, Service}
-use Rattle.commands.specs.declared.fault.CommandFault.{CommandFault}
+use Rattle.command_line.specs.declared.call.Call.TheVariants.{Service}
 use Rattle.commands.specs.declared.command.Command.TheVariants.{Explain}
-use Rattle.commands.specs.declared.fault.CommandFault.TheVariants.{BadArguments, OutOfMemory}
-use Rattle.start_words.specs.Options.{HookSaid}
 use Rattle.command_line.specs.Services.{config_of, hooks_installed, IsService, ServiceFails}
 use Rattle.command_line.specs.StateCommands.{config_of_trial, IsStateCommand}
-use Rattle.commands.specs.Words.{file_named_by, IsCommand, Arguments}
 
 -- a word asks for help
 abbrev pub asks_help : List ℕ → Bool

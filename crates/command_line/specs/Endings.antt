@@ -1,16 +1,12 @@
 -- How a command line ends.
 use Rattle.std.specs.Prelude.{◌≡◌, ◌⊎◌, Err}
-use Rattle.command_line.specs.declared.call.Call.{Call}
-use Rattle.command_line.specs.declared.call.Call.TheVariants.{Command, State, Service}
-use Rattle.commands.specs.declared.status.Status.{Status}
+use Rattle.command_line.specs.Names.{Call, Command, State, Status, Outputs, IsUntouched, EndsCommand, TellsFault, Arguments}
+use Rattle.command_line.specs.declared.call.Call.TheVariants.{Service}
 use Rattle.command_line.specs.Calls.{hooks_named_by, IsCall, AreWordsRead}
 use Rattle.command_line.specs.Hooks.{said_of}
 use Rattle.command_line.specs.Listening.{EndsService, ServiceFiles, registry_bytes}
 use Rattle.command_line.specs.StateEndings.{EndsStateCommand}
-use Rattle.commands.specs.Outputs.{Outputs, IsUntouched}
-use Rattle.commands.specs.Performed.{EndsCommand, TellsFault}
 use Rattle.command_line.specs.Startings.{Startings}
-use Rattle.commands.specs.Words.{Arguments}
 
 -- a call ends on the file that it names and, where it serves, on those of its hooks
 abbrev pub EndsCall : {W E : Type 0} → Startings → Call → ServiceFiles → Status → Outputs W E → Type 0

@@ -1,15 +1,12 @@
 -- What a fault of a layer below is to a service: want of memory is told alike wherever it comes.
 use Rattle.std.specs.Prelude.{◌≡◌, ℕ, List}
+use Rattle.command_line.specs.Names.{CannotListen, CannotWrite, ClockAhead, NoSeed, OutOfMemory, Stopped, Unopened, ListenFault, LifeEnd, CommandFault}
 use Rattle.batch_file.specs.declared.disk_file.OpenFault.TheVariants as opening
 use Rattle.commands.specs.Faults.{IsOfState}
-use Rattle.commands.specs.declared.fault.CommandFault.TheVariants.{CannotListen, CannotWrite, ClockAhead, NoSeed, OutOfMemory, Stopped, Unopened}
-use Rattle.daemon.specs.declared.fault.ListenFault.{ListenFault}
 use Rattle.daemon.specs.declared.fault.ListenFault.TheVariants as listen
 use Rattle.daemon.specs.declared.fault.OpeningFault.{OpeningFault}
 use Rattle.daemon.specs.declared.fault.OpeningFault.TheVariants.{Socket, File}
-use Rattle.lifetime.specs.declared.life.LifeEnd.{LifeEnd}
 use Rattle.lifetime.specs.declared.life.LifeEnd.TheVariants as ends
-use Rattle.commands.specs.declared.fault.CommandFault.{CommandFault}
 
 -- no socket is had at the address
 abbrev pub IsOfListening : List ℕ → ListenFault → CommandFault → Type 0

@@ -1,17 +1,12 @@
 -- Hooks in files, installed one after the other before a server listens.
 use Rattle.std.specs.Prelude.{◌≡◌, ◌≢◌, ◌⊎◌, ⊤, ℕ, List, [], ◌∷◌, None, IsSomeAnd, map, option_map}
-use Rattle.start_words.specs.Options.{HookSaid, hook_said}
-use Rattle.hook_chain.specs.Chains.{IsInstalled, Named, RefusesInstall}
+use Rattle.command_line.specs.Names.{HookSaid, hook_said, IsInstalled, Named, RefusesInstall, CommandFault, CannotRead, Hook, OutOfMemory, HookFact, IsHexOf, IsNoHex}
 use Rattle.hook_host.specs.declared.fault.HookFault.{HookFault}
 use Rattle.hook_host.specs.declared.fault.HookFault.TheVariants as memory
-use Rattle.commands.specs.declared.fault.CommandFault.{CommandFault}
-use Rattle.commands.specs.declared.fault.CommandFault.TheVariants.{CannotRead, Hook, OutOfMemory}
 use Rattle.endpoints.specs.Layouts.{version_of}
-use Rattle.image_codec.specs.Facts.{HookFact}
 use Rattle.command_line.specs.declared.hook_files.HookCode.{HookCode}
 use Rattle.command_line.specs.declared.hook_files.HookRead.{HookRead}
 use Rattle.hook_commands.specs.File.{File}
-use Rattle.hook_commands.specs.HexText.{IsHexOf, IsNoHex}
 
 -- what the words say of a hook, and what stands in its file
 pub record HookInFile : Type 0 where

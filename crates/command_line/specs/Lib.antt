@@ -9,3 +9,5 @@ pub mod Services
 pub mod Startings
 pub mod StateCommands
 pub mod StateEndings
+-- What these files import, passed on.
+pub mod Names

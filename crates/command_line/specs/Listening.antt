@@ -1,27 +1,15 @@
 -- How a service serves, or why it doesn't, or no longer.
 use Rattle.std.specs.Prelude.{◌≡◌, ◌⊎◌, ℕ, List, [], map, Option, Some}
-use Rattle.clients.specs.RegistryRecord.{RegistryRecord}
-use Rattle.daemon.specs.Listening.{Announces}
-use Rattle.daemon.specs.declared.fault.ListenFault.{ListenFault}
+use Rattle.command_line.specs.Names.{RegistryRecord, Announces, ListenFault, CommandFault, OutOfMemory, Status, Done, StartWords, Serve, Start, HoldsNoRegistry, HoldsRegistry, Named, HookFact}
+use Rattle.command_line.specs.Names.{IsUntouched, Output, Outputs, TellsFault}
 use Rattle.commands.specs.NamedFiles.{bytes_in}
 use Rattle.command_line.specs.declared.call_files.CallFiles.{CallFiles}
-use Rattle.commands.specs.declared.fault.CommandFault.{CommandFault}
-use Rattle.commands.specs.declared.fault.CommandFault.TheVariants.{OutOfMemory}
-use Rattle.commands.specs.declared.status.Status.{Status}
-use Rattle.commands.specs.declared.status.Status.TheVariants.{Done}
 use Rattle.commands.specs.declared.named_file.NamedFile.{NamedFile}
 use Rattle.command_line.specs.declared.service.ServeWords.{ServeWords}
-use Rattle.start_words.specs.declared.words.StartWords.{StartWords}
 use Rattle.command_line.specs.declared.service.Service.{Service}
-use Rattle.command_line.specs.declared.service.Service.TheVariants.{Serve, Start}
-use Rattle.commands.specs.Config.{HoldsNoRegistry, HoldsRegistry}
 use Rattle.command_line.specs.Faults.{IsNotOpened, IsOfListening}
 use Rattle.hook_commands.specs.File.{File}
 use Rattle.command_line.specs.Hooks.{AreFactsOf, HookInFile, in_file, RefusesHooks, TakesHooks}
-use Rattle.hook_chain.specs.Chains.{Named}
-use Rattle.image_codec.specs.Facts.{HookFact}
-use Rattle.commands.specs.Outputs.{IsUntouched, Output, Outputs}
-use Rattle.commands.specs.Performed.{TellsFault}
 use Rattle.command_line.specs.Services.{address_of, config_of}
 use Rattle.command_line.specs.Startings.{EndsStart, Handed, Startings}
 use Rattle.commands.specs.Statuses.{status_of_command_fault}

@@ -1,18 +1,11 @@
 -- The commands that serve connections: their words, and the file that they name.
 use Rattle.std.specs.Prelude.{◌≡◌, ⊤, ℕ, List, [], ◌∷◌, map, codes, length, Some, unwrap_or, Ok, Err}
-use Rattle.std.specs.String.{string_bytes}
+use Rattle.command_line.specs.Names.{string_bytes, HookSaid, Said, wrong, StartWords, CommandFault, BadWord, OutOfMemory, Serve, Start, IsHexOf, Arguments}
 use Rattle.start_words.specs.Numbers.{number_said}
-use Rattle.start_words.specs.Options.{HookSaid, Said, wrong}
 use Rattle.start_words.specs.Start.{given_by, start_in}
-use Rattle.start_words.specs.declared.words.StartWords.{StartWords}
 use Rattle.event_loop.specs.declared.limits.Limits.{Limits}
-use Rattle.commands.specs.declared.fault.CommandFault.{CommandFault}
-use Rattle.commands.specs.declared.fault.CommandFault.TheVariants.{BadWord, OutOfMemory}
 use Rattle.command_line.specs.declared.service.ServeWords.{ServeWords}
 use Rattle.command_line.specs.declared.service.Service.{Service}
-use Rattle.command_line.specs.declared.service.Service.TheVariants.{Serve, Start}
-use Rattle.hook_commands.specs.HexText.{IsHexOf}
-use Rattle.commands.specs.Words.{Arguments}
 
 -- a text is hex of a seed, which has 32 bytes
 abbrev pub IsSeed : List ℕ → List ℕ → Type 0

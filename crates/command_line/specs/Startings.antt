@@ -1,11 +1,9 @@
 -- How a server is started: anew, or on the file of its state.
 use Rattle.std.specs.Prelude.{◌≡◌, ℕ, List, map, Option, Some, None}
+use Rattle.command_line.specs.Names.{RegistryRecord, Output, Announces, IsToldBy, Named, HookFact, hook_fact, LifeEnd, Said, clock_limit, CommandFault, Stopped}
 use Rattle.std.specs.declared.fs.File.{File}
 use Rattle.batch_file.specs.declared.device.Device.{Ghosts as Device}
 use Rattle.batch_file.specs.declared.disk_file.DiskFile.{DiskFile}
-use Rattle.clients.specs.RegistryRecord.{RegistryRecord}
-use Rattle.commands.specs.Outputs.{Output}
-use Rattle.daemon.specs.Listening.{Announces, IsToldBy}
 use Rattle.daemon.specs.Starts.{HandedAnew, HandedOn, LivesOn, ServesAnew, handed_anew, handed_on}
 use Rattle.daemon.specs.declared.line_journal.LineJournal.{LineJournal}
 use Rattle.daemon.specs.declared.starting.Lived.{Lived}
@@ -14,14 +12,8 @@ use Rattle.daemon.specs.declared.starting.StateTerms.{StateTerms}
 use Rattle.daemon.specs.declared.starting.Terms.{Terms}
 use Rattle.event_loop.specs.declared.fault.LoopFault.{LoopFault}
 use Rattle.event_loop.specs.declared.journal.Journal.{Ghosts as Journal}
-use Rattle.hook_chain.specs.Chains.{Named}
-use Rattle.image_codec.specs.Facts.{HookFact, hook_fact}
-use Rattle.lifetime.specs.declared.life.LifeEnd.{LifeEnd}
-use Rattle.start_words.specs.Options.{Said, clock_limit}
 use Rattle.command_line.specs.Faults.{IsOfEnd}
 use Rattle.command_line.specs.Services.{limits_of}
-use Rattle.commands.specs.declared.fault.CommandFault.{CommandFault}
-use Rattle.commands.specs.declared.fault.CommandFault.TheVariants.{Stopped}
 
 -- what a server is started with: its registry, its hooks as they stand in their chain, the code of each, and its options
 pub record Handed : Type 0 where

@@ -1,9 +1,6 @@
 -- The commands that make a state file, or say what a start on one would end: their words.
 use Rattle.std.specs.Prelude.{◌≡◌, ◌≢◌, ℕ, List, [], ◌∷◌, map, codes, Option, Some, None}
-use Rattle.std.specs.String.{string_bytes}
-use Rattle.command_line.specs.declared.state_command.StateCommand.{StateCommand}
-use Rattle.command_line.specs.declared.state_command.StateCommand.TheVariants.{New, Upgrade, Trial}
-use Rattle.commands.specs.Words.{Arguments}
+use Rattle.command_line.specs.Names.{string_bytes, StateCommand, New, Upgrade, Trial, Arguments}
 
 -- the words that name one
 abbrev pub words_of_state_command : StateCommand → List (List ℕ)

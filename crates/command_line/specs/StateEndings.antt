@@ -1,22 +1,14 @@
 -- How the commands on a state file end.
 use Rattle.std.specs.Prelude.{◌≡◌, ◌⊎◌, ⊤, ℕ, List, [], unwrap_or}
-use Rattle.clients.specs.RegistryRecord.{RegistryRecord}
+use Rattle.command_line.specs.Names.{RegistryRecord, HoldsNoRegistry, HoldsRegistry, IsUntouched, Output, Outputs, Prints, TellsFault, CommandFault, Status, Done, StateCommand, New, Upgrade, Trial}
 use Rattle.hook_commands.specs.File.{File}
-use Rattle.commands.specs.Config.{HoldsNoRegistry, HoldsRegistry}
-use Rattle.commands.specs.Outputs.{IsUntouched, Output, Outputs, Prints}
-use Rattle.commands.specs.Performed.{TellsFault}
-use Rattle.commands.specs.declared.fault.CommandFault.{CommandFault}
 use Rattle.commands.specs.declared.fault.CommandFault.TheVariants as faults
-use Rattle.commands.specs.declared.status.Status.{Status}
-use Rattle.commands.specs.declared.status.Status.TheVariants.{Done}
 use Rattle.command_line.specs.Makings.{FailsMaking, FailsUpgrade, IsUpgrade}
 use Rattle.command_line.specs.declared.making.Upgraded.{Upgraded}
 use Rattle.lifetime.specs.Plans.{IsPlanOf, RefusesPlan}
 use Rattle.lifetime.specs.declared.plan.Plan.{Plan}
-use Rattle.command_line.specs.declared.state_command.StateCommand.{StateCommand}
 use Rattle.command_line.specs.declared.state_performing.LeftOut.{LeftOut}
 use Rattle.command_line.specs.declared.state_performing.WouldEnd.{WouldEnd}
-use Rattle.command_line.specs.declared.state_command.StateCommand.TheVariants.{New, Upgrade, Trial}
 
 -- So many codes and tokens would end: those that the narrowing to the registry ends, of the bytes that stood in the state file, and
 -- none where it is not narrower. A start on these bytes would go on.

@@ -6,7 +6,7 @@ use Rattle.batch_file.specs.declared.framing.ReadFault.TheVariants as reading
 use Rattle.state_account.specs.Accounts.{RefusesAccount}
 use Rattle.state_account.specs.declared.account.AccountFault.{AccountFault}
 use Rattle.state_account.specs.declared.account.AccountFault.TheVariants as accounts
-use Rattle.state_file.specs.FaultTexts.{of_reading}
+use Rattle.state_file.specs.Faults.{of_reading}
 use Rattle.commands.specs.Faults.{IsOfState}
 use Rattle.commands.specs.States.{HasNoAccount}
 use Rattle.commands.specs.StatusesParts.{IsOfAccount}

@@ -2,9 +2,8 @@
 use Rattle.std.specs.Prelude.{◌≡◌, ◌≢◌, ◌^◌, ◌-◌, ⊤, ℕ, List, length, nat_lt, Option, Some, None, IsSomeAnd, Result, Ok, Err}
 use Rattle.std.specs.String.{string_bytes}
 use Rattle.params.specs.Scope.{scope_text}
-use Rattle.clients.specs.Registry.{registry_in, has_operator_among_owners}
+use Rattle.clients.specs.Registry.{registry_in, spot_in, has_operator_among_owners}
 use Rattle.clients.specs.RegistryRecord.{RegistryRecord}
-use Rattle.clients.specs.Spots.{spot_in}
 use Rattle.registry_warnings.specs.Warnings.{warnings_in}
 use Rattle.clients.specs.declared.fault.ConfigFault.TheVariants as config
 use Rattle.commands.specs.declared.answer.Answer.{Answer}

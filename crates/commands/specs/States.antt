@@ -5,7 +5,7 @@ use Rattle.batch_file.specs.declared.framing.ReadFault.{ReadFault}
 use Rattle.hook_commands.specs.File.{File}
 use Rattle.image_codec.specs.Facts.{ImageFact}
 use Rattle.state_account.specs.Accounts.{IsOfBatch, TellIfAny}
-use Rattle.state_file.specs.FaultTexts.{of_reading}
+use Rattle.state_file.specs.Faults.{of_reading}
 use Rattle.state_file.specs.Standing.{IsImageOf}
 use Rattle.state_listing.specs.Lines.{listing_text}
 use Rattle.state_listing.specs.declared.facts.FileFacts.{FileFacts}

@@ -4,7 +4,7 @@ use Rattle.std.specs.declared.io.ErrorKind.{ErrorKind}
 use Rattle.std.specs.declared.io.ErrorKind.TheVariants as kinds
 use Rattle.state_account.specs.declared.account.AccountFault.{AccountFault}
 use Rattle.state_account.specs.declared.account.AccountFault.TheVariants as accounts
-use Rattle.state_file.specs.FaultTexts.{of_reading}
+use Rattle.state_file.specs.Faults.{of_reading}
 use Rattle.commands.specs.Faults.{IsOfState}
 use Rattle.commands.specs.declared.fault.CommandFault.{CommandFault}
 use Rattle.commands.specs.declared.fault.CommandFault.TheVariants.{BadArguments, OutOfMemory, StateAt}

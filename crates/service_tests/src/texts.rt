@@ -1,16 +1,24 @@
 //! The lines of faults that no command line of these tests or of a row brings about.
 
 use assembler::AsmFault;
+use authentication::AuthFault;
 use batch_file::appending::BatchFault;
 use batch_file::system::SystemFault;
 use commands::CommandFault;
+use consent::ConsentFault;
 use daemon::SocketFault;
+use endpoints::{RedoFault, RestoreFault};
 use event_loop::LoopFault;
 use hook_commands::HookCommandFault;
 use insn::fault::InsnFault;
 use insn::verify_fault::VerifyFault;
+use params::ParamFault;
+use state_file::StateFault;
+use std::fmt::Display;
 use std::process::Abort;
 use std::test::Fail;
+use token_store::StoreFault;
+use wire::Fault;
 
 const REFUSED: VerifyFault = VerifyFault::Memory;
 
@@ -80,4 +88,99 @@ fn servers_that_stop(rt: HostRuntime) -> Result<(), Fail> {
         assert_told(&rt, stopped, text)?;
     }
     Ok(())
+}
+
+/// Asserts that a fault is told so.
+fn assert_told_as<R: Abort + AllocGlobal, F: Display + Drop>(
+    rt: &R,
+    fault: F,
+    text: &str,
+) -> Result<(), Fail> {
+    let told = format!(in rt.alloc(); "{fault}")?;
+    assert_eq!(rt; told.as_str(), text);
+    Ok(())
+}
+
+#[test]
+fn requests_that_are_refused(rt: HostRuntime) -> Result<(), Fail> {
+    assert_told_as(&rt, ParamFault::Twice, "Twice")?;
+    assert_told_as(&rt, ParamFault::NotUtf8, "NotUtf8")?;
+    assert_told_as(&rt, ParamFault::Memory, "Memory")?;
+    assert_told_as(&rt, AuthFault::NoClient, "NoClient")?;
+    assert_told_as(&rt, AuthFault::BadSecret, "BadSecret")?;
+    assert_told_as(&rt, AuthFault::TwoMethods, "TwoMethods")?;
+    assert_told_as(&rt, AuthFault::BadHeader, "BadHeader")?;
+    assert_told_as(&rt, ConsentFault::Full, "Full")
+}
+
+#[test]
+fn disks_that_refuse(rt: HostRuntime) -> Result<(), Fail> {
+    for (reason, text) in [
+        (SystemFault::NotFound, "Device: not found"),
+        (SystemFault::PermissionDenied, "Device: permission denied"),
+        (SystemFault::AlreadyExists, "Device: already exists"),
+        (SystemFault::NotADirectory, "Device: not a directory"),
+        (SystemFault::IsADirectory, "Device: is a directory"),
+        (
+            SystemFault::ReadOnlyFilesystem,
+            "Device: read-only filesystem",
+        ),
+        (SystemFault::FilesystemLoop, "Device: filesystem loop"),
+        (SystemFault::StorageFull, "Device: no storage space"),
+        (SystemFault::QuotaExceeded, "Device: quota exceeded"),
+        (SystemFault::FileTooLarge, "Device: file too large"),
+        (SystemFault::ResourceBusy, "Device: resource busy"),
+        (SystemFault::CrossesDevices, "Device: cross-device rename"),
+        (SystemFault::InvalidFilename, "Device: invalid filename"),
+        (SystemFault::InputOutput, "Device: input/output error"),
+        (SystemFault::Other, "Device: other error"),
+    ] {
+        assert_told_as(&rt, StateFault::Device(reason), text)?;
+        assert_told_as(&rt, StateFault::Unplaced(reason), text)?;
+    }
+    Ok(())
+}
+
+#[test]
+fn state_files_that_are_refused(rt: HostRuntime) -> Result<(), Fail> {
+    for (fault, text) in [
+        (RedoFault::MomentBack, "Follows MomentBack"),
+        (RedoFault::Unknown, "Follows Unknown"),
+        (RedoFault::Store(StoreFault::Full), "Follows Store Full"),
+        (
+            RedoFault::Store(StoreFault::DrawTaken),
+            "Follows Store DrawTaken",
+        ),
+        (RedoFault::ConsentsFull, "Follows ConsentsFull"),
+        (RedoFault::NotRight, "Follows NotRight"),
+    ] {
+        assert_told_as(&rt, StateFault::Follows(fault), text)?;
+    }
+    for (fault, text) in [
+        (RestoreFault::Full, "Image Full"),
+        (RestoreFault::DigestTwice, "Image DigestTwice"),
+        (RestoreFault::FamilyDiffers, "Image FamilyDiffers"),
+        (RestoreFault::ConsentsFull, "Image ConsentsFull"),
+        (RestoreFault::ConsentTwice, "Image ConsentTwice"),
+        (RestoreFault::NotRight, "Image NotRight"),
+    ] {
+        assert_told_as(&rt, StateFault::Image(fault), text)?;
+    }
+    for (fault, text) in [
+        (Fault::Version, "Spelling Version"),
+        (Fault::Short, "Spelling Short"),
+        (Fault::Moment, "Spelling Moment"),
+        (Fault::Variant, "Spelling Variant"),
+        (Fault::Number, "Spelling Number"),
+        (Fault::Kind, "Spelling Kind"),
+        (Fault::RecordVersion, "Spelling RecordVersion"),
+        (Fault::NotText, "Spelling NotText"),
+        (Fault::Behind, "Spelling Behind"),
+    ] {
+        assert_told_as(&rt, StateFault::Spelling(fault), text)?;
+    }
+    assert_told_as(&rt, StateFault::OwnerMoved, "OwnerMoved")?;
+    assert_told_as(&rt, StateFault::LifeNarrowed, "LifeNarrowed")?;
+    assert_told_as(&rt, StateFault::Full, "Full")?;
+    assert_told_as(&rt, StateFault::TooLong, "TooLong")
 }

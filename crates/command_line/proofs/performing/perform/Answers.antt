@@ -1,7 +1,6 @@
 use Rattle.std.proofs.Common.{ℕ, List, Option, None, Some, Err, inl, inr, map, refl}
+use Rattle.command_line.specs.Names.{Arguments, OutOfMemory}
 use Rattle.command_line.proofs.Names.{string_bytes, files_in}
-use Rattle.commands.specs.Words.{Arguments}
-use Rattle.commands.specs.declared.fault.CommandFault.TheVariants.{OutOfMemory}
 use Rattle.command_line.specs.Calls.{IsReading, helped_by}
 use Rattle.command_line.proofs.performing.perform.Goals as goal
 
