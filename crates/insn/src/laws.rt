@@ -49,6 +49,7 @@ pub fn a_run_has_one_end()
 {}
 
 /// Cells hold a pointer exactly where they are its eight parts, in order.
+#[tactic(auto, using(crate::specs::PointerLaws::parts_only, crate::specs::PointerLaws::parts_hold))]
 pub fn a_pointer_is_its_parts()
     ensures { (cells : List Cell) (p : Pointer) → value_in cells ≡ Some (Address p) ↔ (cells ≡ parts_of p) }
 {}

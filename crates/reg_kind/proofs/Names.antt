@@ -23,4 +23,4 @@ pub use Rattle.scalar.specs.declared.scalar.Scalar.{Scalar}
 pub use Rattle.std.proofs.lemmas.Bool.Decides.{nat_tests}
 pub use Rattle.std.proofs.lemmas.Int.{ints, to_z-of_z}
 pub use Rattle.std.specs.Int.{w64, cast_signed}
-pub use Rattle.std.specs.Prelude.{◌≤ℤ◌, ◌+ℤ◌, if◌then◌else◌}
+pub use Rattle.std.specs.Prelude.{◌≤ℤ◌, ◌+ℤ◌}

@@ -10,7 +10,7 @@ use Rattle.insn.specs.Memory.{place_of, within, is_writable}
 use Rattle.insn.specs.MemoryLaws.{size_at_most}
 use Rattle.reg_kind.specs.declared.place.Place.{Place}
 use Rattle.reg_kind.specs.Accesses.{IsAccess, IsAt, accessed, is_place_writable, place_at, place_behind, place_in}
-use Rattle.reg_kind.proofs.Shifts.{IsBetween, between_span, moved_between, inside, outside_of, greatest_inside}
+use Rattle.reg_kind.proofs.Shifts.{IsBetween, between_span, moved_between, inside, outside_of, span_ends}
 use Rattle.reg_kind.proofs.Results.{has_pointer}
 
 -- ---- writable places
@@ -24,7 +24,7 @@ writable_right exact layout place n at answer e h either = grind (arith, nat_tes
 eight : (layout : Layout) (region : Region) → 8 ≤ region_size layout region
 eight layout region = grind arith
 
-few : (layout : Layout) (region : Region) (size : Size) → size_bytes size ≤ region_size layout region
+pub few : (layout : Layout) (region : Region) (size : Size) → size_bytes size ≤ region_size layout region
 few layout region size = omega (arith, eight layout region, size_at_most size)
 
 within_is : (size n r : ℕ) (z : ℤ) → n ≤ size → pos r ≡ z → r ≤ size - n → within size z n ≡ Some r
@@ -63,7 +63,7 @@ access_right layout region span offset size r e = rw e (go (span_raised (region_
   go None none = record { stays = λ f. cc; inside = tt; right = λ exact v h. let p = has_pointer exact region span v h in rw p.1 (refused exact p.0 p.2 p.3 none) }
   go (Some t) some = record {
     stays = tt;
-    inside = let le = greatest_inside (region_size layout region - size_bytes size) _ _ t some in omega (arith, le, few layout region size);
+    inside = let le = (span_ends (region_size layout region - size_bytes size) _ _ t some).3 in omega (arith, le, few layout region size);
     right = λ exact v h. let p = has_pointer exact region span v h in rw p.1 (place_begins exact layout region span t offset size p.0 some p.2 p.3);
   }
 

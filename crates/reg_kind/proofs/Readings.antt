@@ -1,5 +1,5 @@
 -- A pointer moved by a word, read as an unsigned or as a signed number.
-use Rattle.std.proofs.Common.{◌≡◌, ℕ, ◌^◌, ◌<◌, ◌≤◌, ℤ, pos, Bool, ◌⊎◌, arith}
+use Rattle.std.proofs.Common.{◌≡◌, ℕ, ◌^◌, ◌<◌, ◌≤◌, ℤ, pos, ◌⊎◌, arith}
 use Rattle.reg_kind.proofs.Names.{Direction}
 use Rattle.reg_kind.proofs.Names.{◌≤ℤ◌, w64, cast_signed, ints, moved_by, move_of}
 use Rattle.insn.specs.declared.operation.Width.TheVariants.{W64}

@@ -156,11 +156,6 @@ TakesNumbers W64 Sub = ⊥
 TakesNumbers W64 Mov = ⊥
 TakesNumbers w op = Unit {0}
 
--- two values of which one is a pointer
-abbrev IsMixed : Value → Value → Type 0
-IsMixed (IsNumber m) (IsNumber n) = ⊥
-IsMixed v u = Unit {0}
-
 -- registers of which one holds a pointer, and none is unset
 abbrev IsMixedKind : Reg → Reg → Type 0
 IsMixedKind Unset b = ⊥
@@ -168,29 +163,21 @@ IsMixedKind a Unset = ⊥
 IsMixedKind (Number a) (Number b) = ⊥
 IsMixedKind a b = Unit {0}
 
-mixed_values : (a b : Reg) → IsMixedKind a b → (v u : Option Value) → RegFits true a v → RegFits true b u → (x : Value) × (y : Value) × (v ≡ Some x) × (u ≡ Some y) × IsMixed x y
-mixed_values a b kinds v u hv hu = grind arith
-
--- an operation that misuses each such pair of values that two registers may hold
+-- an operation that misuses all values that two registers may hold
 AreMisused : Layout → Width → BinOp → Reg → Reg → Type 0
-AreMisused layout w op a b = (x y : Value) → RegFits true a (Some x) → RegFits true b (Some y) → IsMixed x y → failed (operation_result layout w op (Some x) (Some y)) ≡ Some PointerMisuse
-
-mixed_read : (layout : Layout) (w : Width) (op : BinOp) (a b : Reg) → IsMixedKind a b → AreMisused layout w op a b → IsRead layout w op a b (Err PointerMisuse)
-unfolding AreMisused
-mixed_read layout w op a b kinds values = refuses layout w op a b PointerMisuse (λ e. cc) (λ v u hv hu. let all = mixed_values a b kinds v u hv hu in go v u all.0 all.1 all.2 all.3 all.4 hv hu) where
-  go : (v u : Option Value) (x y : Value) → v ≡ Some x → u ≡ Some y → IsMixed x y → RegFits true a v → RegFits true b u → failed (operation_result layout w op v u) ≡ Some PointerMisuse
-  go v u x y e f mixed hv hu = rw (e, f) (values x y (rw e at hv) (rw f at hu) mixed)
+AreMisused layout w op a b = (v u : Option Value) → RegFits true a v → RegFits true b u → failed (operation_result layout w op v u) ≡ Some PointerMisuse
 
 -- what an operation gives is right that misuses such pairs
 computed_read : (layout : Layout) (w : Width) (op : BinOp) (a b : Reg) (r : Result Reg WalkFault) → (IsMixedKind a b → AreMisused layout w op a b) → IsComputed w op a b r → IsRead layout w op a b r
+unfolding AreMisused
 computed_read layout w op Unset b r misuse h = rw h (unset_left layout w op b)
 computed_read layout w op a Unset r misuse h = rw h (unset_right layout w op a)
 computed_read layout w op (Number a) (Number b) r misuse h = rw h.1 (number_read layout w op a b h.0 h.2)
-computed_read layout w op a b r misuse h = rw h (mixed_read layout w op a b tt (misuse tt))
+computed_read layout w op a b r misuse h = rw h (refuses layout w op a b PointerMisuse (λ e. cc) (misuse tt))
 
-misused : (layout : Layout) (w : Width) (op : BinOp) (a b : Reg) → TakesNumbers w op → AreMisused layout w op a b
+misused : (layout : Layout) (w : Width) (op : BinOp) (a b : Reg) → TakesNumbers w op → IsMixedKind a b → AreMisused layout w op a b
 unfolding AreMisused
-misused layout w op a b t x y hx hy mixed = grind arith
+misused layout w op a b t kinds v u hv hu = grind arith
 
 read_right : (layout : Layout) (w : Width) (op : BinOp) (a b : Reg) (r : Result Reg WalkFault) → op ≢ Mov → IsRead layout w op a b r → IsResult layout w op a b r
 read_right layout w op a b r isnt h = record { stays = h.stays; right = λ exact v u o. h.right exact v u (left_read op isnt exact a v o.left) o.right }
@@ -207,7 +194,7 @@ MovesNeither way a b = Unit {0}
 
 not_moved : (layout : Layout) (way : Direction) (a b : Reg) → MovesNeither way a b → IsMixedKind a b → AreMisused layout W64 (move_of way) a b
 unfolding AreMisused
-not_moved layout way a b none kinds x y hx hy mixed = grind arith
+not_moved layout way a b none kinds v u hv hu = grind arith
 
 move_right : (layout : Layout) (way : Direction) (a b : Reg) (r : Result Reg WalkFault) → IsRegMove way layout a b r → IsResult layout W64 (move_of way) a b r
 move_right layout way (Record s) (Number b) r h = rw h.result (pointer_moved layout InRecord s b _ way h.right)
@@ -231,7 +218,7 @@ copy_right layout a b r e = rw e (record { stays = stays b; right = λ exact v u
 low_copy_right : (layout : Layout) (a b : Reg) (zero : Scalar) (r : Result Reg WalkFault) → ShowsOne zero 0 → IsComputed W32 Mov (Number zero) b r → IsResult layout W32 Mov a b r
 low_copy_right layout a b zero r shows h = record { stays = read.stays; right = λ exact v u o. read.right exact v u (left exact v o.left) o.right } where
   read : IsRead layout W32 Mov (Number zero) b r
-  read = computed_read layout W32 Mov (Number zero) b r (λ k. misused layout W32 Mov (Number zero) b tt) h
+  read = computed_read layout W32 Mov (Number zero) b r (misused layout W32 Mov (Number zero) b tt) h
 
   left : (exact : Bool) (v : Option Value) → v ≡ Some (IsNumber 0) → RegFits exact (Number zero) v
   left true v e = rw e tt
@@ -246,7 +233,7 @@ kinds_right layout W64 Mov a b r h = copy_right layout a b r h
 kinds_right layout W32 Mov a b r h = low_copy_right layout a b h.0 r h.1 h.2
 kinds_right layout W64 Add a b r h = move_right layout Up a b r h
 kinds_right layout W64 Sub a b r h = move_right layout Down a b r h
-kinds_right layout w op a b r h = read_right layout w op a b r (λ e. absurd (cc)) (computed_read layout w op a b r (λ k. misused layout w op a b tt) h)
+kinds_right layout w op a b r h = read_right layout w op a b r (λ e. absurd (cc)) (computed_read layout w op a b r (misused layout w op a b tt) h)
 
 -- ---- one operand
 

@@ -1,7 +1,7 @@
 -- Spans moved by a number.
-use Rattle.std.proofs.Common.{◌≡◌, ℕ, ◌+◌, ◌-◌, ◌%◌, ◌^◌, ◌<◌, ◌≤◌, ℤ, pos, Bool, true, Option, Some, None, inl, inr, arith, refl, ap, ◌∙◌, FitsSigned, to_z, of_z}
+use Rattle.std.proofs.Common.{◌≡◌, ℕ, ◌-◌, ◌^◌, ◌<◌, ◌≤◌, ℤ, pos, Bool, true, Option, Some, None, inl, inr, arith, refl, ap, ◌∙◌, FitsSigned, to_z, of_z}
 use Rattle.reg_kind.proofs.Names.{Direction, lowest, highest}
-use Rattle.reg_kind.proofs.Names.{◌≤ℤ◌, if◌then◌else◌, w64, cast_signed, ints, to_z-of_z, nat_tests, Scalar, InScalar, ShowsOne, InScalar-words, shows_one, Span, SpanFits, AmountFits}
+use Rattle.reg_kind.proofs.Names.{◌≤ℤ◌, w64, cast_signed, ints, to_z-of_z, nat_tests, Scalar, InScalar, ShowsOne, InScalar-words, shows_one, Span, SpanFits, AmountFits}
 use Rattle.reg_kind.proofs.Names.{IsShifted, first_span, move_of, moved_by, span_between, span_moved}
 use Rattle.std.specs.Int.{Width}
 use Rattle.reg_kind.proofs.Readings.{IsReading, moved_read, moved_fits}
@@ -24,7 +24,7 @@ pub moved_between : (exact : Bool) (way : Direction) (a b c x y z : ℤ) → IsB
 moved_between exact way a b c x y z h k = grind (arith, ints)
 
 -- the ends of a span in a region
-span_ends : (size : ℕ) (l g : ℤ) (t : Span) → Some t ≡ span_between size l g → (l ≡ pos t.least) × (g ≡ pos t.greatest) × (t.least ≤ size) × (t.greatest ≤ size)
+pub span_ends : (size : ℕ) (l g : ℤ) (t : Span) → Some t ≡ span_between size l g → (l ≡ pos t.least) × (g ≡ pos t.greatest) × (t.least ≤ size) × (t.greatest ≤ size)
 span_ends size l g t e = grind (arith, nat_tests)
 
 -- what lies between the ends of a span in a region
@@ -35,10 +35,6 @@ pub record IsInside (exact : Bool) (size : ℕ) (t : Span) (z : ℤ) : Type 0 wh
 
 pub inside : (exact : Bool) (size : ℕ) (l g z : ℤ) (t : Span) → Some t ≡ span_between size l g → IsBetween exact l z g → IsInside exact size t z
 inside exact size l g z t e h = let ends = span_ends size l g t e in record { from = grind (arith, ints, ends); to = grind (arith, ints, ends); fits = λ r i. grind (arith, ints, ends) }
-
--- its greatest offset lies there too
-pub greatest_inside : (size : ℕ) (l g : ℤ) (t : Span) → Some t ≡ span_between size l g → t.greatest ≤ size
-greatest_inside size l g t e = (span_ends size l g t e).3
 
 -- ends that are one number and give no span are not in the region
 pub outside_of : (size : ℕ) (l g z : ℤ) → l ≡ z → g ≡ z → None ≡ span_between size l g → pos 0 ≤ℤ z → z ≤ℤ pos size → ⊥
