@@ -1,20 +1,24 @@
 -- One instruction, passed in the cases that wait at its slot; and what is known at the slot that a walk has come to.
-use Rattle.std.proofs.Common.{FitsSigned, w32, ◌≡◌, ◌≢◌, ℕ, ℤ, pos, suc, ◌+◌, ◌<◌, ◌≤◌, ◌++◌, ◌||◌, Bool, true, false, List, [], ◌∷◌, Option, Some, None, Ok, refl, sym, ap, ◌∙◌, arith, get_or, length, map, inl, inr, ◌⊎◌, zero, ◌-◌, take, drop, set, subst}
-use Rattle.verifier.proofs.Names.{AllOf, option_to_list, box_value, ints, append-nil, append_assoc, get_or-set_other, get_or-set_same, length-set, cases_eq, cases_lt, All, All-push, SLOT_LIMIT}
+use Rattle.std.proofs.Common.{Fits, w64, FitsSigned, w32, ◌≡◌, ◌≢◌, ℕ, ℤ, pos, suc, ◌+◌, ◌<◌, ◌≤◌, ◌++◌, List, [], ◌∷◌, Option, Some, None, Ok, refl, sym, ap, ◌∙◌, arith, get_or, length, inl, inr, ◌⊎◌, zero, ◌-◌, take, drop, set, subst}
+use Rattle.verifier.proofs.Names.{InStates, option_to_list, ints, append-nil, append_assoc, get_or-set_other, get_or-set_same, length-set, cases_eq, cases_lt, All, All-push, SLOT_LIMIT}
 use Rattle.verifier.proofs.Names.{slot_count, Insn, Layout, WalkFault, slots_of, walk_fault_at, look_verdict, Known, Test, LeavesKnown, AreBothPushed, BranchGoesOn, IsTestSettled, EachGoesOn, GoesOn}
 use Rattle.verifier.proofs.Names.{IsPassed, IsPushed, IsRefusedAt, IsRefusedHere, IsTaken, IsVisited, PassesEach, either, nowhere, IsBegun, IsCopy, IsFar, IsLastPassage, IsPassage}
 use Rattle.verifier.proofs.Names.{IsNoted, IsVisit, exit_ends, Reaches, step, steps, Config, IsRecord, start, StateFits, AreToldOnward, IsAcceptance, IsExplained, IsKnownAt, NoneComesTo}
 use Rattle.std.proofs.Math.Bool.{or_assoc}
 use Rattle.verifier.specs.declared.walk.Onward.{Onward}
 use Rattle.verifier.specs.declared.walk.Passage.{Passage}
-use Rattle.verifier.proofs.Walks.{passes_long, Ended, Standing, Walked, Walking, begins_walking, came_here, ends_passed, ends_walking, one_more, refusal_of, slot_inside, walked_here}
+use Rattle.verifier.proofs.Walks.{passes_long, Ended, Standing, Walked, exits_within, passed, refused_right, stays_inside, walk_end, walk_start}
+use Rattle.verifier.proofs.Names.{look_fault, first_found, begins_at, places, length-places, length-drop, first_rest, begins_here, stands_inside, distance_of, WritesNoR10, HasWalked, Begun, Visited, ExitsWithin}
+use Rattle.std.proofs.lemmas.List.Sums.{sum_by-cons}
+use Rattle.insn.specs.declared.verify_fault.VerifyFault.{VerifyFault}
+use Rattle.verifier.specs.Verdicts.{GetsTo, IsRefusal}
 use Rattle.std.specs.Prelude.{Contains}
 use Rattle.verifier.specs.declared.known.Flow.TheVariants.{Branch, Exit}
 use Rattle.verifier.specs.declared.explain.Refusal.{Refusal}
 use Rattle.verifier.specs.declared.walk.Upshot.TheVariants.{Passed, Refused}
 use Rattle.verifier.proofs.ShapeLaws.{bind_some}
-use Rattle.verifier.proofs.Waits.{has_first, has_later, has_none, middle_or_around}
-use Rattle.verifier.proofs.Ways.{later, same_reached, behind_it}
+use Rattle.verifier.proofs.Waits.{has_first, has_later, has_middle, has_none, middle_or_around}
+use Rattle.verifier.proofs.Ways.{Typed, behind_it, later, never_refused, none_first, none_verdict, same_reached, writes_low}
 use Rattle.verifier.specs.declared.walk.Passage.TheVariants as passage
 
 -- ---- one case more
@@ -27,10 +31,7 @@ either_assoc : (a b c : Onward) → either (either a b) c ≡ either a (either b
 either_assoc a b c = rw (or_assoc a.behind b.behind c.behind, or_assoc a.ahead b.ahead c.ahead) refl
 
 either_nowhere : (b : Onward) → either b nowhere ≡ b
-either_nowhere b = rw (or_false b.behind, or_false b.ahead) refl where
-  or_false : (x : Bool) → (x || false) ≡ x
-  or_false true = refl
-  or_false false = refl
+either_nowhere b = grind (arith)
 
 goes_more : (layout : Layout) (i : Insn) (cases : List Known) (known : Known) (a b : Onward) → EachGoesOn layout i cases a → GoesOn layout i known b → EachGoesOn layout i (cases ++ known ∷ []) (either a b)
 goes_more layout i [] known a b g h = rw g (b, nowhere, h, refl, sym (either_nowhere b))
@@ -139,7 +140,7 @@ fits_far o d behind slots e far short = by (rw e at far) where
 pub record Arrives (layout : Layout) (w : List (List Known)) (c : Config) : Type 0 where
   pub known : Known
   pub waits : Contains (get_or w c.slot []) known
-  pub fits : StateFits (AllOf false) layout known c.state
+  pub fits : StateFits InStates layout known c.state
 
 module _ (layout : Layout) (program : List Insn) (bytes : List ℕ) where
   -- behind a place without a step there is none
@@ -196,13 +197,22 @@ module _ (layout : Layout) (program : List Insn) (slot : ℕ) (rest : List Insn)
 
 -- what the loop keeps: no run has come to the slots that it notes, and it has told where walks go on from those before
 pub record Exploring (layout : Layout) (program : List Insn) (slot : ℕ) (rest : List Insn) (w : List (List Known)) (unreached : List ℕ) (onward : List Onward) : Type 0 where
-  pub walking : Walking layout program slot rest w
+  pub walked : Walked layout program slot rest w
+  pub fine : first_found (look_fault program) slot rest ≡ None
+  pub came : HasWalked layout program slot rest w
   pub none : All (NoneComesTo layout program) unreached
   pub long : length onward ≡ slot_count program
   pub told : AreToldOnward layout program slot onward
 
 pub begins_exploring : (layout : Layout) (program : List Insn) (w : List (List Known)) (onward : List Onward) → 1 ≤ slot_count program → look_verdict program ≡ None → IsBegun (slot_count program) w → length onward ≡ slot_count program → Exploring layout program 0 program w [] onward
-begins_exploring layout program w onward some none b long = record { walking = begins_walking layout program w some none b; none = λ k d lt. absurd (omega arith); long = long; told = λ k i lt begins. absurd (omega arith) }
+begins_exploring layout program w onward some none b long = record {
+  walked = walk_start layout program w some b;
+  fine = none_verdict _ none;
+  came = Begun b;
+  none = λ k d lt. absurd (omega arith);
+  long = long;
+  told = λ k i lt begins. absurd (omega arith);
+}
 
 module _ (layout : Layout) (program : List Insn) (slot : ℕ) (rest : List Insn) (w : List (List Known)) (d : Insn) (some : 1 ≤ length rest) (unreached : List ℕ) (onward : List Onward) (h : Exploring layout program slot rest w unreached onward) where
   abbrev pub now : Insn
@@ -211,48 +221,98 @@ module _ (layout : Layout) (program : List Insn) (slot : ℕ) (rest : List Insn)
   abbrev pub others : List Insn
   others = take (length rest - 1) (drop 1 rest)
 
-  pub waits_inside : slot < length w
-  waits_inside = omega (arith, slot_inside layout program slot rest w d some h.walking, h.walking.walked.long)
+  walked_here : Walked layout program slot (now ∷ others) w
+  walked_here = rw (first_rest rest d some) h.walked
 
-  noted : (cases : List Known) (after : List ℕ) → get_or w slot [] ≡ cases → IsNoted slot cases unreached after → All (NoneComesTo layout program) after
-  noted [] after here n = rw n (All-push (NoneComesTo layout program) unreached slot h.none (none_comes layout program slot rest w h.walking.walked here))
-  noted (known ∷ others) after here n = rw n h.none
+  came_here : HasWalked layout program slot (now ∷ others) w
+  came_here = rw (first_rest rest d some) h.came
+
+  fine_here : (look_fault program (slot + slots_of now) now ≡ None) × (first_found (look_fault program) (slot + slots_of now) others ≡ None)
+  fine_here = none_first slot (look_fault program (slot + slots_of now) now) (first_found (look_fault program) (slot + slots_of now) others) (ap (first_found (look_fault program) slot) (first_rest rest d some) ∙ h.fine)
+
+  begins_now : begins_at program slot ≡ Some now
+  begins_now = begins_here program slot now others walked_here.stands
+
+  slot_inside : slot < slot_count program
+  slot_inside = stands_inside program slot now others walked_here.stands
+
+  pub behind_inside : slot + slots_of now ≤ slot_count program
+  behind_inside =
+      omega (arith, slot_inside, ap (length {A = Option Insn}) walked_here.stands.same, length-drop slot (places program), length-places program, length-places (now ∷ others), sum_by-cons slots_of now others)
+
+  pub behind_fits : slot_count program ≤ SLOT_LIMIT → Fits w64 (slot + slots_of now)
+  behind_fits short = record { fits = omega (arith, behind_inside) }
+
+  pub writes : WritesNoR10 now
+  writes = writes_low program (slot + slots_of now) now fine_here.0
+
+  pub jumps_inside : IsFar (distance_of now) (slot + slots_of now) (slot_count program)
+  jumps_inside = stays_inside program (slot + slots_of now) now fine_here.0
+
+  pub waits_inside : slot < length w
+  waits_inside = omega (arith, slot_inside, h.walked.long)
 
   pub told_inside : slot < length onward
-  told_inside = omega (arith, slot_inside layout program slot rest w d some h.walking, h.long)
+  told_inside = omega (arith, slot_inside, h.long)
+
+  noted : (cases : List Known) (after : List ℕ) → get_or w slot [] ≡ cases → IsNoted slot cases unreached after → All (NoneComesTo layout program) after
+  noted [] after here n = rw n (All-push (NoneComesTo layout program) unreached slot h.none (none_comes layout program slot rest w h.walked here))
+  noted (known ∷ others) after here n = rw n h.none
 
   pub one_explored : (w' : List (List Known)) (here : Onward) (after : List ℕ) → IsVisit layout now slot w w' (Passed here) → IsNoted slot (get_or w slot []) unreached after → Exploring layout program (slot + slots_of now) others w' after (set onward slot here)
   one_explored w' here after v n = record {
-    walking = one_more layout program slot rest w d some h.walking w' v.0;
+    walked = passed layout program slot now others w v.0.between w' v.0.there fine_here.0 walked_here v.0.taken v.0.goes;
+    fine = fine_here.1;
+    came = Visited came_here v.0;
     none = noted (get_or w slot []) after refl n;
     long = length-set onward slot here ∙ h.long;
     told = λ k i lt begins.
         elim (cases_eq k slot) [
           | inl same ↦
               let there : get_or (set onward slot here) slot nowhere ≡ here = get_or-set_same onward slot here nowhere told_inside in
-              rw (same, there) (record { insn = now; rest = others; waiting = w; walked = came_here layout program slot rest w d some h.walking; goes = v.1 })
+              rw (same, there) (record { insn = now; rest = others; waiting = w; walked = came_here; goes = v.1 })
           | inr other ↦
               elim (cases_lt slot k) [
-                | inl less ↦ absurd (omega (arith, behind_it program slot k now i others (walked_here layout program slot rest w d some h.walking).stands begins less))
+                | inl less ↦ absurd (omega (arith, behind_it program slot k now i others walked_here.stands begins less))
                 | inr ge ↦ rw (get_or-set_other onward slot k here nowhere other) (h.told k i (omega arith) begins)
               ]
         ];
   }
 
+  refusal_of : (fault : VerifyFault) → IsRefusedHere layout now slot w fault → IsRefusal layout program fault
+  refusal_of fault r = record {
+    slot = slot;
+    wrong = r.wrong;
+    is = r.is;
+    insn = now;
+    begins = begins_now;
+    rest = others;
+    waiting = w;
+    walked = came_here;
+    refused = r;
+    runs = λ bytes is. so_far bytes (walked_here.runs bytes is);
+    right = λ u. refused_right layout program slot now others w r.known walked_here waits writes u r.wrong r.refused;
+    untyped = λ t. never_refused layout program t.typing t.is slot now begins_now writes r.known ((walked_here.waits slot r.known (omega arith) waits).shown (Typed t.typing t.is)) r.wrong (rw walked_here.long at r.refused);
+  } where
+    waits : Contains (get_or w slot []) r.known
+    waits = rw r.taken.here (has_middle r.before r.after r.known)
+
+    so_far : (bytes : List ℕ) → Ended layout program bytes slot ⊎ Standing layout program bytes slot (now ∷ others) w → ExitsWithin layout program bytes (length program) ⊎ GetsTo layout program bytes slot
+    so_far bytes (inl e) = inl (exits_within layout program bytes slot e)
+    so_far bytes (inr s) = inr (record { count = s.n; at = s.here; reached = s.leads; ahead = s.ahead })
+
   pub refused_told : (w' : List (List Known)) (refusal : Refusal) (fault : WalkFault) → IsVisit layout now slot w w' (Refused fault refusal.known refusal.others) → refusal.fault ≡ walk_fault_at fault slot → refusal.slot ≡ slot → refusal.insn ≡ now → refusal.onward.items ≡ onward → IsExplained layout program refusal
-  refused_told w' refusal fault v faults slots insns onwards =
-      let here : IsRefusedHere layout now slot w (walk_fault_at fault slot) = v.0 in
-      let all : map box_value refusal.others.items ≡ here.before ++ here.after = v.2 in
-      let is = refusal_of layout program slot rest w d some h.walking (walk_fault_at fault slot) here in
-      rw faults (record {
-        refused = is.0;
-        slot = slots ∙ sym is.1;
-        insn = insns ∙ sym is.2;
-        waits = sym v.1 ∙ sym is.3;
-        others = all ∙ sym is.4;
-        known = rw (slots, all, ← v.1) (one_comes layout program slot rest w h.walking.walked here.before here.after here.known here.taken.here);
-        onward = rw (slots, onwards) h.told;
-      })
+  unfolding refusal_of
+  refused_told w' refusal fault v faults slots insns onwards = rw faults (record {
+    refused = refusal_of (walk_fault_at fault slot) v.0;
+    slot = slots;
+    insn = insns;
+    waits = sym v.1;
+    others = v.2;
+    known = rw (slots, v.2, ← v.1) (one_comes layout program slot rest w h.walked v.0.before v.0.after v.0.known v.0.taken.here);
+    onward = rw (slots, onwards) h.told;
+  })
 
 pub ends_exploring : (layout : Layout) (program : List Insn) (slot : ℕ) (rest : List Insn) (w : List (List Known)) (unreached : List ℕ) (onward : List Onward) → length rest < 1 → Exploring layout program slot rest w unreached onward → IsAcceptance layout program unreached
-ends_exploring layout program slot rest w unreached onward none h = record { safe = ends_walking layout program slot rest w none h.walking; passed = ends_passed layout program slot rest w none h.walking; unreached = h.none }
+ends_exploring layout program slot [] w unreached onward none h = record { safe = walk_end layout program slot w h.walked; passed = record { slot = slot; waiting = w; walked = h.came }; unreached = h.none }
+ends_exploring layout program slot (i ∷ rest) w unreached onward none h = absurd (omega arith)

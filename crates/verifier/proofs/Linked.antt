@@ -1,6 +1,6 @@
 -- Registers whose number is another's plus a constant or a constant less another's.
-use Rattle.std.proofs.Common.{◌≡◌, ◌≢◌, ℕ, ◌+◌, ◌-◌, ◌^◌, ◌<◌, ◌≤◌, ◌==◌, ◌||◌, if◌then◌else◌, Bool, true, false, ℤ, List, Option, Some, None, get_or, set, length, refl, sym, ap, ◌∙◌, subst, arith, inl, inr}
-use Rattle.verifier.proofs.Names.{Decides-eqb, set-get_or, cast_unsigned, cases_eq, get_or-set_other, get_or-set_same, length-set, BinOp, Add, Sub}
+use Rattle.std.proofs.Common.{◌≡◌, ◌≢◌, ℕ, ◌+◌, ◌-◌, ◌^◌, ◌<◌, ◌==◌, ◌||◌, if◌then◌else◌, Bool, true, false, ℤ, List, Option, Some, None, get_or, set, length, refl, sym, ap, ◌∙◌, subst, arith, inl, inr}
+use Rattle.verifier.proofs.Names.{Decides-eqb, set-get_or, cast_unsigned, cases_eq, get_or-set_other, get_or-set_same, BinOp, Add, Sub}
 use Rattle.verifier.proofs.Names.{Width, W32, W64, RegNo, Value, Number, Address, reg_number, Scalar, InScalar-words, shows_one, InScalar, word_holds, word_result, wrapped, Bits, Lowest}
 use Rattle.verifier.proofs.Names.{Link, Links, Sum, Difference, IsDerived, IsTraced, IsEqualKept, AreLeft, AreLinked, AreLinksJoined, AreMade, AreRelated, IsLinkJoin, LinkHolds, LinksHold}
 use Rattle.verifier.proofs.Names.{bits_after, lesser, link_at, link_left, plus_after}
@@ -8,6 +8,7 @@ use Rattle.std.specs.Int.{w64}
 use Rattle.insn.specs.declared.operation.Cond.TheVariants.{Eq}
 use Rattle.range.specs.Sets.{IsWithin}
 use Rattle.scalar.specs.Narrowed.{AreNarrowed}
+use Rattle.stack_state.proofs.Written.{DoneTo, next_done}
 use Rattle.verifier.specs.declared.link.Relation.{Relation}
 
 -- ---- numbers
@@ -126,28 +127,15 @@ made_too a b registers made h1 h2 h3 = grind (arith)
 -- ---- eleven things one after the other
 
 -- each before one has been made anew, and those from it on are as they were
-pub record MadeBelow {A : Type 0} (none : A) (P : ℕ → A → A → Type 0) (a now : List A) (i : ℕ) : Type 0 where
-  pub eleven : length now ≡ 11
-  pub below : (k : ℕ) → k < i → P k (get_or a k none) (get_or now k none)
-  pub above : (k : ℕ) → i ≤ k → get_or now k none ≡ get_or a k none
+abbrev pub MadeBelow : {A : Type 0} (none : A) → (ℕ → A → A → Type 0) → List A → List A → ℕ → Type 0
+MadeBelow none P a now i = DoneTo none (λ k x. P k (get_or a k none) x) 11 0 a now i
 
 module _ {A : Type 0} (none : A) (P : ℕ → A → A → Type 0) (a : List A) where
   pub made_none : length a ≡ 11 → MadeBelow none P a a 0
-  made_none eleven = record { eleven = eleven; below = λ k lt. absurd (omega arith); above = λ k le. refl }
+  made_none eleven = record { long = eleven; begins = omega arith; done = λ k ge lt. absurd (omega arith); rest = λ k out. refl }
 
   pub made_one : (now : List A) (i : ℕ) (r : A) → i < 11 → MadeBelow none P a now i → P i (get_or now i none) r → MadeBelow none P a (set now i r) (i + 1)
-  made_one now i r lt h p = record {
-    eleven = length-set now i r ∙ h.eleven;
-    below = λ k le.
-        elim (cases_eq k i) [
-          | inl q ↦
-              let e : get_or (set now i r) i none ≡ r = get_or-set_same now i r none (let l = h.eleven in omega arith) in
-              let was : get_or now i none ≡ get_or a i none = h.above i (omega arith) in
-              rw (q, e) (subst (λ (x : A). P i x r) was p)
-          | inr ne ↦ rw (get_or-set_other now i k r none ne) (h.below k (omega arith))
-        ];
-    above = λ k le. get_or-set_other now i k r none (λ same. absurd (omega arith)) ∙ h.above k (omega arith);
-  }
+  made_one now i r lt h p = next_done none (λ k x. P k (get_or a k none) x) 11 0 a now i r lt (subst (λ (x : A). P i x r) (h.rest i (inr (omega arith))) p) h
 
   pub made_kept : (now : List A) (i : ℕ) → i < 11 → MadeBelow none P a now i → P i (get_or now i none) (get_or now i none) → MadeBelow none P a now (i + 1)
   made_kept now i lt h p = subst (λ (xs : List A). MadeBelow none P a xs (i + 1)) (set-get_or now i none) (made_one now i (get_or now i none) lt h p)

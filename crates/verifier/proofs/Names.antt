@@ -5,10 +5,10 @@ pub use Rattle.verifier.specs.Names.{word_holds, wrapped, int_width, Action, Ope
 pub use Rattle.verifier.specs.Names.{W64, RegNo, R10, R0, Cell, Byte, Pointer, Value, Number, Address, WalkFault, PointerMisuse, PointerRange, ExitsWithPointer, ReadOnlyField, UnsetRegister}
 pub use Rattle.verifier.specs.Names.{FallsOff, RegFits, ValueFits, IsKindJoin, IsKindResult, number_in_reg, IsKindImage, IsKnownNumber, Kind, InScalar, Scalar, StackFits, block_at, mark_at}
 pub use Rattle.verifier.specs.Names.{box_value, filter_map, option_map, Flow, Jump, Next, Bits, Lowest, Sum, Difference}
-pub use Rattle.insn.specs.Arithmetic.{defined_result, left_operand}
+pub use Rattle.insn.specs.Arithmetic.{left_operand}
 pub use Rattle.insn.specs.FirstLook.{register_written_by, distance_in, first_found, look_fault, distance_of, distance_fault, jump_fault, write_fault, written_by}
 pub use Rattle.insn.specs.Memory.{is_writable, within, low_bytes, may_hold, number_spelled, parts_of, value_in, with_value, written, is_unset}
-pub use Rattle.insn.specs.MemoryLaws.{length-low_bytes, each-drop, each-take, each-written, low_bytes_fit}
+pub use Rattle.insn.specs.MemoryLaws.{length-low_bytes, each-written, low_bytes_fit}
 pub use Rattle.insn.specs.OutcomeLaws.{stuck_is_named}
 pub use Rattle.insn.specs.Outcomes.{Fails, Tested, action_outcome, and_then, operation_result, or_fault, put, Passes, outcome, access_place, extended, failed, number_held}
 pub use Rattle.insn.specs.Outcomes.{stored_state, held, passes_if, value_at, loaded}
@@ -17,7 +17,7 @@ pub use Rattle.insn.specs.Refusals.{look_fault_at}
 pub use Rattle.insn.specs.RunLaws.{exit_ends, StandsAt, begins_here, stands_behind, stands_inside, first_rest, begins_along}
 pub use Rattle.insn.specs.SlotLaws.{slots_of_bounds, length-places, nothing_inside}
 pub use Rattle.insn.specs.Step.{step, steps}
-pub use Rattle.insn.specs.Values.{at, region_size, writable_from, writable_to}
+pub use Rattle.insn.specs.Values.{at, region_size}
 pub use Rattle.insn.specs.Word.{word_result, unary_result}
 pub use Rattle.insn.specs.declared.operation.Cond.{Cond}
 pub use Rattle.insn.specs.declared.operation.ExtendBits.{ExtendBits}
@@ -43,7 +43,7 @@ pub use Rattle.stack_state.specs.declared.block.Block.{Block}
 pub use Rattle.stack_state.specs.declared.mark.Mark.{Mark}
 pub use Rattle.stack_state.specs.declared.stack.Stack.{Stack}
 pub use Rattle.std.proofs.Math.ListN.{get_or-map}
-pub use Rattle.std.proofs.lemmas.Bool.{cases_eq, cases_lt, le-leb, lt-leb, eqb-true}
+pub use Rattle.std.proofs.lemmas.Bool.{cases_eq, cases_lt, le-leb, eqb-true}
 pub use Rattle.std.proofs.lemmas.Bool.Decides.{Decides-eqb}
 pub use Rattle.std.proofs.lemmas.Int.{ints, to_z-of_z}
 pub use Rattle.std.proofs.lemmas.List.{append-nil, append_assoc, get_or-set_other, get_or-set_same, length-set, length-take, length-drop, length-map, drop-map, take-map, length-replicate}
@@ -52,9 +52,9 @@ pub use Rattle.std.proofs.lemmas.List.Elements.{All-push, Contains-append_cases,
 pub use Rattle.std.specs.Int.{cast_unsigned}
 pub use Rattle.std.specs.List.{list_any, cons_option}
 pub use Rattle.std.specs.Option.{option_to_list, option_or}
-pub use Rattle.std.specs.Prelude.{All, nat_le, ◌+ℤ◌, not, IsSome, IfSome, is_some, slice_get, nat_lt}
+pub use Rattle.std.specs.Prelude.{All, ◌+ℤ◌, not, IsSome, IfSome, is_some, slice_get, nat_lt}
 pub use Rattle.verifier.specs.Findings.{AreToldOnward, IsAcceptance, IsExplained, IsKnownAt, NoneComesTo}
-pub use Rattle.verifier.specs.Fits.{AllOf, IsWholePointer, Reading, RegIs, SetOf, StackIs, StackShows, StateFits, is_exact}
+pub use Rattle.verifier.specs.Fits.{InStates, AsShape, IsWholePointer, Reading, RegIs, WhereSet, StackIs, StackShows, StateFits, is_exact}
 pub use Rattle.verifier.specs.Follows.{FlowFits, FlowIs, Follows, WritesNoR10, reg_of, FlowOf, comparison_of, FlowTo, IsOperand, IsEntry, IsJoined, test_answer, IsFaulty, goes_behind}
 pub use Rattle.verifier.specs.Kinds.{LeavesKnown, IsLinked, LeavesRow, IsSoundRow, Receives, flow_where, test_of, Extends, GivenAt, StoredAt, StoredOf, StoredWhere, kept_in_record, put_at}
 pub use Rattle.verifier.specs.Kinds.{CanFail, GivenIn, Put, StoredIn, IsWide, Loads, OfOperand}
@@ -65,7 +65,7 @@ pub use Rattle.verifier.specs.LinksParts.{IsEqualKept, AreNumbersRefined, IsLink
 pub use Rattle.verifier.specs.Shapes.{effects, shape_of, MovesNone, NoMovedPointer, both_ways, branch_in, blank_cell, blank_value, OnWay, shape_config, IsStuckShape, Uniform, ways, ways_from}
 pub use Rattle.verifier.specs.Typing.{IsNoMoreThan, HasTyping, IsTyping, GoesTyped, MayCome, IsNeverStuck, UniformIsTyped}
 pub use Rattle.verifier.specs.Waits.{AreBothPushed, BranchGoesOn, IsTestSettled, EachGoesOn, GoesOn, IsPassed, IsPushed, IsRefusedAt, IsRefusedHere, IsTaken, IsVisited, PassesEach}
-pub use Rattle.verifier.specs.Waits.{either, nowhere, IsBegun, IsAdded, IsSettled, IsWayPushed, MayPush, HasWalked, Begun, Visited, IsJoinedIn, StandsBeside, IsMerged, HasPassed}
+pub use Rattle.verifier.specs.Waits.{either, nowhere, IsBegun, IsAdded, IsSettled, IsWayPushed, MayPush, HasWalked, Begun, Visited, IsJoinedIn, StandsBeside, IsMerged}
 pub use Rattle.verifier.specs.WaitsParts.{IsCopy, IsFar, IsLastPassage, IsPassage, IsNoted, IsVisit, IsFirst, IsFirstPlace, IsRoomFor}
 pub use Rattle.verifier.specs.declared.known.Known.{Known}
 pub use Rattle.verifier.specs.declared.known.Test.{Test}

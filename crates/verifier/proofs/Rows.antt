@@ -1,6 +1,6 @@
 -- The links that instructions make, and the rows of the table: what they leave follows, and what they refuse is the first test that fails.
 use Rattle.std.proofs.Common.{◌≡◌, ◌≢◌, ℕ, ◌+◌, ◌^◌, ◌<◌, true, false, List, ℤ, Option, Some, None, Ok, get_or, set, length, refl, sym, ap, ◌∙◌, subst, arith, ◌⊎◌, Result, Err, inl, inr}
-use Rattle.verifier.proofs.Names.{AllOf, SetOf, Reading, RegIs, is_exact, IsSome, fault_at, stuck_is_named, AreLinked, left_operand, cast_unsigned, Decides-eqb, get_or-set_other, get_or-set_same, Insn, Reg, Imm, Action, Operate, Convert, LoadWord, LoadFrom, StoreAt, Go, End}
+use Rattle.verifier.proofs.Names.{InStates, AsShape, WhereSet, Reading, RegIs, is_exact, IsSome, fault_at, stuck_is_named, AreLinked, left_operand, cast_unsigned, Decides-eqb, get_or-set_other, get_or-set_same, Insn, Reg, Imm, Action, Operate, Convert, LoadWord, LoadFrom, StoreAt, Go, End}
 use Rattle.verifier.proofs.Names.{ExitsWithPointer, BinOp, Layout, Sub, Mov, Width, RegNo, R10, R0, Value, Number, Address, reg_number}
 use Rattle.verifier.proofs.Names.{State, at, value_of, Kind, RegFits, ValueFits, IsKindResult, number_in_reg, Scalar, InScalar-words, InScalar}
 use Rattle.verifier.proofs.Names.{Effect, Exits, Falls, Jumps, word_of, register_written_by, distance_in, action_of, Fails, Tested, action_outcome, and_then, effect, operation_result}
@@ -108,9 +108,9 @@ number_held : (a : Scalar) (o : Option Value) → RegFits false (kind.Number a) 
 number_held a (Some (Number n)) f = (n, refl, f)
 number_held a o f = absurd f
 
-module _ (layout : Layout) (old : Known) (s t : State) (f : StateFits (AllOf false) layout old s) where
+module _ (layout : Layout) (old : Known) (s t : State) (f : StateFits InStates layout old s) where
   fits_as : (r : RegNo) (k : Kind) (o : Option Value) → reg_of old r ≡ k → value_of s.registers r ≡ o → RegFits false k o
-  fits_as r k o is at = rw (← is, ← at) (reg_fits (AllOf false) layout old s r f)
+  fits_as r k o is at = rw (← is, ← at) (reg_fits InStates layout old s r f)
 
   -- the link that an instruction makes holds behind it
   pub made_holds : (action : Action) (made : RegNo × Link) (between : Known) → register_written_by action ≢ Some R10 → link_made old.registers old.links action ≡ Some made → LeavesRow layout action old between (Ok Next)
@@ -157,19 +157,19 @@ module _ (layout : Layout) (i : Insn) (old between new : Known) (linked : IsLink
     same_links : new.links ≡ between.links
     same_links = subst (λ (o : Option (RegNo × Link)). AreMade o between.links new.links) none linked.links
 
-    to : (s : State) → StateFits (AllOf false) layout between s → StateFits (AllOf false) layout new s
-    to s f = same_fits (AllOf false) layout between new s linked.registers linked.stack (links_same false between.links new.links s.registers same_links f.links) f
+    to : (s : State) → StateFits InStates layout between s → StateFits InStates layout new s
+    to s f = same_fits InStates layout between new s linked.registers linked.stack (links_same false between.links new.links s.registers same_links f.links) f
 
-    flow_fits : (flow : Flow) (o : Option Effect) → FlowFits (AllOf false) layout between flow o → FlowFits (AllOf false) layout new flow o
+    flow_fits : (flow : Flow) (o : Option Effect) → FlowFits InStates layout between flow o → FlowFits InStates layout new flow o
     flow_fits flow o h1 = grind (arith)
 
   -- where one is
   module _ (made : RegNo × Link) (is : link_made old.registers old.links (action_of i) ≡ Some made) (other : WritesNoR10 i) (row : LeavesRow layout (action_of i) old between (Ok Next)) where
-    made_fits : (s : State) (o : Option Effect) → StateFits (AllOf false) layout old s → effect layout i s ≡ o → FlowFits (AllOf false) layout between Next o → FlowFits (AllOf false) layout new Next o
+    made_fits : (s : State) (o : Option Effect) → StateFits InStates layout old s → effect layout i s ≡ o → FlowFits InStates layout between Next o → FlowFits InStates layout new Next o
     made_fits s (Some (Falls t)) f done h =
         let holds = made_holds layout old s t f (action_of i) made between other is row done in
         let are : AreMade (Some made) between.links new.links = subst (λ (o : Option (RegNo × Link)). AreMade o between.links new.links) is linked.links in
-        same_fits (AllOf false) layout between new t linked.registers linked.stack (made_too between.links new.links t.registers made are holds h.links) h
+        same_fits InStates layout between new t linked.registers linked.stack (made_too between.links new.links t.registers made are holds h.links) h
     made_fits s o f done h = absurd h
 
 made_next : (layout : Layout) (action : Action) (made : RegNo × Link) (old between : Known) (flow : Flow) → link_made old.registers old.links action ≡ Some made → LeavesRow layout action old between (Ok flow) → flow ≡ Next
@@ -181,14 +181,14 @@ pub with_link : (layout : Layout) (i : Insn) (old between new : Known) (flow : F
 with_link layout i old between new flow other linked row h = record {
   own = h.own;
   states = λ s f. by (link_made old.registers old.links (action_of i)) refl s f;
-  shape = λ s plain f. flow_to (StateFits (AllOf true) layout) (StateFits (AllOf true) layout) between new (λ t g. same_fits (AllOf true) layout between new t linked.registers linked.stack tt g) flow (effects layout i s) (h.shape s plain f);
+  shape = λ s plain f. flow_to (StateFits AsShape layout) (StateFits AsShape layout) between new (λ t g. same_fits AsShape layout between new t linked.registers linked.stack tt g) flow (effects layout i s) (h.shape s plain f);
 } where
-  by : (o : Option (RegNo × Link)) → link_made old.registers old.links (action_of i) ≡ o → (s : State) → StateFits (AllOf false) layout old s → FlowFits (AllOf false) layout new flow (effect layout i s)
+  by : (o : Option (RegNo × Link)) → link_made old.registers old.links (action_of i) ≡ o → (s : State) → StateFits InStates layout old s → FlowFits InStates layout new flow (effect layout i s)
   by None e s f = flow_fits layout i old between new linked e flow (effect layout i s) (h.states s f)
   by (Some made) e s f =
       let next = made_next layout (action_of i) made old between flow e row in
-      let there : FlowFits (AllOf false) layout between Next (effect layout i s) = subst (λ (x : Flow). FlowFits (AllOf false) layout between x (effect layout i s)) next (h.states s f) in
-      subst (λ (x : Flow). FlowFits (AllOf false) layout new x (effect layout i s)) (sym next) (made_fits layout i old between new linked made e other (subst (λ (x : Flow). LeavesRow layout (action_of i) old between (Ok x)) next row) s (effect layout i s) f refl there)
+      let there : FlowFits InStates layout between Next (effect layout i s) = subst (λ (x : Flow). FlowFits InStates layout between x (effect layout i s)) next (h.states s f) in
+      subst (λ (x : Flow). FlowFits InStates layout new x (effect layout i s)) (sym next) (made_fits layout i old between new linked made e other (subst (λ (x : Flow). LeavesRow layout (action_of i) old between (Ok x)) next row) s (effect layout i s) f refl there)
 
 -- ==== rows
 
@@ -253,7 +253,7 @@ own_of i flow h1 = grind (arith)
 
 -- ---- from rows to instructions
 
-passed_fits : (layout : Layout) (new : Known) (flow : Flow) (t : Tested Effect) → IsRightAt (AllOf false) layout new t (Ok flow) → FlowFits (AllOf false) layout new flow (passed t)
+passed_fits : (layout : Layout) (new : Known) (flow : Flow) (t : Tested Effect) → IsRightAt InStates layout new t (Ok flow) → FlowFits InStates layout new flow (passed t)
 passed_fits layout new flow t h1 = grind (arith)
 
 passed_is : (how : Reading) → is_exact how ≡ true → (layout : Layout) (action : Action) (old new : Known) (s : State) (flow : Flow) (e : Effect) → IsOwn action flow → (branch_in action ≡ None) ⊎ (new ≡ old) → StateFits how layout old s → FlowFits how layout new flow (Some e)
@@ -268,16 +268,16 @@ passed_is how x layout action old new s (Branch d test) e own (inr same) f h =
 passed_is how x layout action old new s flow e own same f h = absurd h
 
 -- where a shape's tests pass, what it passes to is known
-passed_to : (layout : Layout) (action : Action) (old new : Known) (s : State) (flow : Flow) (t : Tested Effect) → IsOwn action flow → (branch_in action ≡ None) ⊎ (new ≡ old) → StateFits (AllOf true) layout old s → IsRightAt (AllOf true) layout new t (Ok flow)
+passed_to : (layout : Layout) (action : Action) (old new : Known) (s : State) (flow : Flow) (t : Tested Effect) → IsOwn action flow → (branch_in action ≡ None) ⊎ (new ≡ old) → StateFits AsShape layout old s → IsRightAt AsShape layout new t (Ok flow)
     → FlowIs layout new flow (both_ways (branch_in action) s (passed t))
-passed_to layout action old new s flow (Passes e) own same f h = passed_is (AllOf true) refl layout action old new s flow e own same f h
+passed_to layout action old new s flow (Passes e) own same f h = passed_is AsShape refl layout action old new s flow e own same f h
 passed_to layout action old new s flow t own same f h = absurd h
 
 pub rows_sound : (layout : Layout) (i : Insn) (old new : Known) (r : Result Flow WalkFault) → WritesNoR10 i → LeavesKnown layout i old new r → IsSoundRow layout i old new r
 rows_sound layout i old new (Ok flow) other h = with_link layout i old h.0 new flow other h.2 h.1 (record {
   own = own_of i flow own.0;
-  states = λ s f. passed_fits layout h.0 flow (outcome layout i s) (row.right (AllOf false) s f tt);
-  shape = λ s plain f. passed_to layout (action_of i) old h.0 s flow (outcome layout i s) own.0 own.1 f (row.right (AllOf true) s f plain);
+  states = λ s f. passed_fits layout h.0 flow (outcome layout i s) (row.right InStates s f tt);
+  shape = λ s plain f. passed_to layout (action_of i) old h.0 s flow (outcome layout i s) own.0 own.1 f (row.right AsShape s f plain);
 }) where
   row : IsRowRight layout old h.0 (action_of i) (Ok flow)
   row = row_right layout old h.0 (action_of i) (Ok flow) other h.1
@@ -286,7 +286,7 @@ rows_sound layout i old new (Ok flow) other h = with_link layout i old h.0 new f
   own = row_flow layout (action_of i) old h.0 flow h.1
 rows_sound layout i old new (Err fault) other h =
     let row = row_right layout old new (action_of i) (Err fault) other h in
-    (record { stays = row.stays; named = λ s plain f. row.right (AllOf true) s f plain }, row_seen layout i old new fault h)
+    (record { stays = row.stays; named = λ s plain f. row.right AsShape s f plain }, row_seen layout i old new fault h)
 
 -- a jump that follows is the instruction's own
 pub row_own : (layout : Layout) (i : Insn) (old new : Known) (flow : Flow) → LeavesRow layout (action_of i) old new (Ok flow) → FlowOf i flow
@@ -296,10 +296,10 @@ row_own layout i old new flow h = own_of i flow (row_flow layout (action_of i) o
 
 -- so it is where the instruction is passed, and it is not refused
 abbrev pub IsShownBy : Layout → Known → Result Flow WalkFault → List Effect → Type 0
-IsShownBy layout known (Ok flow) es = FlowTo (StateFits SetOf layout) known flow es
+IsShownBy layout known (Ok flow) es = FlowTo (StateFits WhereSet layout) known flow es
 IsShownBy layout known (Err fault) es = ⊥
 
-module _ (layout : Layout) (old : Known) (s : State) (f : StateFits SetOf layout old s) (i : Insn) (other : WritesNoR10 i) (plain : NoMovedPointer i s) (none : fault_at layout i s ≡ None) where
+module _ (layout : Layout) (old : Known) (s : State) (f : StateFits WhereSet layout old s) (i : Insn) (other : WritesNoR10 i) (plain : NoMovedPointer i s) (none : fault_at layout i s ≡ None) where
   -- where no test fails, something is passed
   passes_with : (e : Effect) × (outcome layout i s ≡ Passes e)
   passes_with = by (outcome layout i s) refl where
@@ -309,14 +309,14 @@ module _ (layout : Layout) (old : Known) (s : State) (f : StateFits SetOf layout
     by WritesR10 q = absurd (let named : IsSome (fault_at layout i s) = (stuck_is_named layout i s other).0 (ap passed q) in let g = rw none at named in cc)
 
   row_shown : (new : Known) (r : Result Flow WalkFault) → LeavesRow layout (action_of i) old new r → IsShownBy layout new r (effects layout i s)
-  row_shown new r h = by r ((row_right layout old new (action_of i) r other h).right SetOf s f plain) h where
-    by : (r : Result Flow WalkFault) → IsRightAt SetOf layout new (outcome layout i s) r → LeavesRow layout (action_of i) old new r → IsShownBy layout new r (effects layout i s)
+  row_shown new r h = by r ((row_right layout old new (action_of i) r other h).right WhereSet s f plain) h where
+    by : (r : Result Flow WalkFault) → IsRightAt WhereSet layout new (outcome layout i s) r → LeavesRow layout (action_of i) old new r → IsShownBy layout new r (effects layout i s)
     by (Ok flow) right h =
         let own = row_flow layout (action_of i) old new flow h in
-        rw passes_with.1 (passed_is SetOf refl layout (action_of i) old new s flow passes_with.0 own.0 own.1 f (rw passes_with.1 at right))
+        rw passes_with.1 (passed_is WhereSet refl layout (action_of i) old new s flow passes_with.0 own.0 own.1 f (rw passes_with.1 at right))
     by (Err fault) right h = rw passes_with.1 at right
 
   -- a link that is made changes nothing of it
   pub outcome_shown : (new : Known) (r : Result Flow WalkFault) → LeavesKnown layout i old new r → IsShownBy layout new r (effects layout i s)
-  outcome_shown new (Ok flow) h = flow_to (StateFits SetOf layout) (StateFits SetOf layout) h.0 new (λ t g. same_fits SetOf layout h.0 new t h.2.registers h.2.stack tt g) flow (effects layout i s) (row_shown h.0 (Ok flow) h.1)
+  outcome_shown new (Ok flow) h = flow_to (StateFits WhereSet layout) (StateFits WhereSet layout) h.0 new (λ t g. same_fits WhereSet layout h.0 new t h.2.registers h.2.stack tt g) flow (effects layout i s) (row_shown h.0 (Ok flow) h.1)
   outcome_shown new (Err fault) h = row_shown new (Err fault) h

@@ -1,17 +1,23 @@
 -- What the table refuses is refused by the machine: in some state that is what is known, with the fault that is named.
-use Rattle.std.proofs.Common.{◌≡◌, ◌≢◌, ◌⊎◌, ℕ, ◌+◌, ◌-◌, ◌<◌, ◌≤◌, ◌&&◌, ℤ, pos, negsuc, Bool, true, false, List, Option, Some, None, Result, Ok, Err, get_or, set, refl, sym, ap, ◌∙◌, subst, arith, inl, inr}
+use Rattle.std.proofs.Common.{◌≡◌, ◌≢◌, ◌⊎◌, ℕ, ◌+◌, ◌-◌, ◌≤◌, ℤ, pos, Bool, true, false, List, Option, Some, None, Result, Ok, Err, get_or, set, refl, sym, ap, ◌∙◌, subst, arith, inl, inr}
+use Rattle.reg_kind.specs.declared.place.Place.{Place}
+use Rattle.reg_kind.specs.declared.span.Direction.{Direction}
 use Rattle.reg_kind.specs.declared.span.Direction.TheVariants.{Up, Down}
-use Rattle.verifier.proofs.Names.{AllOf, ◌+ℤ◌, nat_le, cases_eq, cases_lt, le-leb, lt-leb, ints, get_or-set_other, get_or-set_same, length-set, Layout, RegNo, Operand, Reg, Imm, Size}
+use Rattle.reg_kind.proofs.Places.{few}
+use Rattle.reg_kind.proofs.Results.{has_number, has_pointer}
+use Rattle.reg_kind.proofs.Shifts.{span_ends}
+use Rattle.verifier.proofs.Names.{InStates, ◌+ℤ◌, cases_eq, le-leb, ints, get_or-set_other, get_or-set_same, length-set, Layout, RegNo, Operand, Reg, Imm, Size}
 use Rattle.verifier.proofs.Names.{ExtendBits, UnOp, Extend, Width, W64, W32, Region, Pointer, Value, Number, Address, Cell, WalkFault, OutOfRegion, PointerMisuse, ReadOnlyField, UnsetRegister}
-use Rattle.verifier.proofs.Names.{ExitsWithPointer, PointerRange, reg_number, size_bytes, State, at, region_size, value_of, writable_from, writable_to, is_writable, within, Effect, Falls}
+use Rattle.verifier.proofs.Names.{accessed, held, value_at, ExitsWithPointer, PointerRange, reg_number, size_bytes, State, at, region_size, value_of, is_writable, within, Effect, Falls}
 use Rattle.verifier.proofs.Names.{operand_value, Exits, Jumps, Tested, Passes, access_place, action_outcome, and_then, comparison, extended, failed, number_held, stored_state}
 use Rattle.verifier.proofs.Names.{operation_result, put, LoadFrom, StoreAt, Operate, Convert, LoadWord, Go, End, Scalar, Kind, Span, IsRight, RegFits, SpanFits, ValueFits, pointer_to}
 use Rattle.verifier.proofs.Names.{is_span_writable, place_at, place_behind, place_in, IsKindImage, number_in_reg, IsComputed, IsKindResult, IsRegMove, in_region, StackFits, IsGiven}
 use Rattle.verifier.proofs.Names.{IsStored, Known, Next, StateFits, IsOperand, comparison_of, reg_of, Extends, GivenAt, LeavesRow, StoredOf, StoredWhere, flow_where, kept_in_record, put_at}
-use Rattle.verifier.proofs.Names.{CanFail, R0, Insn, Action, BinOp, Add, Sub, Mov, action_of, unary_result, word_holds, defined_result, left_operand, Flow}
+use Rattle.verifier.proofs.Names.{CanFail, R0, Insn, Action, BinOp, Add, Sub, Mov, action_of, unary_result, word_holds, left_operand, Flow}
 use Rattle.std.specs.Prelude.{if◌then◌else◌}
+use Rattle.std.proofs.lemmas.Bool.Decides.{nat_tests}
 use Rattle.insn.specs.declared.action.Action.TheVariants.{Branch}
-use Rattle.reg_kind.specs.Spans.{span_between, span_from, span_raised}
+use Rattle.reg_kind.specs.Spans.{move_of, span_between, span_raised}
 use Rattle.stack_state.proofs.Refusals.{FailsLoad, FailsStore, load_seen, store_seen}
 use Rattle.verifier.proofs.Steps.{no_value, unset_compared, of_err, of_ok, set_holds, unset_or_not, Gives, fails_then, given_by, loaded_by, loaded_right, operand_fits, converts_put, loads_put, both_named}
 use Rattle.verifier.proofs.Linked.{IsNoNumber, changed_holds}
@@ -20,9 +26,6 @@ use Rattle.insn.specs.declared.state.Region.TheVariants as region
 use Rattle.reg_kind.specs.declared.reg.Reg.TheVariants as kind
 
 -- ---- places
-
-past : (size n k : ℕ) → size < k + n → within size (pos k) n ≡ None
-past size n k lt = let t = lt-leb (k + n) size lt in rw t refl
 
 within_at : (size n k : ℕ) → k + n ≤ size → within size (pos k) n ≡ Some k
 within_at size n k le = let t = le-leb (k + n) size le in rw t refl
@@ -39,23 +42,11 @@ record HasEnds (size n : ℕ) (x y : ℤ) (t : Span) : Type 0 where
   begins : t.least + n ≤ size
 
 inside_of : (size n : ℕ) (x y : ℤ) (t : Span) → n ≤ size → span_between (size - n) x y ≡ Some t → HasEnds size n x y t
-inside_of size n (negsuc a) y t few e = absurd cc
-inside_of size n (pos a) (negsuc b) t few e = absurd cc
-inside_of size n (pos a) (pos b) t few e =
-    elim (cases_lt (size - n) a) [
-      | inl lt ↦ let none = lt-leb a (size - n) lt in absurd (let g = rw none at e in cc)
-      | inr le ↦ elim (cases_lt (size - n) b) [
-        | inl lt ↦ let one = le-leb a (size - n) le in let none = lt-leb b (size - n) lt in absurd (let g = rw (one, none) at e in cc)
-        | inr le' ↦
-            let one = le-leb a (size - n) le in
-            let two = le-leb b (size - n) le' in
-            let g : Some (span_from a b) ≡ Some t = rw (one, two) at e in
-            let same : span_from a b ≡ t = cc in
-            let l : a ≡ t.least = ap (λ (x : Span). x.least) same in
-            let h : b ≡ t.greatest = ap (λ (x : Span). x.greatest) same in
-            record { least = ap pos l; greatest = ap pos h; inside = omega arith; begins = omega arith }
-      ]
-    ]
+inside_of size n x y t few e =
+    let ends = span_ends (size - n) x y t (sym e) in
+    let least = ends.2 in
+    let greatest = ends.3 in
+    record { least = ends.0; greatest = ends.1; inside = omega arith; begins = omega arith }
 
 -- an offset from which an access comes to a place
 record ComesTo (span : Span) (offset : ℤ) (k : ℕ) : Type 0 where
@@ -69,15 +60,12 @@ comes_to span t offset k l g fits =
     let b = fits.1 in
     record { from = span.least + (k - t.least); inside = (omega arith, omega (arith, ints)); comes = omega (arith, ints) }
 
-few_bytes : (layout : Layout) (r : Region) (size : Size) → size_bytes size ≤ region_size layout r
-few_bytes layout r size = grind (arith)
-
 -- ---- states of which a register is changed
 
 -- the first test that fails in some state that is what is known
 pub record Sees {A : Type 0} (layout : Layout) (old : Known) (tests : State → Tested A) (fault : WalkFault) : Type 0 where
   pub state : State
-  pub fits : StateFits (AllOf false) layout old state
+  pub fits : StateFits InStates layout old state
   pub fails : failed (tests state) ≡ Some fault
 
 -- what fails is not gone on from
@@ -87,11 +75,11 @@ sees_then layout old tests whole k fault same x = record { state = x.state; fits
 abbrev pub changed : State → RegNo → Option Value → List Cell → State
 changed s r o cells = record s { registers = set s.registers (reg_number r) o; stack = cells }
 
-module _ (layout : Layout) (old : Known) (s : State) (f : StateFits (AllOf false) layout old s) where
+module _ (layout : Layout) (old : Known) (s : State) (f : StateFits InStates layout old s) where
   pub there : (r : RegNo) (o : Option Value) → get_or (set s.registers (reg_number r) o) (reg_number r) None ≡ o
   there r o = get_or-set_same s.registers (reg_number r) o None (let l = f.long in let b = reg_below r in omega arith)
 
-  changed_fits : (r : RegNo) (o : Option Value) (cells : List Cell) → IsNoNumber o → RegFits false (reg_of old r) o → StackFits false old.stack cells → StateFits (AllOf false) layout old (changed s r o cells)
+  changed_fits : (r : RegNo) (o : Option Value) (cells : List Cell) → IsNoNumber o → RegFits false (reg_of old r) o → StackFits false old.stack cells → StateFits InStates layout old (changed s r o cells)
   changed_fits r o cells none h stack = record {
     links = changed_holds old.links s.registers (reg_number r) o (let l = f.long in let b = reg_below r in omega arith) none f.links;
     long = length-set s.registers (reg_number r) o ∙ f.long;
@@ -105,29 +93,22 @@ module _ (layout : Layout) (old : Known) (s : State) (f : StateFits (AllOf false
   }
 
   -- a register of which nothing is known may be unset
-  pub unset_there : (r : RegNo) → reg_of old r ≡ kind.Unset → StateFits (AllOf false) layout old (changed s r None s.stack)
+  pub unset_there : (r : RegNo) → reg_of old r ≡ kind.Unset → StateFits InStates layout old (changed s r None s.stack)
   unset_there r e = changed_fits r None s.stack tt (subst (λ (k : Kind). RegFits false k None) (sym e) tt) f.stack
 
   -- one that is a pointer may be at each of its offsets
   pointer_fits : (g : Region) (span : Span) (o : ℕ) → SpanFits false span o → RegFits false (pointer_to g span) (Some (Address (at g o)))
   pointer_fits g span o h1 = grind (arith)
 
-  pointer_there : (r : RegNo) (g : Region) (span : Span) (o : ℕ) (cells : List Cell) → reg_of old r ≡ pointer_to g span → SpanFits false span o → StackFits false old.stack cells → StateFits (AllOf false) layout old (changed s r (Some (Address (at g o))) cells)
+  pointer_there : (r : RegNo) (g : Region) (span : Span) (o : ℕ) (cells : List Cell) → reg_of old r ≡ pointer_to g span → SpanFits false span o → StackFits false old.stack cells → StateFits InStates layout old (changed s r (Some (Address (at g o))) cells)
   pointer_there r g span o cells e h stack = changed_fits r (Some (Address (at g o))) cells tt (subst (λ (k : Kind). RegFits false k (Some (Address (at g o)))) (sym e) (pointer_fits g span o h)) stack
 
   -- what registers hold
   is_number : (r : RegNo) (a : Scalar) → reg_of old r ≡ kind.Number a → (n : ℕ) × (value_of s.registers r ≡ Some (Number n))
-  is_number r a e = by (value_of s.registers r) (subst (λ (k : Kind). RegFits false k (value_of s.registers r)) e (reg_fits (AllOf false) layout old s r f)) where
-    by : (o : Option Value) → RegFits false (kind.Number a) o → (n : ℕ) × (o ≡ Some (Number n))
-    by (Some (Number n)) h = (n, refl)
-    by o h = absurd h
+  is_number r a e = let h = has_number false a (value_of s.registers r) (subst (λ (k : Kind). RegFits false k (value_of s.registers r)) e (reg_fits InStates layout old s r f)) in (h.0, h.1)
 
   is_pointer : (r : RegNo) (g : Region) (span : Span) → reg_of old r ≡ pointer_to g span → (p : Pointer) × (value_of s.registers r ≡ Some (Address p)) × SpanFits false span p.offset
-  is_pointer r g span e = by g (value_of s.registers r) (subst (λ (k : Kind). RegFits false k (value_of s.registers r)) e (reg_fits (AllOf false) layout old s r f)) where
-    by : (g : Region) (o : Option Value) → RegFits false (pointer_to g span) o → (p : Pointer) × (o ≡ Some (Address p)) × SpanFits false span p.offset
-    by region.Record (Some (Address p)) h = (p, refl, h.1)
-    by region.Stack (Some (Address p)) h = (p, refl, h.1)
-    by g o h = absurd h
+  is_pointer r g span e = let h = has_pointer false g span (value_of s.registers r) (subst (λ (k : Kind). RegFits false k (value_of s.registers r)) e (reg_fits InStates layout old s r f)) in (h.0, h.1, h.3)
 
   ordered : (r : RegNo) (g : Region) (span : Span) → reg_of old r ≡ pointer_to g span → span.least ≤ span.greatest
   ordered r g span e = let h = is_pointer r g span e in let a = h.2.0 in let b = h.2.1 in omega arith
@@ -148,14 +129,42 @@ module _ (layout : Layout) (old : Known) (s : State) (f : StateFits (AllOf false
   pub image_refused : (op : UnOp) (w : Width) (a : Kind) (fault : WalkFault) → IsKindImage op w a (Err fault) → number_in_reg a PointerMisuse ≡ Err fault
   image_refused op w a fault h1 = grind (arith)
 
+  -- ---- accesses
+
+  module _ (r : RegNo) (offset : ℤ) (size : Size) where
+    abbrev access_at : State → Tested Pointer
+    access_at t = accessed layout (value_of t.registers r) offset size
+
+    -- an access is refused in some state, or its place lies behind a pointer
+    data Accesses : Result Place WalkFault → Type 0 where
+      Misses : (fault : WalkFault) → Sees layout old access_at fault → Accesses (Err fault)
+      Hits : (g : Region) (span t : Span) → reg_of old r ≡ pointer_to g span → HasEnds (region_size layout g) (size_bytes size) (pos span.least +ℤ offset) (pos span.greatest +ℤ offset) t → Accesses (Ok (record { region = g; span = t }))
+
+    outside : (g : Region) (span : Span) (o : ℕ) → reg_of old r ≡ pointer_to g span → SpanFits false span o → within (region_size layout g) (pos o +ℤ offset) (size_bytes size) ≡ None → Sees layout old access_at OutOfRegion
+    outside g span o e h out = record { state = changed s r (Some (Address (at g o))) s.stack; fits = pointer_there r g span o s.stack e h f.stack; fails = rw (there, out) refl }
+
+    pointer_accesses : (g : Region) (span : Span) → reg_of old r ≡ pointer_to g span → Accesses (place_in layout g span offset (size_bytes size))
+    pointer_accesses g span e = by (span_raised (region_size layout g - size_bytes size) span offset offset) refl where
+      by : (o : Option Span) → span_raised (region_size layout g - size_bytes size) span offset offset ≡ o → Accesses (place_at g o)
+      by None q = let le = ordered r g span e in Misses OutOfRegion (elim (out_of (region_size layout g) (size_bytes size) (pos span.least +ℤ offset) (pos span.greatest +ℤ offset) (few layout g size) q) [
+        | inl out ↦ outside g span span.least e (omega arith, le) out
+        | inr out ↦ outside g span span.greatest e (le, omega arith) out
+      ])
+      by (Some t) q = Hits g span t e (inside_of (region_size layout g) (size_bytes size) (pos span.least +ℤ offset) (pos span.greatest +ℤ offset) t (few layout g size) q)
+
+    accesses : Accesses (place_behind layout (reg_of old r) offset (size_bytes size))
+    accesses = by (reg_of old r) refl where
+      by : (k : Kind) → reg_of old r ≡ k → Accesses (place_behind layout k offset (size_bytes size))
+      by kind.Unset e = Misses UnsetRegister (record { state = changed s r None s.stack; fits = unset_there r e; fails = rw there refl })
+      by (kind.Number a) e = Misses PointerMisuse (let n = is_number r a e in record { state = s; fits = f; fails = rw n.1 refl })
+      by (kind.Record span) e = pointer_accesses region.Record span e
+      by (kind.Stack span) e = pointer_accesses region.Stack span e
+
   -- ---- loads
 
   module _ (size : Size) (src : RegNo) (offset : ℤ) where
     abbrev pub read_at : State → Tested Value
     read_at t = loaded_by layout t src offset size
-
-    load_outside : (g : Region) (span : Span) (o : ℕ) → reg_of old src ≡ pointer_to g span → SpanFits false span o → within (region_size layout g) (pos o +ℤ offset) (size_bytes size) ≡ None → Sees layout old read_at OutOfRegion
-    load_outside g span o e h out = record { state = changed s src (Some (Address (at g o))) s.stack; fits = pointer_there src g span o s.stack e h f.stack; fails = rw (there, out) refl }
 
     load_stack : (span t : Span) (fault : WalkFault) → reg_of old src ≡ kind.Stack span → HasEnds 512 (size_bytes size) (pos span.least +ℤ offset) (pos span.greatest +ℤ offset) t → IsGiven old.stack t size (Err fault) → Sees layout old read_at fault
     load_stack span t fault e ends given = record {
@@ -169,31 +178,12 @@ module _ (layout : Layout) (old : Known) (s : State) (f : StateFits (AllOf false
       c : ComesTo span offset x.from
       c = comes_to span t offset x.from ends.least ends.greatest x.place
 
-    load_pointer : (g : Region) (span : Span) (fault : WalkFault) → reg_of old src ≡ pointer_to g span → GivenAt old size (place_in layout g span offset (size_bytes size)) (Err fault) → Sees layout old read_at fault
-    load_pointer g span fault e h = by (span_raised (region_size layout g - size_bytes size) span offset offset) refl h where
-      le : span.least ≤ span.greatest
-      le = ordered src g span e
-
-      within_stack : (g : Region) (t : Span) → reg_of old src ≡ pointer_to g span → HasEnds (region_size layout g) (size_bytes size) (pos span.least +ℤ offset) (pos span.greatest +ℤ offset) t → GivenAt old size (Ok (record { region = g; span = t })) (Err fault) → Sees layout old read_at fault
-      within_stack region.Record t e ends h = absurd h
-      within_stack region.Stack t e ends h = load_stack span t fault e ends h
-
-      by : (o : Option Span) → span_raised (region_size layout g - size_bytes size) span offset offset ≡ o → GivenAt old size (place_at g o) (Err fault) → Sees layout old read_at fault
-      by None q h =
-          let is : OutOfRegion ≡ fault = cc in
-          rw (← is) (elim (out_of (region_size layout g) (size_bytes size) (pos span.least +ℤ offset) (pos span.greatest +ℤ offset) (few_bytes layout g size) q) [
-            | inl out ↦ load_outside g span span.least e (omega arith, le) out
-            | inr out ↦ load_outside g span span.greatest e (le, omega arith) out
-          ])
-      by (Some t) q h = within_stack g t e (inside_of (region_size layout g) (size_bytes size) (pos span.least +ℤ offset) (pos span.greatest +ℤ offset) t (few_bytes layout g size) q) h
-
     pub loads_seen : (fault : WalkFault) → GivenAt old size (place_behind layout (reg_of old src) offset (size_bytes size)) (Err fault) → Sees layout old read_at fault
-    loads_seen fault h = by (reg_of old src) refl h where
-      by : (k : Kind) → reg_of old src ≡ k → GivenAt old size (place_behind layout k offset (size_bytes size)) (Err fault) → Sees layout old read_at fault
-      by kind.Unset e h = let is : UnsetRegister ≡ fault = cc in record { state = changed s src None s.stack; fits = unset_there src e; fails = rw there (ap Some is) }
-      by (kind.Number a) e h = let is : PointerMisuse ≡ fault = cc in let n = is_number src a e in record { state = s; fits = f; fails = rw n.1 (ap Some is) }
-      by (kind.Record span) e h = load_pointer region.Record span fault e h
-      by (kind.Stack span) e h = load_pointer region.Stack span fault e h
+    loads_seen fault h = by (place_behind layout (reg_of old src) offset (size_bytes size)) (accesses src offset size) h where
+      by : (p : Result Place WalkFault) → Accesses src offset size p → GivenAt old size p (Err fault) → Sees layout old read_at fault
+      by p (Misses wrong x) h = let same : wrong ≡ fault = cc in sees_then layout old (access_at src offset size) read_at (λ t place. value_at t place size) fault (λ t. refl) (rw same at x)
+      by p (Hits region.Record span t e ends) h = absurd h
+      by p (Hits region.Stack span t e ends) h = load_stack span t fault e ends h
 
   -- a pointer is not extended
   extend_fails : (bits : ExtendBits) (number : Kind) (fault : WalkFault) (t : Tested Value) → IsKindImage (Extend bits) W64 number (Err fault) → IsRight (ValueFits false) false (Ok number) t → failed (and_then t (extended (Some bits))) ≡ Some fault
@@ -211,25 +201,12 @@ module _ (layout : Layout) (old : Known) (s : State) (f : StateFits (AllOf false
       same (Some bits) x = cc
     by None (Ok number) g x = absurd cc
     by (Some bits) (Ok number) g x =
-        record { state = s; fits = f; fails = extend_fails bits number fault (loaded_by layout s src offset size) x ((loaded_right layout old size src offset (Ok number) g).right (AllOf false) s f) }
+        record { state = s; fits = f; fails = extend_fails bits number fault (loaded_by layout s src offset size) x ((loaded_right layout old size src offset (Ok number) g).right InStates s f) }
 
   -- ---- stores
 
   unwritable_end : (t : Span) (n : ℕ) → is_span_writable layout region.Record t n ≡ false → (is_writable layout region.Record t.least n ≡ false) ⊎ (is_writable layout region.Record t.greatest n ≡ false)
-  unwritable_end t n e =
-      elim (cases_lt t.least (writable_from layout)) [
-        | inl lt ↦ let no = lt-leb (writable_from layout) t.least lt in inl (rw no refl)
-        | inr le ↦ elim (cases_lt (writable_to layout) (t.greatest + n)) [
-          | inl lt ↦ inr (and_false (nat_le (writable_from layout) t.greatest) (nat_le (t.greatest + n) (writable_to layout)) (lt-leb (t.greatest + n) (writable_to layout) lt))
-          | inr le' ↦
-              let one = le-leb (writable_from layout) t.least le in
-              let two = le-leb (t.greatest + n) (writable_to layout) le' in
-              absurd (let g = rw (one, two) at e in cc)
-        ]
-      ] where
-        and_false : (a b : Bool) → b ≡ false → (a && b) ≡ false
-        and_false true b e = e
-        and_false false b e = refl
+  unwritable_end t n e = grind (arith, nat_tests)
 
   writable_first : (t : Span) (n : ℕ) → t.least ≤ t.greatest → is_span_writable layout region.Record t n ≡ true → is_writable layout region.Record t.least n ≡ true
   writable_first t n h1 h2 = grind (arith)
@@ -244,14 +221,8 @@ module _ (layout : Layout) (old : Known) (s : State) (f : StateFits (AllOf false
 
     module _ (value : Kind) (is : IsOperand old operand value) (set : value ≢ kind.Unset) where
       -- a value that is known not to be unset is there in each state that fits
-      value_there : (t : State) → StateFits (AllOf false) layout old t → (v : Value) × (operand_value t operand ≡ Some v) × ValueFits false value v
-      value_there t g = set_holds false value (operand_value t operand) set (operand_fits (AllOf false) layout old t operand value g is)
-
-      store_outside : (g : Region) (span : Span) (o : ℕ) → reg_of old dst ≡ pointer_to g span → SpanFits false span o → within (region_size layout g) (pos o +ℤ offset) (size_bytes size) ≡ None → Sees layout old write_at OutOfRegion
-      store_outside g span o e h out =
-          let fits = pointer_there dst g span o s.stack e h f.stack in
-          let v = value_there (changed s dst (Some (Address (at g o))) s.stack) fits in
-          record { state = changed s dst (Some (Address (at g o))) s.stack; fits = fits; fails = rw (there, v.1, out) refl }
+      value_there : (t : State) → StateFits InStates layout old t → (v : Value) × (operand_value t operand ≡ Some v) × ValueFits false value v
+      value_there t g = set_holds false value (operand_value t operand) set (operand_fits InStates layout old t operand value g is)
 
       store_fails : (g : Region) (span : Span) (k : ℕ) (fault : WalkFault) → reg_of old dst ≡ pointer_to g span → ComesTo span offset k → k + size_bytes size ≤ region_size layout g
           → ((t : State) (v : Value) → ValueFits false value v → failed (stored_state layout t (at g k) size v) ≡ Some fault) → Sees layout old write_at fault
@@ -281,38 +252,19 @@ module _ (layout : Layout) (old : Known) (s : State) (f : StateFits (AllOf false
           let i = ends.inside in
           store_fails region.Stack span x.from fault e (comes_to span t offset x.from ends.least ends.greatest x.place) (let q = p.1 in omega arith) (λ u v k. x.fails u v k ∙ ap Some (sym stored.0))
 
-      store_pointer : (g : Region) (span : Span) (fault : WalkFault) (new : Known) → reg_of old dst ≡ pointer_to g span → StoredOf layout (put_at size value (place_in layout g span offset (size_bytes size))) (Err fault) old new → Sees layout old write_at fault
-      store_pointer g span fault new e h = by (span_raised (region_size layout g - size_bytes size) span offset offset) refl h where
-        le : span.least ≤ span.greatest
-        le = ordered dst g span e
-
-        by : (o : Option Span) → span_raised (region_size layout g - size_bytes size) span offset offset ≡ o → StoredOf layout (put_at size value (place_at g o)) (Err fault) old new → Sees layout old write_at fault
-        by None q h =
-            let x = of_err layout size OutOfRegion value (Err fault) old new set h in
-            let same : OutOfRegion ≡ fault = cc in
-            rw (← same) (elim (out_of (region_size layout g) (size_bytes size) (pos span.least +ℤ offset) (pos span.greatest +ℤ offset) (few_bytes layout g size) q) [
-              | inl out ↦ store_outside g span span.least e (omega arith, le) out
-              | inr out ↦ store_outside g span span.greatest e (le, omega arith) out
-            ])
-        by (Some t) q h =
-            store_inside g span t fault new e (inside_of (region_size layout g) (size_bytes size) (pos span.least +ℤ offset) (pos span.greatest +ℤ offset) t (few_bytes layout g size) q)
-            (is_span_writable layout g t (size_bytes size)) refl (of_ok layout size (record { region = g; span = t }) value (Err fault) old new set h)
+      access_fails : (t : State) (o u : Option Value) (v : Value) (fault : WalkFault) → u ≡ Some v → failed (accessed layout o offset size) ≡ Some fault
+          → failed (and_then (held o) (λ base. and_then (held u) (λ v. and_then (access_place layout base offset size) (λ p. and_then (stored_state layout t p size v) (λ z. Passes (Falls z)))))) ≡ Some fault
+      access_fails t o u v fault h1 h2 = grind (arith)
 
       set_seen : (fault : WalkFault) (new : Known) → StoredOf layout (put_at size value (place_behind layout (reg_of old dst) offset (size_bytes size))) (Err fault) old new → Sees layout old write_at fault
-      set_seen fault new h = by (reg_of old dst) refl h where
-        by : (k : Kind) → reg_of old dst ≡ k → StoredOf layout (put_at size value (place_behind layout k offset (size_bytes size))) (Err fault) old new → Sees layout old write_at fault
-        by kind.Unset e h =
-            let x = of_err layout size UnsetRegister value (Err fault) old new set h in
-            let same : UnsetRegister ≡ fault = cc in
-            record { state = changed s dst None s.stack; fits = unset_there dst e; fails = rw (there dst None) (ap Some same) }
-        by (kind.Number a) e h =
-            let x = of_err layout size PointerMisuse value (Err fault) old new set h in
-            let same : PointerMisuse ≡ fault = cc in
-            let n = is_number dst a e in
-            let v = value_there s f in
-            record { state = s; fits = f; fails = rw (n.1, v.1) (ap Some same) }
-        by (kind.Record span) e h = store_pointer region.Record span fault new e h
-        by (kind.Stack span) e h = store_pointer region.Stack span fault new e h
+      set_seen fault new h = by (place_behind layout (reg_of old dst) offset (size_bytes size)) (accesses dst offset size) h where
+        by : (p : Result Place WalkFault) → Accesses dst offset size p → StoredOf layout (put_at size value p) (Err fault) old new → Sees layout old write_at fault
+        by p (Misses wrong x) h =
+            let same = of_err layout size wrong value (Err fault) old new set h in
+            let v = value_there x.state x.fits in
+            let is : wrong ≡ fault = cc in
+            record { state = x.state; fits = x.fits; fails = access_fails x.state (value_of x.state.registers dst) (operand_value x.state operand) v.0 fault v.1 (x.fails ∙ ap Some is) }
+        by p (Hits g span t e ends) h = store_inside g span t fault new e ends (is_span_writable layout g t (size_bytes size)) refl (of_ok layout size (record { region = g; span = t }) value (Err fault) old new set h)
 
   value_unset : (size : Size) (dst : RegNo) (offset : ℤ) (operand : Operand) (value : Kind) → IsOperand old operand value → value ≡ kind.Unset → Sees layout old (write_at size dst offset operand) UnsetRegister
   value_unset size dst offset (Reg src) value is e = record {
@@ -358,8 +310,8 @@ module _ (layout : Layout) (old : Known) (s : State) (f : StateFits (AllOf false
           record { state = changed s dst None s.stack; fits = unset_there dst q; fails = rw (there dst None) (ap Some same) }
       by (inr set) (inl r) = let same = right_named (reg_of old dst) right r e in rw (← same) (unset_operand operand right is r)
       by (inr set) (inr other) =
-          let v = set_holds false (reg_of old dst) (value_of s.registers dst) set (reg_fits (AllOf false) layout old s dst f) in
-          let u = set_holds false right (operand_value s operand) other (operand_fits (AllOf false) layout old s operand right f is) in
+          let v = set_holds false (reg_of old dst) (value_of s.registers dst) set (reg_fits InStates layout old s dst f) in
+          let u = set_holds false right (operand_value s operand) other (operand_fits InStates layout old s operand right f is) in
           record { state = s; fits = f; fails = rw (v.1, u.1) (both_named false (reg_of old dst) right v.0 u.0 fault v.2 u.2 e) }
 
 -- ==== operations, and each row
@@ -387,37 +339,15 @@ moved_range : (fault : WalkFault) (g : Region) (o : Option Span) → fault ≢ P
 moved_range fault g o h1 h2 = grind (arith)
 
 -- two pointers are not added, and none is taken from anything
-sum_both : (layout : Layout) (a b : Kind) (v u : Value) (fault : WalkFault) → fault ≢ PointerRange → ValueFits false a v → ValueFits false b u → IsRegMove Up layout a b (Err fault)
-    → failed (operation_result layout W64 Add (Some v) (Some u)) ≡ Some fault
-sum_both layout kind.Unset b v u fault range x y h = absurd x
-sum_both layout a kind.Unset v u fault range x y h = absurd y
-sum_both layout (kind.Number a) (kind.Number b) v u fault range x y h = let e = h.1 in absurd cc
-sum_both layout (kind.Number a) (kind.Record b) v u fault range x y h = absurd (moved_range fault region.Record _ range h.result)
-sum_both layout (kind.Number a) (kind.Stack b) v u fault range x y h = absurd (moved_range fault region.Stack _ range h.result)
-sum_both layout (kind.Record a) (kind.Number b) v u fault range x y h = absurd (moved_range fault region.Record _ range h.result)
-sum_both layout (kind.Stack a) (kind.Number b) v u fault range x y h = absurd (moved_range fault region.Stack _ range h.result)
-sum_both layout a b (Number n) u fault range x y h = absurd x
-sum_both layout a b (Address p) (Number n) fault range x y h = absurd y
-sum_both layout a b (Address p) (Address q) fault range x y h = let same : PointerMisuse ≡ fault = cc in ap Some same
-
-taken_pointer : (layout : Layout) (v : Value) (q : Pointer) → defined_result layout W64 Sub v (Address q) ≡ None
-taken_pointer layout v q = grind (arith)
-
-difference_both : (layout : Layout) (a b : Kind) (v u : Value) (fault : WalkFault) → fault ≢ PointerRange → ValueFits false a v → ValueFits false b u → IsRegMove Down layout a b (Err fault)
-    → failed (operation_result layout W64 Sub (Some v) (Some u)) ≡ Some fault
-difference_both layout kind.Unset b v u fault range x y h = absurd x
-difference_both layout a kind.Unset v u fault range x y h = absurd y
-difference_both layout (kind.Number a) (kind.Number b) v u fault range x y h = let e = h.1 in absurd cc
-difference_both layout (kind.Record a) (kind.Number b) v u fault range x y h = absurd (moved_range fault region.Record _ range h.result)
-difference_both layout (kind.Stack a) (kind.Number b) v u fault range x y h = absurd (moved_range fault region.Stack _ range h.result)
-difference_both layout a b v (Number m) fault range x y h = absurd y
-difference_both layout a b v (Address q) fault range x y h = let same : PointerMisuse ≡ fault = cc in rw taken_pointer (ap Some same)
+moved_both : (layout : Layout) (way : Direction) (a b : Kind) (v u : Value) (fault : WalkFault) → fault ≢ PointerRange → ValueFits false a v → ValueFits false b u → IsRegMove way layout a b (Err fault)
+    → failed (operation_result layout W64 (move_of way) (Some v) (Some u)) ≡ Some fault
+moved_both layout way a b v u fault range x y h = let moved = λ (g : Region) (o : Option Span). moved_range fault g o range in grind (arith, moved)
 
 both_set : (layout : Layout) (w : Width) (op : BinOp) (a b : Kind) (v u : Value) (fault : WalkFault) → op ≢ Mov → fault ≢ PointerRange → ValueFits false a v → ValueFits false b u → IsKindResult layout w op a b (Err fault)
     → failed (operation_result layout w op (Some v) (Some u)) ≡ Some fault
 both_set layout w Mov a b v u fault other range x y h = absurd (other refl)
-both_set layout W64 Add a b v u fault other range x y h = sum_both layout a b v u fault range x y h
-both_set layout W64 Sub a b v u fault other range x y h = difference_both layout a b v u fault range x y h
+both_set layout W64 Add a b v u fault other range x y h = moved_both layout Up a b v u fault range x y h
+both_set layout W64 Sub a b v u fault other range x y h = moved_both layout Down a b v u fault range x y h
 both_set layout W32 op a b v u fault other range x y h = computed_both layout W32 op a b v u fault other x y h
 both_set layout W64 op a b v u fault other range x y h = computed_both layout W64 op a b v u fault other x y h
 
@@ -434,7 +364,7 @@ mov_or_not op = grind (arith)
 unset_right : (layout : Layout) (w : Width) (op : BinOp) (o : Option Value) → failed (operation_result layout w op o None) ≡ Some UnsetRegister
 unset_right layout w op o = grind (arith)
 
-module _ (layout : Layout) (old : Known) (s : State) (f : StateFits (AllOf false) layout old s) (w : Width) (op : BinOp) (dst : RegNo) where
+module _ (layout : Layout) (old : Known) (s : State) (f : StateFits InStates layout old s) (w : Width) (op : BinOp) (dst : RegNo) where
   abbrev operate_at : Operand → State → Tested Value
   operate_at operand t = given_by layout (Operate w op dst operand) t
 
@@ -445,14 +375,14 @@ module _ (layout : Layout) (old : Known) (s : State) (f : StateFits (AllOf false
   operate_seen : (operand : Operand) (fault : WalkFault) → fault ≢ PointerRange → Gives layout old (Operate w op dst operand) (Err fault) → Sees layout old (operate_at operand) fault
   operate_seen operand fault range h = by (unset_or_not h.0) where
     value : h.0 ≢ kind.Unset → (u : Value) × (operand_value s operand ≡ Some u) × ValueFits false h.0 u
-    value set = set_holds false h.0 (operand_value s operand) set (operand_fits (AllOf false) layout old s operand h.0 f h.1)
+    value set = set_holds false h.0 (operand_value s operand) set (operand_fits InStates layout old s operand h.0 f h.1)
 
     other_left : h.0 ≢ kind.Unset → op ≢ Mov → (reg_of old dst ≡ kind.Unset) ⊎ (reg_of old dst ≢ kind.Unset) → Sees layout old (operate_at operand) fault
     other_left set other (inl e) =
         let same = left_named layout w op h.0 fault other (rw e at h.2) in
         record { state = changed s dst None s.stack; fits = unset_there layout old s f dst e; fails = rw (left_is op (changed s dst None s.stack) dst other, there layout old s f dst None) (ap Some same) }
     other_left set other (inr left) =
-        let v = set_holds false (reg_of old dst) (value_of s.registers dst) left (reg_fits (AllOf false) layout old s dst f) in
+        let v = set_holds false (reg_of old dst) (value_of s.registers dst) left (reg_fits InStates layout old s dst f) in
         let u = value set in
         record { state = s; fits = f; fails = rw (left_is op s dst other, v.1, u.1) (both_set layout w op (reg_of old dst) h.0 v.0 u.0 fault other range v.2 u.2 h.2) }
 
@@ -471,7 +401,7 @@ module _ (layout : Layout) (old : Known) (s : State) (f : StateFits (AllOf false
 flow_refused : {A : Type 0} (x : Result A WalkFault) (flow : Flow) (fault : WalkFault) → Err fault ≡ flow_where x flow → x ≡ Err fault
 flow_refused x flow fault h1 = grind (arith)
 
-module _ (layout : Layout) (old new : Known) (fault : WalkFault) (s : State) (f : StateFits (AllOf false) layout old s) where
+module _ (layout : Layout) (old new : Known) (fault : WalkFault) (s : State) (f : StateFits InStates layout old s) where
   received : (action : Action) (dst : RegNo) → ((t : State) → action_outcome layout action t ≡ and_then (given_by layout action t) (put t dst)) → Sees layout old (given_by layout action) fault → Sees layout old (action_outcome layout action) fault
   received action dst puts x = sees_then layout old (given_by layout action) (action_outcome layout action) (λ t. put t dst) fault puts x
 

@@ -1,6 +1,6 @@
 -- What loads and stores of the stack come to in a shape of which what is unset is not looked at.
 use Rattle.std.proofs.Common.{IfErr, ◌≡◌, ◌≢◌, ◌⊎◌, ℕ, zero, suc, ◌+◌, ◌-◌, ◌*◌, ◌/◌, ◌%◌, ◌<◌, ◌≤◌, true, List, [], ◌∷◌, Option, Some, None, Result, Ok, Err, get_or, length, map, take, drop, refl, sym, ap, ◌∙◌, subst, arith, inl, inr, IfOk}
-use Rattle.verifier.proofs.Names.{option_map, length-take, length-drop, length-map, cases_lt, eqb-true, Size}
+use Rattle.verifier.proofs.Names.{option_map, length-take, length-drop, length-map, eqb-true, Size}
 use Rattle.verifier.proofs.Names.{Eight, Pointer, Value, Number, Address, Cell, WalkFault, size_bytes, State, at, low_bytes, may_hold}
 use Rattle.verifier.proofs.Names.{number_spelled, parts_of, value_in, with_value, written, length-low_bytes, Kind, Span, SpanFits, ValueFits, Mark}
 use Rattle.verifier.proofs.Names.{Block, Stack, block_at, block_mark, mark_at, value_mark, AreStored, HoldsWhole, IsNumberRead, IsLoadFault, IsStored, IsStoredWhole, IsTouched, IsWholePlace, touched}
@@ -10,7 +10,9 @@ use Rattle.verifier.proofs.Names.{held}
 use Rattle.insn.specs.declared.state.Region.TheVariants.{Stack as InStack}
 use Rattle.insn.specs.PointerLaws.{parts_only}
 use Rattle.insn.specs.MemoryLaws.{length-written}
-use Rattle.stack_state.proofs.Written.{part_item, written_at, written_else}
+use Rattle.stack_state.proofs.Loads.{only_eight}
+use Rattle.stack_state.proofs.Spelled.{low_byte}
+use Rattle.stack_state.proofs.Written.{part_item, written_else, written_in}
 use Rattle.verifier.proofs.States.{IsByteCell, size_some}
 use Rattle.insn.specs.declared.state.Cell.TheVariants as cell
 use Rattle.insn.specs.declared.verify_fault.WalkFault.TheVariants as fault
@@ -20,16 +22,11 @@ use Rattle.stack_state.specs.declared.block.Block.TheVariants as block
 -- ---- places
 
 -- a place lies among n from another on, or elsewhere
-data Where (at n k : ℕ) : Type 0 where
-  There : (j : ℕ) → k ≡ at + j → j < n → Where at n k
-  Else : (k < at) ⊎ (at + n ≤ k) → Where at n k
+abbrev Where : ℕ → ℕ → ℕ → Type 0
+Where at n k = ((at ≤ k) × (k < at + n)) ⊎ ((k < at) ⊎ (at + n ≤ k))
 
 where_is : (at n k : ℕ) → Where at n k
-where_is at n k =
-    elim (cases_lt k at) [
-      | inl lt ↦ Else (inl lt)
-      | inr le ↦ elim (cases_lt k (at + n)) [ inl lt ↦ There (k - at) (omega arith) (omega arith) | inr ge ↦ Else (inr ge) ]
-    ]
+where_is at n k = grind arith
 
 -- ---- loads
 
@@ -55,9 +52,6 @@ pub record IsShown (r : Result Kind WalkFault) (v : Value) : Type 0 where
 
 number_marked : (value : Kind) (n : ℕ) → value_mark value ≡ mark.Byte → ValueFits true value (Number n)
 number_marked value n h1 = grind (arith)
-
-eight_bytes : (size : Size) → size_bytes size ≡ 8 → size ≡ Eight
-eight_bytes size e = grind arith
 
 parts_item : (p : Pointer) (j : ℕ) → j < 8 → get_or (parts_of p) j cell.Unset ≡ cell.Part p j
 parts_item p j h1 = grind (arith)
@@ -99,7 +93,7 @@ module _ (stack : Stack) (cells : List Cell) (span : Span) (size : Size) (at : �
       let same : 8 * (at / 8) ≡ at = omega arith in
       let w : IsWholePointer stack (at / 8) p = shows.whole (at / 8) p (omega arith) (λ j lt. ap (λ (i : ℕ). get_or cells (i + j) cell.Unset) same ∙ item j lt ∙ parts_item p j lt) in
       let there : HoldsWhole stack span size w.value = record {
-        place = record { certain = omega arith; aligned = omega arith; eight = eight_bytes size eight };
+        place = record { certain = omega arith; aligned = omega arith; eight = only_eight size eight };
         held = ap (λ (i : ℕ). block_at stack (i / 8)) least ∙ w.held;
       } in
       record { value = w.value; is = whole w.value there; fits = w.fits }
@@ -116,24 +110,19 @@ shows_load stack cells span size at (Address p) r shows place inside e err whole
 single : (span : Span) (at : ℕ) (m : Mark) → SpanFits true span at → touched span m ≡ mark.Byte
 single span at m h1 = grind (arith)
 
-byte_item : (bs : List ℕ) (j : ℕ) → j < length bs → IsByteCell (get_or (map cell.Byte bs) j cell.Unset)
-byte_item [] j lt = absurd (omega arith)
-byte_item (b ∷ bs) zero lt = record { n = b; is = refl }
-byte_item (b ∷ bs) (suc j) lt = byte_item bs j (omega arith)
-
 -- a number's bytes, or a pointer's parts, written over the cells of a shape
 module _ (old new : Stack) (cells ys : List Cell) (span : Span) (size : Size) (value : Kind) (at : ℕ) (shows : StackShows old cells) (place : SpanFits true span at) (many : length ys ≡ size_bytes size) (inside : at + size_bytes size ≤ 512) where
   room : at + length ys ≤ length cells
   room = let l = shows.long in omega arith
 
-  new_there : (j : ℕ) → j < size_bytes size → get_or (written cells at ys) (at + j) cell.Unset ≡ get_or ys j cell.Unset
-  new_there j lt = written_at cells ys at j cell.Unset (omega arith) (let r = room in omega arith)
+  new_there : (k : ℕ) → at ≤ k → k < at + size_bytes size → get_or (written cells at ys) k cell.Unset ≡ get_or ys (k - at) cell.Unset
+  new_there k ge lt = written_in cells ys at k cell.Unset ge (omega arith) (let r = room in omega arith)
 
   new_else : (k : ℕ) → (k < at) ⊎ (at + size_bytes size ≤ k) → get_or (written cells at ys) k cell.Unset ≡ get_or cells k cell.Unset
   new_else k out = written_else cells ys at k cell.Unset (rw many out) room
 
-  is_touched : (j : ℕ) → j < size_bytes size → IsTouched span size (at + j)
-  is_touched j lt = let l : span.least ≡ at = place.0 in let g : span.greatest ≡ at = place.1 in record { least = omega arith; greatest = omega arith }
+  is_touched : (k : ℕ) → at ≤ k → k < at + size_bytes size → IsTouched span size k
+  is_touched k ge lt = let l : span.least ≡ at = place.0 in let g : span.greatest ≡ at = place.1 in record { least = omega arith; greatest = omega arith }
 
   not_touched : (k : ℕ) → (k < at) ⊎ (at + size_bytes size ≤ k) → ¬ IsTouched span size k
   not_touched k h1 = grind (arith)
@@ -143,55 +132,37 @@ module _ (old new : Stack) (cells ys : List Cell) (span : Span) (size : Size) (v
     part_else : (k j : ℕ) (p : Pointer) → get_or (written cells at ys) k cell.Unset ≡ cell.Part p j → (k < at) ⊎ (at + size_bytes size ≤ k)
     part_else k j p e = by (where_is at (size_bytes size) k) where
       by : Where at (size_bytes size) k → (k < at) ⊎ (at + size_bytes size ≤ k)
-      by (Else out) = out
-      by (There i q lt) =
-          let b = byte i lt in
-          let here : get_or (written cells at ys) k cell.Unset ≡ cell.Byte b.n = ap (λ (x : ℕ). get_or (written cells at ys) x cell.Unset) q ∙ new_there i lt ∙ b.is in absurd (let both : cell.Byte b.n ≡ cell.Part p j = sym here ∙ e in cc)
+      by (inr out) = out
+      by (inl (ge, lt)) =
+          let b = byte (k - at) (omega arith) in
+          let here : get_or (written cells at ys) k cell.Unset ≡ cell.Byte b.n = new_there k ge lt ∙ b.is in absurd (let both : cell.Byte b.n ≡ cell.Part p j = sym here ∙ e in cc)
 
     part_was : (k j : ℕ) (p : Pointer) → get_or (written cells at ys) k cell.Unset ≡ cell.Part p j → get_or cells k cell.Unset ≡ cell.Part p j
     part_was k j p e = sym (new_else k (part_else k j p e)) ∙ e
 
-    bytes_shown : AreStored span size value old new → StackShows new (written cells at ys)
-    bytes_shown stored = record {
+    bytes_shown : ((k : ℕ) → IsTouched span size k → mark_at new k ≡ mark.Byte) → ((k : ℕ) → k < 512 → ¬ IsTouched span size k → mark_at new k ≡ mark_at old k)
+        → ((b : ℕ) → ((j : ℕ) → j < 8 → ¬ IsTouched span size (8 * b + j)) → block_at new b ≡ block_at old b) → StackShows new (written cells at ys)
+    bytes_shown there others blocks = record {
       long = length-written cells ys at room ∙ shows.long;
       bytes = λ k n lt e. known k n lt e (where_is at (size_bytes size) k);
       parts = λ k j p lt e. shows.parts k j p lt (part_was k j p e);
       whole = λ b p lt all.
           let w = shows.whole b p lt (λ j less. part_was (8 * b + j) j p (all j less)) in
-          record { value = w.value; held = stored.blocks b (λ j less. not_touched (8 * b + j) (part_else (8 * b + j) j p (all j less))) ∙ w.held; fits = w.fits };
+          record { value = w.value; held = blocks b (λ j less. not_touched (8 * b + j) (part_else (8 * b + j) j p (all j less))) ∙ w.held; fits = w.fits };
     } where
       known : (k n : ℕ) → k < 512 → get_or (written cells at ys) k cell.Unset ≡ cell.Byte n → Where at (size_bytes size) k → mark_at new k ≡ mark.Byte
-      known k n lt e (There i q less) = stored.there k (rw q (is_touched i less)) ∙ single span at (mark_at old k) place
-      known k n lt e (Else out) = stored.others k lt (not_touched k out) ∙ shows.bytes k n lt (sym (new_else k out) ∙ e)
+      known k n lt e (inl (ge, less)) = there k (is_touched k ge less)
+      known k n lt e (inr out) = others k lt (not_touched k out) ∙ shows.bytes k n lt (sym (new_else k out) ∙ e)
 
     number_shown_whole : IsWholePlace span size → IsStoredWhole span.least value old new → value_mark value ≡ mark.Byte → StackShows new (written cells at ys)
-    number_shown_whole whole stored is = record {
-      long = length-written cells ys at room ∙ shows.long;
-      bytes = λ k n lt e. known k n lt e (where_is at (size_bytes size) k);
-      parts = λ k j p lt e. shows.parts k j p lt (part_was k j p e);
-      whole = λ b p lt all.
-          let w = shows.whole b p lt (λ j less. part_was (8 * b + j) j p (all j less)) in
-          record { value = w.value; held = stored.others b (λ q. by_first b q (part_else (8 * b + 0) 0 p (all 0 (omega arith)))) ∙ w.held; fits = w.fits };
-    } where
-      least : span.least ≡ at
-      least = place.0
-
-      eight : size_bytes size ≡ 8
-      eight = ap size_bytes whole.eight
-
-      by_first : (b : ℕ) → b ≡ span.least / 8 → (8 * b + 0 < at) ⊎ (at + size_bytes size ≤ 8 * b + 0) → ⊥
-      by_first b q (inl lt) = let l = least in let a = whole.aligned in omega arith
-      by_first b q (inr ge) = let l = least in let a = whole.aligned in let e = eight in omega arith
-
-      elsewhere : (k : ℕ) → (k < at) ⊎ (at + size_bytes size ≤ k) → k / 8 ≢ span.least / 8
-      elsewhere k (inl lt) q = let l = least in let a = whole.aligned in omega arith
-      elsewhere k (inr ge) q = let l = least in let a = whole.aligned in let e = eight in omega arith
-
-      known : (k n : ℕ) → k < 512 → get_or (written cells at ys) k cell.Unset ≡ cell.Byte n → Where at (size_bytes size) k → mark_at new k ≡ mark.Byte
-      known k n lt e (There i q less) =
-          let same : k / 8 ≡ span.least / 8 = let l = least in let a = whole.aligned in let g = eight in omega arith in
-          ap (λ (b : Block). block_mark b (k % 8)) (ap (block_at new) same ∙ stored.there) ∙ is
-      known k n lt e (Else out) = ap (λ (b : Block). block_mark b (k % 8)) (stored.others (k / 8) (elsewhere k out)) ∙ shows.bytes k n lt (sym (new_else k out) ∙ e)
+    number_shown_whole whole stored is =
+        let certain = whole.certain in
+        let aligned = whole.aligned in
+        let eight : size_bytes size ≡ 8 = ap size_bytes whole.eight in
+        bytes_shown
+        (λ k t. let l = t.least in let g = t.greatest in let same : k / 8 ≡ span.least / 8 = omega arith in ap (λ (b : Block). block_mark b (k % 8)) (ap (block_at new) same ∙ stored.there) ∙ is)
+        (λ k lt miss. ap (λ (b : Block). block_mark b (k % 8)) (stored.others (k / 8) (λ q. miss (record { least = omega arith; greatest = omega arith }))))
+        (λ b miss. stored.others b (λ q. miss 0 (omega arith) (record { least = omega arith; greatest = omega arith })))
 
 -- a pointer is stored whole
 module _ (old new : Stack) (cells : List Cell) (span : Span) (value : Kind) (at : ℕ) (q : Pointer) (shows : StackShows old cells) (place : SpanFits true span at) (inside : at + 8 ≤ 512) (aligned : at % 8 ≡ 0) (fits : ValueFits true value (Address q)) (stored : IsStoredWhole span.least value old new) where
@@ -199,12 +170,12 @@ module _ (old new : Stack) (cells : List Cell) (span : Span) (value : Kind) (at 
   after = written cells at (parts_of q)
 
   at_block : (k : ℕ) → Where at 8 k → (k / 8 ≡ at / 8) × (get_or after k cell.Unset ≡ cell.Part q (k % 8)) ⊎ (k / 8 ≢ at / 8) × (get_or after k cell.Unset ≡ get_or cells k cell.Unset)
-  at_block k (There j e lt) =
+  at_block k (inl (ge, lt)) =
       let l = shows.long in
-      let r : k % 8 ≡ j = omega arith in
-      inl (omega arith, ap (λ (i : ℕ). get_or after i cell.Unset) e ∙ written_at cells (parts_of q) at j cell.Unset lt (omega arith) ∙ parts_item q j lt ∙ ap (cell.Part q) (sym r))
-  at_block k (Else (inl lt)) = let l = shows.long in inr (λ e. omega arith, written_else cells (parts_of q) at k cell.Unset (inl lt) (omega arith))
-  at_block k (Else (inr ge)) = let l = shows.long in inr (λ e. omega arith, written_else cells (parts_of q) at k cell.Unset (inr ge) (omega arith))
+      let r : k % 8 ≡ k - at = omega arith in
+      inl (omega arith, written_in cells (parts_of q) at k cell.Unset ge lt (omega arith) ∙ parts_item q (k - at) (omega arith) ∙ ap (cell.Part q) (sym r))
+  at_block k (inr (inl lt)) = let l = shows.long in inr (λ e. omega arith, written_else cells (parts_of q) at k cell.Unset (inl lt) (omega arith))
+  at_block k (inr (inr ge)) = let l = shows.long in inr (λ e. omega arith, written_else cells (parts_of q) at k cell.Unset (inr ge) (omega arith))
 
   there : block_at new (at / 8) ≡ block.Whole value
   there = ap (λ (i : ℕ). block_at new (i / 8)) (sym place.0) ∙ stored.there
@@ -263,11 +234,11 @@ shows_store old new s span size value at (Number n) (Ok done) shows place inside
       all = length-map (low_bytes (size_bytes size) n) cell.Byte ∙ many
 
       byte : (j : ℕ) → j < size_bytes size → IsByteCell (get_or (map cell.Byte (low_bytes (size_bytes size) n)) j cell.Unset)
-      byte j lt = byte_item (low_bytes (size_bytes size) n) j (let m = many in omega arith)
+      byte j lt = let b = low_byte (size_bytes size) n j lt in record { n = b.0; is = b.1 }
 
       by : (IsWholePlace span size × IsStoredWhole span.least value old new) ⊎ (¬ IsWholePlace span size × value_mark value ≡ mark.Byte × AreStored span size value old new) → StackShows new (written s.stack at (map cell.Byte (low_bytes (size_bytes size) n)))
       by (inl w) = number_shown_whole old new s.stack (map cell.Byte (low_bytes (size_bytes size) n)) span size value at shows place all inside byte w.0 w.1 (value_byte value n fits)
-      by (inr w) = bytes_shown old new s.stack (map cell.Byte (low_bytes (size_bytes size) n)) span size value at shows place all inside byte w.2
+      by (inr w) = bytes_shown old new s.stack (map cell.Byte (low_bytes (size_bytes size) n)) span size value at shows place all inside byte (λ k t. w.2.there k t ∙ single span at (mark_at old k) place) w.2.others w.2.blocks
 shows_store old new s span size value at (Number n) (Err fault) shows place inside fits may stored = absurd (let b = value_byte value n fits in let p = stored.2 in cc)
 shows_store old new s span size value at (Address q) (Ok done) shows place inside fits may stored =
     let h = holds_pointer at size q may in

@@ -1,21 +1,20 @@
 -- Where the ways of an instruction lead, and which programs have typings.
-use Rattle.std.proofs.Common.{◌≡◌, ◌≢◌, ℕ, zero, suc, ◌+◌, ◌<◌, ◌≤◌, pos, negsuc, Bool, true, false, List, [], ◌∷◌, Option, Some, None, length, refl, sym, ◌∙◌, arith, inl, inr, ◌-◌, ℤ, ap, subst, get_or, ◌*◌, Result, Ok, Err, replicate, ◌⊎◌, ◌++◌, map}
-use Rattle.verifier.proofs.Names.{slice_get, nat_lt, cases_lt, cases_eq, option_map, option_or, filter_map, cons_option, get_or-map, length-drop}
+use Rattle.std.proofs.Common.{◌≡◌, ℕ, zero, suc, ◌+◌, ◌<◌, ◌≤◌, pos, negsuc, Bool, true, false, List, [], ◌∷◌, Option, Some, None, length, refl, sym, ◌∙◌, arith, inl, inr, ◌-◌, ℤ, ap, subst, get_or, Ok, Err, replicate, ◌++◌, map}
+use Rattle.verifier.proofs.Names.{slice_get, nat_lt, cases_lt, cases_eq, option_map, option_or, filter_map, cons_option, length-drop}
 use Rattle.verifier.proofs.Names.{Contains-append_cases, Contains-append_left, Contains-append_right, Insn, Layout, effect, fault_at, slots_of, begins_at, places, slot_count, slots_of_bounds}
-use Rattle.verifier.proofs.Names.{length-places, nothing_inside, ◌>>=◌, Config, start, State, STACK_SIZE, entry, record_size, Effect, Falls, Jumps, Reaches, lead, step, steps}
+use Rattle.verifier.proofs.Names.{length-places, nothing_inside, ◌>>=◌, Config, start, State, entry, record_size, Effect, Falls, Jumps, Reaches, lead, step, steps}
 use Rattle.verifier.proofs.Names.{look_fault_at, look_verdict, distance_fault, distance_of, jump_fault, look_fault, write_fault, written_by, first_found, StandsAt, begins_along, begins_here}
-use Rattle.verifier.proofs.Names.{stands_behind, effects, shape_config, ways, shape_of, blank_cell, OnWay, Uniform, ways_from, WritesNoR10, FlowOf, FlowTo, IsJoined, goes_behind, IsEntry, Known}
-use Rattle.verifier.proofs.Names.{Test, Flow, Next, Jump, IsLearnt, KeepsAnswered, IsAdded, IsPushed, IsSettled, IsTestSettled, MayPush, IsRefusedAt, Value, WalkFault, FallsOff}
-use Rattle.verifier.proofs.Names.{Kind, RegFits, StateFits, LeavesKnown, AllOf, SetOf, RegIs, GoesTyped}
+use Rattle.verifier.proofs.Names.{stands_behind, effects, shape_config, ways, shape_of, OnWay, Uniform, ways_from, WritesNoR10, FlowOf, FlowTo, IsJoined, goes_behind, IsEntry, Known}
+use Rattle.verifier.proofs.Names.{Test, Flow, Next, Jump, IsLearnt, KeepsAnswered, IsPushed, IsSettled, IsTestSettled, MayPush, IsRefusedAt, WalkFault, FallsOff}
+use Rattle.verifier.proofs.Names.{StateFits, LeavesKnown, AsShape, WhereSet, Reading, is_exact, GoesTyped}
 use Rattle.verifier.proofs.Names.{IsTyping, MayCome, HasTyping, IsNeverStuck, IsNoMoreThan, UniformIsTyped, stuck_is_named}
-use Rattle.std.specs.Prelude.{if◌then◌else◌, ◌==◌}
+use Rattle.std.specs.Prelude.{if◌then◌else◌}
 use Rattle.std.specs.List.{Contains}
 use Rattle.insn.specs.declared.verify_fault.LookFault.{LookFault}
-use Rattle.insn.specs.declared.verify_fault.LookFault.TheVariants.{JumpIntoWide, JumpOut, WritesR10}
-use Rattle.verifier.proofs.Waits.{AddedCase, Stays, Comes, Meets, Merges, added_cases, first_or_later, has_first, has_later, has_none}
+use Rattle.insn.specs.declared.verify_fault.LookFault.TheVariants.{JumpIntoWide, JumpOut}
+use Rattle.verifier.proofs.Waits.{of_added, first_or_later, has_first, has_later, has_none}
 use Rattle.verifier.proofs.ShapeLaws.{bind_some}
-use Rattle.verifier.proofs.Linked.{chosen, not_chosen}
-use Rattle.verifier.proofs.Rows.{IsShownBy, outcome_shown}
+use Rattle.verifier.proofs.Rows.{outcome_shown, rows_sound}
 use Rattle.verifier.proofs.States.{shows_less}
 use Rattle.insn.specs.Program.{joined}
 use Rattle.verifier.specs.declared.known.Flow.TheVariants.{Branch, Exit}
@@ -99,28 +98,21 @@ target_in program behind (pos n) e = go (begins_at program (behind + n)) refl wh
   go None h = absurd (outside (nat_lt (behind + n) (slot_count program)) (rw h at e))
 
 pub jump_fine : (program : List Insn) (behind : ℕ) (o : Option ℤ) (d : ℤ) (later : Option LookFault) → o ≡ Some d → option_or (distance_fault program behind o) later ≡ None → jump_fault program behind d ≡ None
-jump_fine program behind o d later e h = first (jump_fault program behind d) (rw e at h) where
-  first : (x : Option LookFault) → option_or x later ≡ None → x ≡ None
-  first None q = refl
-  first (Some f) q = absurd cc
+jump_fine program behind o d later e h = grind (arith)
 
 -- a jump leads to a later instruction
 pub looks_jump : (program : List Insn) (behind : ℕ) (i : Insn) (d : ℤ) → look_fault program behind i ≡ None → distance_of i ≡ Some d → Target program behind d
 looks_jump program behind i d fine e = target_in program behind d (jump_fine program behind (distance_of i) d (write_fault (written_by i)) e fine)
 
 pub none_first : (slot : ℕ) (o : Option LookFault) (later : Option (LookFault × ℕ)) → option_or (option_map (λ x. (x, slot)) o) later ≡ None → (o ≡ None) × (later ≡ None)
-none_first slot None later e = (refl, e)
-none_first slot (Some fault) later e = absurd cc
+none_first slot o later e = grind (arith)
 
 pub none_verdict : (o : Option (LookFault × ℕ)) → option_map (λ f. look_fault_at f.0 f.1) o ≡ None → o ≡ None
 none_verdict o h1 = grind (arith)
 
 -- an instruction in which the first look finds nothing doesn't write R10
 pub writes_low : (program : List Insn) (behind : ℕ) (i : Insn) → look_fault program behind i ≡ None → WritesNoR10 i
-writes_low program behind i e r10 = absurd (let w : write_fault (written_by i) ≡ None = second (distance_fault program behind (distance_of i)) (write_fault (written_by i)) e in let f : Some WritesR10 ≡ None = rw r10 at w in cc) where
-  second : (x y : Option LookFault) → option_or x y ≡ None → y ≡ None
-  second None y q = q
-  second (Some f) y q = absurd cc
+writes_low program behind i e r10 = grind (arith)
 
 -- ==== what is true of all that waits
 
@@ -179,18 +171,10 @@ module _ (Q : ℕ → Known → Type 0) (meets : (k : ℕ) (a b c : Known) → I
   abbrev pub AllWait : ℕ → List (List Known) → Type 0
   AllWait from w = (k : ℕ) (a : Known) → from ≤ k → Contains (get_or w k []) a → Q k a
 
-  added : (k : ℕ) (old now : List Known) (a b : Known) → ((c : Known) → Contains old c → Q k c) → Q k a → IsAdded old a now → Contains now b → Q k b
-  added k old now a b was new step there = by (added_cases old now a b step there) where
-    by : AddedCase old a b → Q k b
-    by (Stays h) = was b h
-    by (Comes e) = rw (← e) new
-    by (Meets one h j) = meets k one a b j (was one h) new
-    by (Merges one other h i j) = meets k one other b j (was one h) (was other i)
-
   pushed : (w w' : List (List Known)) (from to : ℕ) (a : Known) → from ≤ to → IsPushed w to a w' → Q to a → AllWait from w → AllWait from w'
   pushed w w' from to a le p new old k x lek h =
       elim (cases_eq k to) [
-        | inl q ↦ let there : Contains (get_or w' to []) x = rw q at h in rw q (added to (get_or w to []) (get_or w' to []) a x (λ c. old to c le) new p.here there)
+        | inl q ↦ let there : Contains (get_or w' to []) x = rw q at h in rw q (of_added (Q to) (meets to) (get_or w to []) (get_or w' to []) a (λ c. old to c le) new p.here x there)
         | inr ne ↦ old k x lek (rw (p.others k ne) at h)
       ]
 
@@ -214,129 +198,105 @@ module _ (Q : ℕ → Known → Type 0) (meets : (k : ℕ) (a b c : Known) → I
 
 -- ==== programs with a typing
 
--- ---- the entry
+-- ---- what is followed
 
-reg_shows : (r : Kind) (o : Option Value) → RegFits true r o → RegIs SetOf r o
-reg_shows r o h1 = grind (arith)
+-- the shapes on the ways of a uniform program, or those of a typing
+pub data Followed (layout : Layout) (program : List Insn) : Type 0 where
+  OnWays : Uniform layout program → Followed layout program
+  Typed : (typing : List Config) → IsTyping layout program typing → Followed layout program
 
-pub unset_cell : (n k : ℕ) → get_or (replicate n cell.Unset) k cell.Unset ≡ cell.Unset
-unset_cell zero k = refl
-unset_cell (suc n) zero = refl
-unset_cell (suc n) (suc k) = unset_cell n k
+module _ (layout : Layout) (program : List Insn) where
+  -- how what is known is read of them
+  abbrev pub read_as : Followed layout program → Reading
+  read_as (OnWays u) = AsShape
+  read_as (Typed typing t) = WhereSet
 
-abbrev entry_shape : Layout → State
-entry_shape layout = shape_of (entry (replicate (record_size layout) 0))
+  abbrev pub IsAmong : Followed layout program → Config → Type 0
+  IsAmong (OnWays u) c = (n : ℕ) × OnWay layout program n c
+  IsAmong (Typed typing t) c = Contains typing c
 
-entry_cell : (layout : Layout) (k : ℕ) → get_or (entry_shape layout).stack k cell.Unset ≡ cell.Unset
-entry_cell layout k = get_or-map blank_cell (entry (replicate (record_size layout) 0)).stack k cell.Unset ∙ ap blank_cell (unset_cell STACK_SIZE k)
+  -- what is known at a slot is known of the shape there
+  pub record IsShownAt (f : Followed layout program) (k : ℕ) (a : Known) : Type 0 where
+    pub shape : Config
+    pub among : IsAmong f shape
+    pub place : shape.slot ≡ k
+    pub fits : StateFits (read_as f) layout a shape.state
 
--- what is known at entry shows the entry's shape
-entry_shows : (layout : Layout) (first : Known) → IsEntry first → StateFits SetOf layout first (entry_shape layout)
-entry_shows layout first is =
-    let f : StateFits (AllOf true) layout first (entry_shape layout) = is.shape layout in
-    record {
-      long = f.long;
-      record_fits = f.record_fits;
-      registers = λ k lt. reg_shows (get_or first.registers k kind.Unset) (get_or (entry_shape layout).registers k None) (f.registers k lt);
-      stack = record {
-        long = f.stack.long;
-        bytes = λ k n lt e. absurd (let both : cell.Unset ≡ cell.Byte n = sym (entry_cell layout k) ∙ e in cc);
-        parts = λ k j p lt e. absurd (let both : cell.Unset ≡ cell.Part p j = sym (entry_cell layout k) ∙ e in cc);
-        whole = λ b p lt all. absurd (let both : cell.Unset ≡ cell.Part p 0 = sym (entry_cell layout (8 * b + 0)) ∙ all 0 (omega arith) in cc);
-      };
-      links = tt;
-    }
+  read_exact : (f : Followed layout program) → is_exact (read_as f) ≡ true
+  read_exact (OnWays u) = refl
+  read_exact (Typed typing t) = refl
 
--- ---- what waits
+  one_each : (f : Followed layout program) (c d : Config) → IsAmong f c → IsAmong f d → c.slot ≡ d.slot → c ≡ d
+  one_each (OnWays u) c d x y e = u.one_shape x.0 y.0 c d x.1 y.1 e
+  one_each (Typed typing t) c d x y e = t.one c d x y e
 
-module _ (layout : Layout) (typing : ℕ → Option State) where
-  -- a slot has a shape, which is shown
-  pub record IsShownAt (k : ℕ) (a : Known) : Type 0 where
-    pub shape : State
-    pub is : typing k ≡ Some shape
-    pub shows : StateFits SetOf layout a shape
+  -- what may come to a slot of a typing shows the slot's shape
+  brought : (typing : List Config) (t : IsTyping layout program typing) (k : ℕ) (a : Known) (s : State) → MayCome typing k s → StateFits WhereSet layout a s → IsShownAt (Typed typing t) k a
+  brought typing t k a s may h = record { shape = record { slot = k; state = may.shape }; among = may.is; place = refl; fits = shows_less layout a may.shape s may.below h }
 
-  -- what a way brings to a slot shows the slot's shape
-  brought : (k : ℕ) (a : Known) (s : State) → MayCome typing k s → StateFits SetOf layout a s → IsShownAt k a
-  brought k a s t h = record { shape = t.shape; is = t.is; shows = shows_less layout a t.shape s t.below h }
+  pub entry_shown : (f : Followed layout program) (first : Known) → IsEntry first → IsShownAt f 0 first
+  entry_shown (OnWays u) first is = record { shape = shape_config (start (replicate (record_size layout) 0)); among = (0, refl); place = refl; fits = is.shape AsShape refl layout }
+  entry_shown (Typed typing t) first is = brought typing t 0 first (shape_of (entry (replicate (record_size layout) 0))) t.begins (is.shape WhereSet refl layout)
 
-  -- two ways that meet at a slot
-  pub meet_shown : (k : ℕ) (a b c : Known) → IsJoined a b c → IsShownAt k a → IsShownAt k b → IsShownAt k c
-  meet_shown k a b c join x y =
-      let both : Some x.shape ≡ Some y.shape = sym x.is ∙ y.is in
-      let same : y.shape ≡ x.shape = cc in
-      record { shape = x.shape; is = x.is; shows = join.same SetOf refl layout x.shape x.shows (subst (λ (s : State). StateFits SetOf layout b s) same y.shows) }
+  -- two ways that meet at a slot, and what is learnt there
+  pub meet_shown : (f : Followed layout program) (k : ℕ) (a b c : Known) → IsJoined a b c → IsShownAt f k a → IsShownAt f k b → IsShownAt f k c
+  meet_shown f k a b c join x y =
+      let same : x.shape ≡ y.shape = one_each f x.shape y.shape x.among y.among (x.place ∙ sym y.place) in
+      let other = subst (λ (d : Config). StateFits (read_as f) layout b d.state) (sym same) y.fits in
+      record { shape = x.shape; among = x.among; place = x.place; fits = join.same (read_as f) (read_exact f) layout x.shape.state x.fits other }
 
--- the entry
-pub entry_shown : (layout : Layout) (program : List Insn) (typing : ℕ → Option State) (first : Known) → IsTyping layout program typing → IsEntry first → IsShownAt layout typing 0 first
-entry_shown layout program typing first typed is = brought layout typing 0 first (entry_shape layout) typed.begins (entry_shows layout first is)
+  pub learn_shown : (f : Followed layout program) (k : ℕ) (test : Test) (answer : Bool) (a b : Known) → KeepsAnswered test answer a b → IsShownAt f k a → IsShownAt f k b
+  learn_shown f k test answer a b keeps x = record { shape = x.shape; among = x.among; place = x.place; fits = keeps.shapes (read_as f) (read_exact f) layout x.shape.state x.fits }
 
--- ---- one instruction
+  -- ---- one instruction
 
-module _ (layout : Layout) (program : List Insn) (typing : ℕ → Option State) (typed : IsTyping layout program typing) (slot : ℕ) (i : Insn) (here : begins_at program slot ≡ Some i) (other : WritesNoR10 i) (known : Known) (mine : IsShownAt layout typing slot known) where
-  abbrev behind : ℕ
-  behind = slot + slots_of i
+  -- what follows at a shape is known
+  goes_on : (f : Followed layout program) (c : Config) (i : Insn) (known next : Known) (flow : Flow) → IsAmong f c → begins_at program c.slot ≡ Some i → WritesNoR10 i → StateFits (read_as f) layout known c.state → LeavesKnown layout i known next (Ok flow)
+      → FlowTo (StateFits (read_as f) layout) next flow (effects layout i c.state)
+  goes_on (OnWays u) c i known next flow among here other fits row = (rows_sound layout i known next (Ok flow) other row).shape c.state (u.no_moves among.0 c i among.1 here) fits
+  goes_on (Typed typing t) c i known next flow among here other fits row = let goes = t.each c i among here in outcome_shown layout known c.state fits i other goes.still goes.passes next (Ok flow) row
 
-  abbrev at : Config
-  at = record { slot = slot; state = mine.shape }
+  -- what a way brings to a slot is known of the shape there
+  brings : (f : Followed layout program) (c d : Config) (i : Insn) (a : Known) → IsAmong f c → begins_at program c.slot ≡ Some i → Contains (ways layout program c) d → StateFits (read_as f) layout a d.state → IsShownAt f d.slot a
+  brings (OnWays u) c d i a among here way h = record { shape = d; among = (suc among.0, (c, among.1, way)); place = refl; fits = h }
+  brings (Typed typing t) c d i a among here way h = brought typing t d.slot a d.state ((t.each c i among here).leads d way) h
 
-  goes : GoesTyped layout program typing at i
-  goes = typed.each at i mine.is here
+  module _ (f : Followed layout program) (slot : ℕ) (i : Insn) (here : begins_at program slot ≡ Some i) (other : WritesNoR10 i) (known next : Known) (flow : Flow) (row : LeavesKnown layout i known next (Ok flow)) (mine : IsShownAt f slot known) where
+    abbrev Leads : List Effect → ℕ → Type 0
+    Leads es to = LeadsTo (StateFits (read_as f) layout) program (slot + slots_of i) next es to
 
-  left : (next : Known) (r : Result Flow WalkFault) → LeavesKnown layout i known next r → IsShownBy layout next r (effects layout i mine.shape)
-  left next r row = outcome_shown layout known mine.shape mine.shows i other goes.still goes.passes next r row
+    at_shape : begins_at program mine.shape.slot ≡ Some i
+    at_shape = ap (begins_at program) mine.place ∙ here
 
-  -- a way stays inside the program, and what it brings shows the shape there
-  arrives : (next : Known) (to : ℕ) → LeadsTo (StateFits SetOf layout) program behind next (effects layout i mine.shape) to → (to < slot_count program) × IsShownAt layout typing to next
-  arrives next to l =
-      let way : Contains (ways layout program at) l.to = subst (λ (xs : List Config). Contains xs l.to) (sym (ways_are layout program slot i here at (effects layout i mine.shape) refl refl)) l.has in
-      let there : (l.to.slot < slot_count program) × IsShownAt layout typing l.to.slot next = (goes.inside l.to way, brought layout typing l.to.slot next l.to.state (goes.leads l.to way) l.holds) in
-      rw l.place at there
+    follows : FlowTo (StateFits (read_as f) layout) next flow (effects layout i mine.shape.state)
+    follows = goes_on f mine.shape i known next flow mine.among at_shape other mine.fits row
 
-  pub shown_behind : (next : Known) (flow : Flow) → LeavesKnown layout i known next (Ok flow) → goes_behind flow ≡ true → (behind < slot_count program) × IsShownAt layout typing behind next
-  shown_behind next flow row g = arrives next behind (behind_leads (StateFits SetOf layout) program behind next flow (effects layout i mine.shape) g (left next (Ok flow) row))
+    is_way : (to : ℕ) (l : Leads (effects layout i mine.shape.state) to) → Contains (ways layout program mine.shape) l.to
+    is_way to l = subst (λ (xs : List Config). Contains xs l.to) (sym (ways_are layout program slot i here mine.shape (effects layout i mine.shape.state) mine.place refl)) l.has
 
-  pub shown_ahead : (next : Known) (flow : Flow) (k : ℕ) (j : Insn) → begins_at program (behind + k) ≡ Some j → LeavesKnown layout i known next (Ok flow) → flow_distance flow ≡ Some (pos k) → IsShownAt layout typing (behind + k) next
-  shown_ahead next flow k j there row e = (arrives next (behind + k) (ahead_leads (StateFits SetOf layout) program behind next k j there flow (effects layout i mine.shape) e (left next (Ok flow) row))).1
+    shown_to : (to : ℕ) → Leads (effects layout i mine.shape.state) to → IsShownAt f to next
+    shown_to to l = rw l.place at (brings f mine.shape l.to i next mine.among at_shape (is_way to l) l.holds)
 
-  -- no instruction is refused
-  pub never_refused : (fault : WalkFault) → IsRefusedAt layout i slot known (slot_count program) fault → ⊥
-  never_refused FallsOff r = let inside = (shown_behind r.0 r.1 r.2 r.3).0 in let past = r.4 in omega arith
-  never_refused fault r = left r.0 (Err fault) r.1
+    pub way_behind : goes_behind flow ≡ true → (d : Config) × Contains (ways layout program mine.shape) d × (d.slot ≡ slot + slots_of i)
+    way_behind g = let l = behind_leads (StateFits (read_as f) layout) program (slot + slots_of i) next flow (effects layout i mine.shape.state) g follows in (l.to, is_way (slot + slots_of i) l, l.place)
+
+    pub shown_behind : goes_behind flow ≡ true → IsShownAt f (slot + slots_of i) next
+    shown_behind g = shown_to (slot + slots_of i) (behind_leads (StateFits (read_as f) layout) program (slot + slots_of i) next flow (effects layout i mine.shape.state) g follows)
+
+    pub shown_ahead : (k : ℕ) (j : Insn) → begins_at program (slot + slots_of i + k) ≡ Some j → flow_distance flow ≡ Some (pos k) → IsShownAt f (slot + slots_of i + k) next
+    shown_ahead k j there e = shown_to (slot + slots_of i + k) (ahead_leads (StateFits (read_as f) layout) program (slot + slots_of i) next k j there flow (effects layout i mine.shape.state) e follows)
+
+  -- no instruction of a typed program is refused
+  pub never_refused : (typing : List Config) (t : IsTyping layout program typing) (slot : ℕ) (i : Insn) → begins_at program slot ≡ Some i → WritesNoR10 i → (known : Known) → IsShownAt (Typed typing t) slot known → (fault : WalkFault) → IsRefusedAt layout i slot known (slot_count program) fault → ⊥
+  never_refused typing t slot i here other known mine fault r = by fault r where
+    goes : GoesTyped layout program typing mine.shape i
+    goes = t.each mine.shape i mine.among (ap (begins_at program) mine.place ∙ here)
+
+    by : (fault : WalkFault) → IsRefusedAt layout i slot known (slot_count program) fault → ⊥
+    by FallsOff r = let w = way_behind (Typed typing t) slot i here other known r.0 r.1 r.2 mine r.3 in let inside = goes.inside w.0 w.1 in let place = w.2 in let past = r.4 in omega arith
+    by fault r = outcome_shown layout known mine.shape.state mine.fits i other goes.still goes.passes r.0 (Err fault) r.1
 
 -- ==== uniform programs have one
-
--- ---- shapes among some
-
--- the first shape among some at a slot
-abbrev found : ℕ → List Config → Option State
-found slot [] = None
-found slot (c ∷ cs) = if c.slot == slot then Some c.state else found slot cs
-
-same_config : (c d : Config) → c.slot ≡ d.slot → c.state ≡ d.state → c ≡ d
-same_config c d p q = rw (p, q) refl
-
--- what is found is there
-found_there : (cs : List Config) (c : Config) → found c.slot cs ≡ Some c.state → Contains cs c
-found_there [] c e = absurd cc
-found_there (x ∷ cs) c e = elim (cases_eq x.slot c.slot) [
-  | inl q ↦
-      let state : Some x.state ≡ Some c.state = sym (chosen x.slot c.slot (Some x.state) (found c.slot cs) q) ∙ e in
-      let same : x ≡ c = same_config x c q cc in
-      rw same (has_first c cs)
-  | inr ne ↦ has_later x c cs (found_there cs c (sym (not_chosen x.slot c.slot (Some x.state) (found c.slot cs) ne) ∙ e))
-]
-
--- and what is there alone at its slot is found
-found_alone : (cs : List Config) (c : Config) → Contains cs c → ((d : Config) → Contains cs d → d.slot ≡ c.slot → d ≡ c) → found c.slot cs ≡ Some c.state
-found_alone [] c h alone = absurd (has_none c h)
-found_alone (x ∷ cs) c h alone = elim (cases_eq x.slot c.slot) [
-  | inl q ↦ chosen x.slot c.slot (Some x.state) (found c.slot cs) q ∙ ap (λ (d : Config). Some d.state) (alone x (has_first x cs) q)
-  | inr ne ↦ not_chosen x.slot c.slot (Some x.state) (found c.slot cs) ne ∙ found_alone cs c (later (first_or_later x c cs h) ne) (λ d g. alone d (has_later x d cs g))
-] where
-  later : (x ≡ c) ⊎ Contains cs c → x.slot ≢ c.slot → Contains cs c
-  later (inl e) ne = absurd (ne (ap (λ (d : Config). d.slot) e))
-  later (inr h) ne = h
 
 no_more : (s : State) → IsNoMoreThan s s
 no_more s = record { registers_long = refl; registers = λ k. inr refl; bytes = refl; stack_long = refl; stack = λ k. inr refl }
@@ -424,16 +384,10 @@ module _ (layout : Layout) (program : List Insn) where
   far zero c on = omega arith
   far (suc n) c on = let le = far n on.0 on.1 in let lt = way_forward layout program on.0 c on.2 in omega arith
 
-  abbrev typing : ℕ → Option State
-  typing slot = found slot (all_by slot)
+  abbrev typing : List Config
+  typing = all_by (slot_count program)
 
   module _ (looked : look_verdict program ≡ None) (u : Uniform layout program) (free : IsNeverStuck layout program) where
-    brought_is : (n : ℕ) (c : Config) → OnWay layout program n c → typing c.slot ≡ Some c.state
-    brought_is n c on = found_alone (all_by c.slot) c (all_ways c.slot n c (far n c on) on) (λ d h q. let m = on_ways c.slot d h in u.one_shape m.0 n d c m.1 on q)
-
-    may_come : (n : ℕ) (c : Config) → OnWay layout program n c → MayCome typing c.slot c.state
-    may_come n c on = record { shape = c.state; is = brought_is n c on; below = no_more c.state }
-
     low : (k : ℕ) (i : Insn) → begins_at program k ≡ Some i → WritesNoR10 i
     low k i here = writes_low program (k + slots_of i) i (fine_at program program 0 k i (record { same = refl }) (none_verdict _ looked) (omega arith) here)
 
@@ -453,6 +407,9 @@ module _ (layout : Layout) (program : List Insn) where
         by None e = absurd (free n c on (record { no_way = rw e refl; no_exit = rw e refl }))
         by (Some i) e = begins_inside program c.slot i e
 
+    may_come : (n : ℕ) (c : Config) → OnWay layout program n c → MayCome typing c.slot c.state
+    may_come n c on = record { shape = c.state; is = all_ways (slot_count program) n c (let le = far n c on in let lt = inside n c on in omega arith) on; below = no_more c.state }
+
     goes_typed : (n : ℕ) (c : Config) (i : Insn) → OnWay layout program n c → begins_at program c.slot ≡ Some i → GoesTyped layout program typing c i
     goes_typed n c i on here = record {
       passes = passes n c on i here;
@@ -465,8 +422,9 @@ module _ (layout : Layout) (program : List Insn) where
     uniform_typing = record {
       typing = typing;
       is = record {
+        one = λ c d h k e. let n = on_ways (slot_count program) c h in let m = on_ways (slot_count program) d k in u.one_shape n.0 m.0 c d n.1 m.1 e;
         begins = may_come 0 first refl;
-        each = λ c i e here. let m = on_ways c.slot c (found_there (all_by c.slot) c e) in goes_typed m.0 c i m.1 here;
+        each = λ c i h here. let m = on_ways (slot_count program) c h in goes_typed m.0 c i m.1 here;
       };
     }
 

@@ -1,11 +1,11 @@
 -- What is told of a program that is looked at.
-use Rattle.std.specs.Prelude.{◌≡◌, ◌≢◌, ◌++◌, ◌∷◌, ℕ, ◌<◌, false, List, Some, None, All, Contains, map, slice_index_or}
+use Rattle.std.specs.Prelude.{◌≡◌, ◌≢◌, ◌++◌, ◌∷◌, ℕ, ◌<◌, List, Some, None, All, Contains, map, slice_index_or}
 use Rattle.verifier.specs.Names.{box_value, Insn, Layout, look_verdict, begins_at, Reaches, Safe, Config, IsRecord}
 use Rattle.verifier.specs.declared.known.Known.{Known}
 use Rattle.verifier.specs.declared.explain.Refusal.{Refusal}
 use Rattle.verifier.specs.declared.explain.Finding.{Finding}
 use Rattle.verifier.specs.declared.explain.Finding.TheVariants.{Accepted, Looked, Refused}
-use Rattle.verifier.specs.Fits.{AllOf, StateFits}
+use Rattle.verifier.specs.Fits.{InStates, StateFits}
 use Rattle.verifier.specs.declared.walk.Onward.{Onward}
 use Rattle.verifier.specs.Verdicts.{IsRefusal}
 use Rattle.verifier.specs.Waits.{HasGoneOn, HasPassed, nowhere}
@@ -14,7 +14,7 @@ use Rattle.verifier.specs.Waits.{HasGoneOn, HasPassed, nowhere}
 abbrev pub IsKnownAt : Layout → List Insn → ℕ → List Known → Type 0
 IsKnownAt layout program slot cases =
     (bytes : List ℕ) (n : ℕ) (c : Config) → IsRecord layout bytes → Reaches layout program bytes n c → c.slot ≡ slot
-    → (known : Known) × Contains cases known × StateFits (AllOf false) layout known c.state
+    → (known : Known) × Contains cases known × StateFits InStates layout known c.state
 
 -- no run comes to a slot
 abbrev pub NoneComesTo : Layout → List Insn → ℕ → Type 0

@@ -18,7 +18,7 @@ use Rattle.stack_state.specs.Accesses.{IsGiven, IsNumberReg, IsStored}
 use Rattle.verifier.specs.declared.known.Known.{Known}
 use Rattle.verifier.specs.declared.known.Test.{Test}
 use Rattle.verifier.specs.declared.known.Flow.TheVariants as flow
-use Rattle.verifier.specs.Fits.{AllOf, StateFits}
+use Rattle.verifier.specs.Fits.{InStates, StateFits}
 use Rattle.verifier.specs.Follows.{Follows, IsFaulty, IsOperand, comparison_of, reg_of}
 use Rattle.verifier.specs.Links.{AreLeft, AreMade, link_made}
 
@@ -150,13 +150,13 @@ LeavesKnown layout i old new (Err fault) = LeavesRow layout (action_of i) old ne
 -- a fault is the first test that fails in some state that is what is known
 pub record IsSeen (layout : Layout) (i : Insn) (known : Known) (fault : WalkFault) : Type 0 where
   pub state : State
-  pub fits : StateFits (AllOf false) layout known state
+  pub fits : StateFits InStates layout known state
   pub fails : fault_at layout i state ≡ Some fault
 
 -- It is so where any state is what is known. It is not said of a pointer that is moved:
 -- numbers between which all members of a set lie need not be members.
 abbrev pub CanFail : Layout → Insn → Known → WalkFault → Type 0
-CanFail layout i known fault = fault ≢ PointerRange → (s : State) → StateFits (AllOf false) layout known s → IsSeen layout i known fault
+CanFail layout i known fault = fault ≢ PointerRange → (s : State) → StateFits InStates layout known s → IsSeen layout i known fault
 
 -- ---- what rows come to
 

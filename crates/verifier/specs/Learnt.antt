@@ -8,7 +8,7 @@ use Rattle.reg_kind.specs.declared.reg.Reg.TheVariants as kind
 use Rattle.verifier.specs.declared.known.Known.{Known}
 use Rattle.verifier.specs.declared.known.Test.{Test}
 use Rattle.verifier.specs.declared.link.Link.{Link}
-use Rattle.verifier.specs.Fits.{AllOf, Reading, StateFits, is_exact}
+use Rattle.verifier.specs.Fits.{InStates, Reading, StateFits, is_exact}
 use Rattle.verifier.specs.Follows.{IsOperand, reg_of, register_at, test_answer}
 use Rattle.verifier.specs.Links.{joining, link_at}
 
@@ -121,12 +121,12 @@ pub record Teaches (test : Test) (answer : Bool) (old new : Known) : Type 0 wher
 
 -- all states that are known and of which the test has the answer are known, and every shape
 pub record KeepsAnswered (test : Test) (answer : Bool) (old new : Known) : Type 0 where
-  pub states : (layout : Layout) (s : State) → StateFits (AllOf false) layout old s → test_answer test s ≡ Some answer → StateFits (AllOf false) layout new s
+  pub states : (layout : Layout) (s : State) → StateFits InStates layout old s → test_answer test s ≡ Some answer → StateFits InStates layout new s
   pub shapes : (how : Reading) → is_exact how ≡ true → (layout : Layout) (s : State) → StateFits how layout old s → StateFits how layout new s
 
 -- what is known where a test has an answer; None where it never has it
 abbrev pub IsLearnt : Test → Bool → Known → Option Known → Type 0
-IsLearnt test answer known None = (layout : Layout) (s : State) → StateFits (AllOf false) layout known s → test_answer test s ≢ Some answer
+IsLearnt test answer known None = (layout : Layout) (s : State) → StateFits InStates layout known s → test_answer test s ≢ Some answer
 IsLearnt test answer known (Some new) = KeepsAnswered test answer known new × Teaches test answer known new
 
 -- what a look at a test leaves, and whether it may have the answer

@@ -4,7 +4,7 @@ use Rattle.verifier.specs.Names.{Layout, Eq, Width, Value, State, Scalar, InScal
 use Rattle.range.specs.Conditions.{HasAnswer}
 use Rattle.verifier.specs.declared.known.Known.{Known}
 use Rattle.verifier.specs.declared.link.Link.{Link}
-use Rattle.verifier.specs.Fits.{AllOf, Reading, StateFits, is_exact}
+use Rattle.verifier.specs.Fits.{InStates, Reading, StateFits, is_exact}
 use Rattle.verifier.specs.Links.{AreLinked, AreValuesLinked}
 use Rattle.verifier.specs.Learnt.{IsLearnt, KeepsAnswered}
 use Rattle.verifier.specs.declared.known.Test.{Test}
@@ -28,7 +28,7 @@ IsLinkRefined link a b (Some r) =
 
 -- what is known is narrowed: it is known of the same states, and shown of the same shapes
 pub record IsNarrowed (known new : Known) : Type 0 where
-  pub states : (layout : Layout) (s : State) → StateFits (AllOf false) layout known s → StateFits (AllOf false) layout new s
+  pub states : (layout : Layout) (s : State) → StateFits InStates layout known s → StateFits InStates layout new s
   pub shapes : (how : Reading) → is_exact how ≡ true → (layout : Layout) (s : State) → StateFits how layout known s → StateFits how layout new s
   pub stack : new.stack ≡ known.stack
   pub links : new.links ≡ known.links
@@ -41,4 +41,4 @@ IsKept test answer known new false = IsLearnt test answer known None
 -- what links leave of what is known, or that it is known of no state
 abbrev pub IsNarrowedOrNone : Known → Known → Bool → Type 0
 IsNarrowedOrNone known new true = IsNarrowed known new
-IsNarrowedOrNone known new false = (layout : Layout) (s : State) → StateFits (AllOf false) layout known s → ⊥
+IsNarrowedOrNone known new false = (layout : Layout) (s : State) → StateFits InStates layout known s → ⊥

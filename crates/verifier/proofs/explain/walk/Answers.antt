@@ -1,8 +1,7 @@
 use Rattle.std.proofs.Common.{refl, arith}
 use Rattle.insn.specs.declared.instruction.Insn.TheVariants.{Exit}
 use Rattle.insn.specs.Program.{IsProgram}
-use Rattle.verifier.proofs.Walks.{behind_fits, behind_inside, jumps_inside}
-use Rattle.verifier.proofs.Arriving.{begins_exploring, ends_exploring, one_explored, refused_told, told_inside, waits_inside}
+use Rattle.verifier.proofs.Arriving.{behind_fits, behind_inside, jumps_inside, begins_exploring, ends_exploring, one_explored, refused_told, told_inside, waits_inside}
 use Rattle.verifier.proofs.explain.walk.Goals as goal
 
 pub loop-rest-init : goal.loop-rest-init
@@ -15,10 +14,10 @@ pub note-requires : goal.note-requires
 note-requires c = waits_inside c.args.layout c.args.program.now c.loop-rest.slot c.loop-rest.rest.now c.loop-rest.waiting Exit c.in-len1-up.len_at_least _ _ c.loop-rest.invariant
 
 pub visit-requires-clause-far : goal.visit-requires-clause-far
-visit-requires-clause-far c = rw c.loop-rest.invariant.walking.walked.long (jumps_inside c.args.layout c.args.program.now c.loop-rest.slot c.loop-rest.rest.now c.loop-rest.waiting _ c.in-len1-up.len_at_least c.loop-rest.invariant.walking)
+visit-requires-clause-far c = rw c.loop-rest.invariant.walked.long (jumps_inside c.args.layout c.args.program.now c.loop-rest.slot c.loop-rest.rest.now c.loop-rest.waiting _ c.in-len1-up.len_at_least c.loop-rest.unreached.items c.loop-rest.onward.items c.loop-rest.invariant)
 
 pub visit-requires-clause-inside : goal.visit-requires-clause-inside
-visit-requires-clause-inside c = rw c.loop-rest.invariant.walking.walked.long (behind_inside c.args.layout c.args.program.now c.loop-rest.slot c.loop-rest.rest.now c.loop-rest.waiting _ c.in-len1-up.len_at_least c.loop-rest.invariant.walking)
+visit-requires-clause-inside c = rw c.loop-rest.invariant.walked.long (behind_inside c.args.layout c.args.program.now c.loop-rest.slot c.loop-rest.rest.now c.loop-rest.waiting _ c.in-len1-up.len_at_least c.loop-rest.unreached.items c.loop-rest.onward.items c.loop-rest.invariant)
 
 pub index_mut-requires : goal.index_mut-requires
 index_mut-requires c =
@@ -32,7 +31,7 @@ returns-in-Refused c =
 pub overflow_add-slot : goal.overflow_add-slot
 overflow_add-slot c =
     let program : IsProgram c.args.program.now = c.insns-rest.ensures.program in
-    rw c.slots-slot.ensures.value (behind_fits c.args.layout c.args.program.now c.loop-rest.slot c.loop-rest.rest.now c.loop-rest.waiting _ c.in-len1-up.len_at_least c.loop-rest.invariant.walking program.short)
+    rw c.slots-slot.ensures.value (behind_fits c.args.layout c.args.program.now c.loop-rest.slot c.loop-rest.rest.now c.loop-rest.waiting _ c.in-len1-up.len_at_least c.loop-rest.unreached.items c.loop-rest.onward.items c.loop-rest.invariant program.short)
 
 pub loop-rest-preserved : goal.loop-rest-preserved
 loop-rest-preserved c =
