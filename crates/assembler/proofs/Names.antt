@@ -20,7 +20,7 @@ pub use Rattle.assembly.specs.Text.{Text, mnemonic_name, slot_of, LeadsTo, Says,
 pub use Rattle.assembly.specs.TextNameLaws.{same_slots, short_operands, insn_of, mnemonic_name-injective}
 pub use Rattle.assembly.specs.TextWordLaws.{distance_is_no_name, distance_word-injective, IsShortNumber, decimal-ne, other_first, reg_number_small, signed_decimal-injective, IsShortOperand}
 pub use Rattle.assembly.specs.declared.mnemonic.Mnemonic.{Mnemonic}
-pub use Rattle.assembly.specs.declared.mnemonic.Mnemonic.TheVariants.{JumpIf, Alu, Divide, Remainder, Negate, MoveSigned, SwapBytes, LoadWide, Load, LoadSigned, StoreReg, StoreImm, JumpLong, Exit}
+pub use Rattle.assembly.specs.declared.mnemonic.Mnemonic.TheVariants.{JumpIf, Alu, Divide, Remainder}
 pub use Rattle.insn.specs.Instruction.{Fits, reg_number, slots_of}
 pub use Rattle.insn.specs.Program.{slot_count, SLOT_LIMIT, IsProgram}
 pub use Rattle.insn.specs.declared.instruction.Insn.{Insn}

@@ -1,11 +1,10 @@
 -- Names and forms of the words of a line.
 use Rattle.std.proofs.Common.{◌≡◌, ◌≢◌, ⊎_elim, pos, List, [], ◌∷◌, length, map, None, refl, sym, ap, ◌∙◌, subst, arith, Bor}
-use Rattle.assembler.proofs.Names.{W32, W64, Insn, Reg, Imm, Word, name_of, operands_of, mnemonic_of, mnemonic_name, Mnemonic, Alu, Divide, Remainder, Negate}
-use Rattle.assembler.proofs.Names.{MoveSigned, SwapBytes, LoadWide, Load, LoadSigned, StoreReg, StoreImm, JumpLong, JumpIf, Exit, kinds_of, HaveKinds, Anywhere, HaveForms, HasName}
+use Rattle.assembler.proofs.Names.{W32, W64, Insn, Reg, Imm, Word, name_of, operands_of, mnemonic_of, mnemonic_name, Mnemonic, Alu, Divide, Remainder}
+use Rattle.assembler.proofs.Names.{JumpIf, kinds_of, HaveKinds, Anywhere, HaveForms, HasName}
 use Rattle.assembler.proofs.Names.{HasFormOf, SaysFitting, DraftOf, insn_of, mnemonic_name-injective}
 use Rattle.insn.specs.declared.register.RegNo.TheVariants.{R0}
 use Rattle.insn.specs.declared.instruction.Insn.TheVariants as insn
-use Rattle.assembly.specs.declared.mnemonic.Mnemonic.TheVariants.{Jump}
 use Rattle.assembler.specs.declared.form.OperandKind.{OperandKind}
 use Rattle.assembler.specs.declared.form.OperandKind.TheVariants as kind
 
@@ -32,46 +31,33 @@ pub record Example (m : Mnemonic) (ws : List Word) : Type 0 where
   pub same : mnemonic_of like ≡ m
   pub form : HaveForms (operands_of like) ws
 
-pub named_by : (m : Mnemonic) → (i : Insn) × (mnemonic_of i ≡ m)
-named_by m = (insn_of m [], named m) where
-  named : (m : Mnemonic) → mnemonic_of (insn_of m []) ≡ m
-  named (Alu W64 op) = refl
-  named (JumpIf W64 cond) = refl
-  named m = refl
+named : (m : Mnemonic) → mnemonic_of (insn_of m []) ≡ m
+named (Alu W64 op) = refl
+named (JumpIf W64 cond) = refl
+named m = refl
 
 -- the form of words of these kinds is an instruction's
-pub example : (m : Mnemonic) (ws : List Word) → HaveKinds (kinds_of m) ws → length ws ≡ length (kinds_of m) → Example m ws
-example (Alu W64 op) (a ∷ b ∷ []) h long = ⊎_elim (λ r. record { like = insn.Alu64Reg op R0 R0; same = refl; form = (h.0, (r, tt)) }) (λ n. record { like = insn.Alu64Imm op R0 (pos 0); same = refl; form = (h.0, (n, tt)) }) h.1.0
-example (Alu W32 op) (a ∷ b ∷ []) h long = ⊎_elim (λ r. record { like = insn.Alu32Reg op R0 R0; same = refl; form = (h.0, (r, tt)) }) (λ n. record { like = insn.Alu32Imm op R0 (pos 0); same = refl; form = (h.0, (n, tt)) }) h.1.0
-example (Divide width signedness) (a ∷ b ∷ []) h long = ⊎_elim (λ r. record { like = insn.Divide width signedness R0 (Reg R0); same = refl; form = (h.0, (r, tt)) }) (λ n. record { like = insn.Divide width signedness R0 (Imm (pos 0)); same = refl; form = (h.0, (n, tt)) }) h.1.0
-example (Remainder width signedness) (a ∷ b ∷ []) h long = ⊎_elim (λ r. record { like = insn.Remainder width signedness R0 (Reg R0); same = refl; form = (h.0, (r, tt)) }) (λ n. record { like = insn.Remainder width signedness R0 (Imm (pos 0)); same = refl; form = (h.0, (n, tt)) }) h.1.0
-example (JumpIf W64 cond) (a ∷ b ∷ t ∷ []) h long = ⊎_elim (λ r. record { like = insn.Jump64IfReg cond R0 R0 (pos 0); same = refl; form = (h.0, (r, (h.1.1.0, tt))) }) (λ n. record { like = insn.Jump64IfImm cond R0 (pos 0) (pos 0); same = refl; form = (h.0, (n, (h.1.1.0, tt))) }) h.1.0
-example (JumpIf W32 cond) (a ∷ b ∷ t ∷ []) h long = ⊎_elim (λ r. record { like = insn.Jump32IfReg cond R0 R0 (pos 0); same = refl; form = (h.0, (r, (h.1.1.0, tt))) }) (λ n. record { like = insn.Jump32IfImm cond R0 (pos 0) (pos 0); same = refl; form = (h.0, (n, (h.1.1.0, tt))) }) h.1.0
-example (Negate width) (a ∷ []) h long = record { like = insn.Negate width R0; same = refl; form = h }
-example (MoveSigned extension) (a ∷ b ∷ []) h long = record { like = insn.MoveSigned extension R0 R0; same = refl; form = h }
-example (SwapBytes kind bits) (a ∷ []) h long = record { like = insn.SwapBytes kind bits R0; same = refl; form = h }
-example LoadWide (a ∷ b ∷ []) h long = record { like = insn.LoadWide R0 0; same = refl; form = h }
-example (Load size) (a ∷ b ∷ c ∷ []) h long = record { like = insn.Load size R0 R0 (pos 0); same = refl; form = h }
-example (LoadSigned size) (a ∷ b ∷ c ∷ []) h long = record { like = insn.LoadSigned size R0 R0 (pos 0); same = refl; form = h }
-example (StoreReg size) (a ∷ b ∷ c ∷ []) h long = record { like = insn.StoreReg size R0 R0 (pos 0); same = refl; form = h }
-example (StoreImm size) (a ∷ b ∷ c ∷ []) h long = record { like = insn.StoreImm size R0 (pos 0) (pos 0); same = refl; form = h }
-example Jump (a ∷ []) h long = record { like = insn.Jump (pos 0); same = refl; form = h }
-example JumpLong (a ∷ []) h long = record { like = insn.JumpLong (pos 0); same = refl; form = h }
-example Exit [] h long = record { like = insn.Exit; same = refl; form = h }
-example m ws h long = absurd (omega arith)
+pub example : (m : Mnemonic) (ws : List Word) → HaveKinds (kinds_of m) ws → Example m ws
+example (Alu W64 op) (a ∷ b ∷ []) h = ⊎_elim (λ r. record { like = insn.Alu64Reg op R0 R0; same = refl; form = (h.0, (r, tt)) }) (λ n. record { like = insn.Alu64Imm op R0 (pos 0); same = refl; form = (h.0, (n, tt)) }) h.1.0
+example (Alu W32 op) (a ∷ b ∷ []) h = ⊎_elim (λ r. record { like = insn.Alu32Reg op R0 R0; same = refl; form = (h.0, (r, tt)) }) (λ n. record { like = insn.Alu32Imm op R0 (pos 0); same = refl; form = (h.0, (n, tt)) }) h.1.0
+example (Divide width signedness) (a ∷ b ∷ []) h = ⊎_elim (λ r. record { like = insn.Divide width signedness R0 (Reg R0); same = refl; form = (h.0, (r, tt)) }) (λ n. record { like = insn.Divide width signedness R0 (Imm (pos 0)); same = refl; form = (h.0, (n, tt)) }) h.1.0
+example (Remainder width signedness) (a ∷ b ∷ []) h = ⊎_elim (λ r. record { like = insn.Remainder width signedness R0 (Reg R0); same = refl; form = (h.0, (r, tt)) }) (λ n. record { like = insn.Remainder width signedness R0 (Imm (pos 0)); same = refl; form = (h.0, (n, tt)) }) h.1.0
+example (JumpIf W64 cond) (a ∷ b ∷ t ∷ []) h = ⊎_elim (λ r. record { like = insn.Jump64IfReg cond R0 R0 (pos 0); same = refl; form = (h.0, (r, (h.1.1.0, tt))) }) (λ n. record { like = insn.Jump64IfImm cond R0 (pos 0) (pos 0); same = refl; form = (h.0, (n, (h.1.1.0, tt))) }) h.1.0
+example (JumpIf W32 cond) (a ∷ b ∷ t ∷ []) h = ⊎_elim (λ r. record { like = insn.Jump32IfReg cond R0 R0 (pos 0); same = refl; form = (h.0, (r, (h.1.1.0, tt))) }) (λ n. record { like = insn.Jump32IfImm cond R0 (pos 0) (pos 0); same = refl; form = (h.0, (n, (h.1.1.0, tt))) }) h.1.0
+example m ws h = record { like = insn_of m []; same = named m; form = grind (arith, h) }
 
 -- what `statement` answers
 pub no_name : (w : Word) (ws : List Word) → ((m : Mnemonic) → w ≢ mnemonic_name m) → (i : Insn) → HasName i (w ∷ ws) → ⊥
 no_name w ws none i e = none (mnemonic_of i) e
 
 pub has_name : (w : Word) (ws : List Word) (m : Mnemonic) → w ≡ mnemonic_name m → (i : Insn) × HasName i (w ∷ ws)
-has_name w ws m e = let n = named_by m in (n.0, e ∙ ap mnemonic_name (sym n.1))
+has_name w ws m e = (insn_of m [], e ∙ ap mnemonic_name (sym (named m)))
 
 pub no_form : (w : Word) (ws : List Word) (m : Mnemonic) → w ≡ mnemonic_name m → (HaveKinds (kinds_of m) ws → ⊥) → (i : Insn) → HasFormOf i (w ∷ ws) → ⊥
 no_form w ws m e none i h = none (have_kinds_of i m ws (of_mnemonic w m i e h.0) h.1)
 
 pub has_form : (w : Word) (ws : List Word) (m : Mnemonic) → w ≡ mnemonic_name m → HaveKinds (kinds_of m) ws → (i : Insn) × HasFormOf i (w ∷ ws)
-has_form w ws m e h = let x = example m ws h (kinds_length (kinds_of m) ws h) in (x.like, (e ∙ ap mnemonic_name (sym x.same), x.form))
+has_form w ws m e h = let x = example m ws h in (x.like, (e ∙ ap mnemonic_name (sym x.same), x.form))
 
 pub no_fitting : (w : Word) (ws : List Word) (m : Mnemonic) → w ≡ mnemonic_name m → DraftOf m ws None → (i : Insn) → SaysFitting Anywhere i (w ∷ ws) → ⊥
 no_fitting w ws m e none i h = none i (of_mnemonic w m i e h.0.0) h.1 h.0.1

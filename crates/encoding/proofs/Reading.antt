@@ -1,5 +1,5 @@
 -- Reading slots back from their bytes, and programs from theirs.
-use Rattle.std.proofs.Common.{subst, ◌≡◌, ◌≢◌, ◌⊎◌, inl, inr, Option, ℕ, ◌+◌, ◌*◌, ◌/◌, ◌%◌, ◌^◌, ◌<◌, List, [], ◌∷◌, ◌++◌, length, drop, Some, None, Result, Ok, Err, IfErr, get_or, refl, sym, ap, ◌∙◌, arith, append_assoc, FitsSigned, w16, w32, pos, rules}
+use Rattle.std.proofs.Common.{subst, ◌≡◌, ◌≢◌, ◌⊎◌, inl, inr, Option, ℕ, ◌+◌, ◌*◌, ◌/◌, ◌%◌, ◌^◌, ◌<◌, List, [], ◌∷◌, ◌++◌, length, drop, Some, None, Result, Ok, Err, IfErr, get_or, refl, sym, ap, ◌∙◌, arith, append_assoc, FitsSigned, w16, w32, rules}
 use Rattle.encoding.proofs.Names.{◌==◌, nat_lt, if◌then◌else◌, nat_tests, cast_signed, cast_unsigned, flat_map, AllByRecursion, ints, to_z-of_z, append_cancel_left, flat_map-append, RegNo, R0, Imm}
 use Rattle.encoding.proofs.Names.{Insn, Divide, Remainder, MoveSigned, SwapBytes, LoadWide, Unsigned, Signed, From8To64, B16, Slot, SlotFault, reg_number, Fits, slot_count, SLOT_LIMIT, BeginsNone}
 use Rattle.encoding.proofs.Names.{IsSlotFault, first_slot, slot, slots, slot_bytes, spelling, FaultAt, FirstInsnFault, IsSlot, IsWhole, Spells, slot_fault}
@@ -46,25 +46,19 @@ unspell-slot s r z =
     let g : m % 256 + m / 256 % 256 * 256 + m / 65536 % 256 * 65536 + m / 16777216 % 256 * 16777216 ≡ m = omega arith in
     rw (d, e, f, g, to_z-of_z w16 s.offset zo, to_z-of_z w32 s.imm zm) refl
 
-no_offset : FitsSigned w16 (pos 0)
-no_offset = search rules
-
-no_imm : FitsSigned w32 (pos 0)
-no_imm = search rules
-
 half_fits : (n : ℕ) → n < 2 ^ 32 → FitsSigned w32 (cast_signed w32 n)
 half_fits n lt = sfits_to_z (record { fits = lt })
 
 sized : (i : Insn) → Fits i → AllByRecursion Sized (slots i)
-sized (Divide width Unsigned dst (Imm imm)) fits = (record { dst = reg_fits dst; src = omega arith; offset = no_offset; imm = fits }, tt)
+sized (Divide width Unsigned dst (Imm imm)) fits = (record { dst = reg_fits dst; src = omega arith; offset = search rules; imm = fits }, tt)
 sized (Divide width Signed dst (Imm imm)) fits = (record { dst = reg_fits dst; src = omega arith; offset = search rules; imm = fits }, tt)
-sized (Remainder width Unsigned dst (Imm imm)) fits = (record { dst = reg_fits dst; src = omega arith; offset = no_offset; imm = fits }, tt)
+sized (Remainder width Unsigned dst (Imm imm)) fits = (record { dst = reg_fits dst; src = omega arith; offset = search rules; imm = fits }, tt)
 sized (Remainder width Signed dst (Imm imm)) fits = (record { dst = reg_fits dst; src = omega arith; offset = search rules; imm = fits }, tt)
-sized (MoveSigned From8To64 dst src) fits = (record { dst = reg_fits dst; src = reg_fits src; offset = search rules; imm = no_imm }, tt)
-sized (SwapBytes kind B16 dst) fits = (record { dst = reg_fits dst; src = omega arith; offset = no_offset; imm = search rules }, tt)
+sized (MoveSigned From8To64 dst src) fits = (record { dst = reg_fits dst; src = reg_fits src; offset = search rules; imm = search rules }, tt)
+sized (SwapBytes kind B16 dst) fits = (record { dst = reg_fits dst; src = omega arith; offset = search rules; imm = search rules }, tt)
 sized (LoadWide dst value) fits = (
-  record { dst = reg_fits dst; src = omega arith; offset = no_offset; imm = half_fits (value % 2 ^ 32) (omega arith) },
-  (record { dst = omega arith; src = omega arith; offset = no_offset; imm = half_fits (value / 2 ^ 32) (omega arith) }, tt),
+  record { dst = reg_fits dst; src = omega arith; offset = search rules; imm = half_fits (value % 2 ^ 32) (omega arith) },
+  (record { dst = omega arith; src = omega arith; offset = search rules; imm = half_fits (value / 2 ^ 32) (omega arith) }, tt),
 )
 sized i fits = (record { dst = omega (arith, reg_fits); src = omega (arith, reg_fits); offset = search rules; imm = search rules }, tt)
 

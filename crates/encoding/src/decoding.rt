@@ -514,6 +514,7 @@ fn decoded(alloc: Global, bytes: &[u8]) -> Result<Program, InsnFault>
 
 /// The program that bytes spell, or their first fault: none, a length that is no multiple of 8, too many, and then
 /// the first faulty instruction. The bytes are RFC 9669's little-endian form.
+#[tactic(auto, using(crate::proofs::Reading::only_err))]
 pub fn decode(alloc: Global, bytes: &[u8]) -> Result<Program, InsnFault>
     ensures found { IfOk result (λ program. Spells bytes.now program) }
     ensures fault { IfErr result (FirstInsnFault bytes.now) }

@@ -19,6 +19,7 @@ pub fn decided<H: HookHost>(host: &H, ask: &Ask) -> Narrowed
 }
 
 /// Whatever a host answers, a grant has at most the scopes and the lifetime that were asked, and some of both.
+#[tactic(auto, using(crate::specs::DecisionLaws::met_with_narrows))]
 pub fn no_answer_widens()
     ensures { (ask : Ask) (answer : Narrowed) (scope life : ℕ) →
         met_with ask answer ≡ Narrowed.Allowed scope life → IsNarrowing ask scope life }

@@ -1,5 +1,5 @@
 -- What is read from a record is written so, and what is written in version 2 is read again.
-use Rattle.std.proofs.Common.{◌≡◌, ℕ, zero, suc, ◌+◌, ◌<◌, ◌≤◌, ◌==◌, ◌&&◌, Bool, true, false, List, [], ◌∷◌, ◌++◌, length, take, drop, get_or, if◌then◌else◌, Option, Some, None, IfSome, refl, sym, ◌∙◌, ap, arith}
+use Rattle.std.proofs.Common.{◌≡◌, ℕ, zero, suc, ◌+◌, ◌<◌, ◌≤◌, ◌==◌, ◌&&◌, List, [], ◌∷◌, ◌++◌, length, take, drop, get_or, if◌then◌else◌, Option, Some, None, IfSome, refl, sym, ◌∙◌, ap, arith}
 use Rattle.std.specs.Int.{w32, w64, to_le_bytes}
 use Rattle.std.specs.List.{AllByRecursion}
 use Rattle.std.specs.Option.{option_map}
@@ -14,32 +14,28 @@ use Rattle.hook_record.specs.Record.{Field, StandsIn, kind_number, kind_of, fiel
 -- ---- parts of bytes
 
 bytes-take : (n : ℕ) (xs : List ℕ) → ((i : ℕ) → get_or xs i 0 < 256) → (i : ℕ) → get_or (take n xs) i 0 < 256
-bytes-take zero [] small i = small i
-bytes-take zero (x ∷ xs) small i = bytes-take zero xs (λ j. small (suc j)) i
-bytes-take (suc n) [] small i = small i
 bytes-take (suc n) (x ∷ xs) small zero = small 0
 bytes-take (suc n) (x ∷ xs) small (suc i) = bytes-take n xs (λ j. small (suc j)) i
+bytes-take n xs small i = omega arith
 
 bytes-drop : (n : ℕ) (xs : List ℕ) → ((i : ℕ) → get_or xs i 0 < 256) → (i : ℕ) → get_or (drop n xs) i 0 < 256
 bytes-drop n xs small i = rw (get_or-drop n xs i 0) (small (n + i))
 
--- a number of four bytes, written before what follows it
+-- a part of some bytes, before what follows it
+in_front : (xs rest part : List ℕ) (at k : ℕ) → part ≡ take k (drop at xs) → rest ≡ drop (at + k) xs → part ++ rest ≡ drop at xs
+in_front xs rest part at k is follows =
+    ap (λ (l : List ℕ). l ++ rest) is ∙ ap (λ (l : List ℕ). take k (drop at xs) ++ l) (follows ∙ sym (drop-drop k at xs)) ∙ take-append-drop k (drop at xs)
+
+-- a number of four bytes, and one of eight, written before what follows it
 written_4 : (xs rest : List ℕ) (at n : ℕ) → ((i : ℕ) → get_or xs i 0 < 256) → at + 4 ≤ length xs
     → u32_at xs at ≡ n → rest ≡ drop (at + 4) xs → to_le_bytes w32 n ++ rest ≡ drop at xs
 written_4 xs rest at n small long is follows =
-    let part = take 4 (drop at xs) in
-    let long_part : length part ≡ 4 = omega (arith, length-take 4 (drop at xs), length-drop at xs) in
-    let written : to_le_bytes w32 n ≡ part = le_bytes_4 part n long_part (bytes-take 4 _ (bytes-drop at xs small)) (sym is) in
-    ap (λ (l : List ℕ). l ++ rest) written ∙ ap (λ (l : List ℕ). part ++ l) (follows ∙ sym (drop-drop 4 at xs)) ∙ take-append-drop 4 (drop at xs)
+    in_front xs rest _ at 4 (le_bytes_4 _ n (omega (arith, length-take 4 (drop at xs), length-drop at xs)) (bytes-take 4 _ (bytes-drop at xs small)) (sym is)) follows
 
--- a number of eight bytes, written before what follows it
 written_8 : (xs rest : List ℕ) (at n : ℕ) → ((i : ℕ) → get_or xs i 0 < 256) → at + 8 ≤ length xs
     → u64_at xs at ≡ n → rest ≡ drop (at + 8) xs → to_le_bytes w64 n ++ rest ≡ drop at xs
 written_8 xs rest at n small long is follows =
-    let part = take 8 (drop at xs) in
-    let long_part : length part ≡ 8 = omega (arith, length-take 8 (drop at xs), length-drop at xs) in
-    let written : to_le_bytes w64 n ≡ part = le_bytes_8 part n long_part (bytes-take 8 _ (bytes-drop at xs small)) (sym is) in
-    ap (λ (l : List ℕ). l ++ rest) written ∙ ap (λ (l : List ℕ). part ++ l) (follows ∙ sym (drop-drop 8 at xs)) ∙ take-append-drop 8 (drop at xs)
+    in_front xs rest _ at 8 (le_bytes_8 _ n (omega (arith, length-take 8 (drop at xs), length-drop at xs)) (bytes-take 8 _ (bytes-drop at xs small)) (sym is)) follows
 
 -- bytes in which all fields stand are those fields' bytes
 fields_written : (xs : List ℕ) (further : List Field) (version : ℕ) (ask : Ask) → ((i : ℕ) → get_or xs i 0 < 256) → 64 ≤ length xs
@@ -67,67 +63,24 @@ further_written xs ask small long (consented, (access, (refresh, (unused, (more,
 
 -- ---- from the ask to its fields
 
-chosen : (test : Bool) (found : Option Ask) (ask : Ask) → (if test then found else None) ≡ Some ask → (test ≡ true) × (found ≡ Some ask)
-chosen true found ask e = (refl, e)
-chosen false found ask e = absurd (cc)
-
-no_ask : (ask : Ask) → ◌≡◌ {A = Option Ask} None (Some ask) → ⊥
-no_ask ask e = absurd (cc)
-
-same_ask : (a b : Ask) → Some a ≡ Some b → a ≡ b
-same_ask a b e = cc
+both_tested : (found version unused : ℕ) (o : Option Ask) (ask : Ask) → (if (found == version) && (unused == 0) then o else None) ≡ Some ask
+    → (found ≡ version) × (unused ≡ 0) × (o ≡ Some ask)
+both_tested found version unused o ask e = (grind (arith, nat_tests, e), grind (arith, nat_tests, e), grind (arith, nat_tests, e))
 
 kind_named : (n : ℕ) (with_kind : Kind → Ask) (ask : Ask) → option_map with_kind (kind_of n) ≡ Some ask
     → (kind : Kind) × (n ≡ kind_number kind) × (with_kind kind ≡ ask)
-kind_named zero with_kind ask e = absurd (no_ask ask e)
-kind_named (suc zero) with_kind ask e = (Code, refl, same_ask _ _ e)
-kind_named (suc (suc zero)) with_kind ask e = (Refresh, refl, same_ask _ _ e)
-kind_named (suc (suc (suc zero))) with_kind ask e = (ClientCredentials, refl, same_ask _ _ e)
-kind_named (suc (suc (suc (suc n)))) with_kind ask e =
-    let none : kind_of (suc (suc (suc (suc n)))) ≡ None = grind (arith, nat_tests) in
-    absurd (no_ask ask (ap (option_map with_kind) (sym none) ∙ e))
-
-both_same : (a b c d : ℕ) → ((a == b) && (c == d)) ≡ true → (a ≡ b) × (c ≡ d)
-both_same a b c d e = (grind (arith, nat_tests), grind (arith, nat_tests))
+kind_named (suc zero) with_kind ask e = (Code, refl, cc)
+kind_named (suc (suc zero)) with_kind ask e = (Refresh, refl, cc)
+kind_named (suc (suc (suc zero))) with_kind ask e = (ClientCredentials, refl, cc)
+kind_named n with_kind ask e = absurd (grind (arith, nat_tests, e))
 
 -- the numbers of the ask that was read stand in its fields
 fields_read : (xs : List ℕ) (further : List Field) (version : ℕ) (ask : Ask) → ask_at_version version xs ≡ Some ask
     → AllByRecursion (StandsIn xs) further → AllByRecursion (StandsIn xs) (fields_before further version ask)
 fields_read xs further version ask e more =
-    let test = chosen ((u32_at xs 0 == version) && (u32_at xs 52 == 0)) (option_map (ask_of xs) (kind_of (u32_at xs 4))) ask e in
-    let same = both_same (u32_at xs 0) version (u32_at xs 52) 0 test.0 in
-    let named = kind_named (u32_at xs 4) (ask_of xs) ask test.1 in
-    let is : ask_of xs named.0 ≡ ask = named.2 in (
-      same.0,
-      (
-        named.1 ∙ ap (λ (a : Ask). kind_number a.kind) is,
-        (
-          ap (λ (a : Ask). a.now) is,
-          (
-            ap (λ (a : Ask). a.client) is,
-            (
-              ap (λ (a : Ask). a.owner) is,
-              (
-                ap (λ (a : Ask). a.asked) is,
-                (
-                  ap (λ (a : Ask). a.scope) is,
-                  (
-                    ap (λ (a : Ask). a.life) is,
-                    (
-                      same.1,
-                      (
-                        ap (λ (a : Ask). a.allowed) is,
-                        more,
-                      ),
-                    ),
-                  ),
-                ),
-              ),
-            ),
-          ),
-        ),
-      ),
-    )
+    let told = both_tested (u32_at xs 0) version (u32_at xs 52) (option_map (ask_of xs) (kind_of (u32_at xs 4))) ask e in
+    let named = kind_named (u32_at xs 4) (ask_of xs) ask told.2 in
+    rw (← named.2) (told.0, (named.1, (refl, (refl, (refl, (refl, (refl, (refl, (told.1, (refl, more))))))))))
 
 pub record_v1_read : (xs : List ℕ) (found : Option Ask) → ((i : ℕ) → get_or xs i 0 < 256) → length xs ≡ 64
     → found ≡ ask_at_version 1 xs → IfSome found (λ ask. record_v1 ask ≡ xs)
@@ -149,28 +102,6 @@ kind_of-kind_number Code = refl
 kind_of-kind_number Refresh = refl
 kind_of-kind_number ClientCredentials = refl
 
--- an ask is read where its version and its kind and the zeros stand
-read_where : (x y found unused : ℕ) (named : Option Kind) (kind : Kind) (ask_by : Kind → Ask) (more : Ask → Ask)
-    → x ≡ 0 → y ≡ 0 → found ≡ 2 → unused ≡ 0 → named ≡ Some kind
-    → (if (x == 0) && (y == 0) then option_map more (if (found == 2) && (unused == 0) then option_map ask_by named else None) else None)
-    ≡ Some (more (ask_by kind))
-read_where x y found unused named kind ask_by more x_is y_is found_is unused_is named_is =
-    λ i. if (x_is i == 0) && (y_is i == 0) then option_map more (if (found_is i == 2) && (unused_is i == 0) then option_map ask_by (named_is i) else None) else None
-
 pub ask_v2_from_fields : (xs : List ℕ) (ask : Ask) → AllByRecursion (StandsIn xs) (fields_v2 ask) → ask_in_v2 xs ≡ Some ask
 ask_v2_from_fields xs ask (found, (kind, (now, (client, (owner, (asked, (scope, (life, (unused, (allowed, (consented, (access, (refresh, (x, (y, _))))))))))))))) =
-    let named : kind_of (u32_at xs 4) ≡ Some ask.kind = ap kind_of kind ∙ kind_of-kind_number ask.kind in
-    let same : with_further xs (ask_of xs ask.kind) ≡ ask = λ i. record {
-      kind = ask.kind;
-      now = now i;
-      client = client i;
-      owner = owner i;
-      asked = asked i;
-      scope = scope i;
-      life = life i;
-      allowed = allowed i;
-      consented = consented i;
-      access_limit = access i;
-      refresh_limit = refresh i;
-    } in
-    read_where (u64_at xs 80) (u64_at xs 88) (u32_at xs 0) (u32_at xs 52) _ ask.kind (ask_of xs) (with_further xs) x y found unused named ∙ ap Some same
+    rw (x, y, found, unused, kind, kind_of-kind_number ask.kind, now, client, owner, asked, scope, life, allowed, consented, access, refresh) refl

@@ -2,23 +2,7 @@
 
 ghost use Rattle.std.specs.Prelude.{◌≡◌, ◌+◌, ◌≤◌, [], length, Some, IfSome};
 ghost use Rattle.std.specs.List.{AllByRecursion};
-ghost use Rattle.hook_record.specs.Record.{
-  ask_at_version,
-  ask_in_v1,
-  ask_in_v2,
-  bytes_of,
-  fields_before,
-  fields_v1,
-  fields_v2,
-  kind_number,
-  kind_of,
-  record_v1,
-  record_v2,
-  u32_at,
-  u64_at,
-  without_further,
-  StandsIn,
-};
+ghost use Rattle.hook_record.specs.Record.{ask_at_version, ask_in_v1, ask_in_v2, bytes_of, fields_before, fields_v1, fields_v2, kind_number, kind_of, record_v1, record_v2, u32_at, u64_at, without_further, StandsIn};
 
 use crate::numbers::{put_u32, put_u64, u32_at, u64_at};
 use crate::{Ask, Kind};
@@ -42,7 +26,7 @@ impl Kind {
     }
 
     /// The kind that a number names.
-    fn from_number(number: u32) -> Option<Kind>
+    pub fn from_number(number: u64) -> Option<Kind>
         ensures { result ≡ kind_of number }
     {
         match number {
@@ -81,7 +65,7 @@ fn read_fields(bytes: &[u8], version: u32) -> Option<Ask>
     if u32_at(bytes, 0) != version || u32_at(bytes, 52) != 0 {
         return None;
     }
-    let kind = Kind::from_number(u32_at(bytes, 4))?;
+    let kind = Kind::from_number(u64::from(u32_at(bytes, 4)))?;
     Some(Ask {
         kind,
         now: u64_at(bytes, 8),

@@ -27,12 +27,7 @@ pub(crate) fn u32_at(bytes: &[u8], offset: usize) -> u32
     requires { offset + 4 ≤ length bytes.now }
     ensures { result ≡ u32_at bytes.now offset }
 {
-    u32::from_le_bytes([
-        bytes[offset],
-        bytes[offset + 1],
-        bytes[offset + 2],
-        bytes[offset + 3],
-    ])
+    u32::from_le_bytes(*bytes[offset..].first_chunk().unwrap())
 }
 
 /// The number at an offset.
@@ -40,14 +35,5 @@ pub(crate) fn u64_at(bytes: &[u8], offset: usize) -> u64
     requires { offset + 8 ≤ length bytes.now }
     ensures { result ≡ u64_at bytes.now offset }
 {
-    u64::from_le_bytes([
-        bytes[offset],
-        bytes[offset + 1],
-        bytes[offset + 2],
-        bytes[offset + 3],
-        bytes[offset + 4],
-        bytes[offset + 5],
-        bytes[offset + 6],
-        bytes[offset + 7],
-    ])
+    u64::from_le_bytes(*bytes[offset..].first_chunk().unwrap())
 }

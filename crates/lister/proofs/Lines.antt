@@ -7,11 +7,22 @@ use Rattle.std.proofs.lemmas.List.Splits.{slice_split-cons_yes, slice_split-cons
 use Rattle.std.specs.List.{list_all, flat_map, filter, slice_split, AllByRecursion}
 use Rattle.std.specs.Option.{option_map}
 use Rattle.insn.specs.declared.instruction.Insn.{Insn}
+use Rattle.insn.specs.declared.instruction.Insn.TheVariants.{Exit}
 use Rattle.insn.specs.Instruction.{Fits, slots_of}
+use Rattle.insn.specs.Meaning.{action_of}
 use Rattle.insn.specs.Program.{IsProgram}
 use Rattle.assembly.specs.Text.{Word, Operand, Register, Number, Target, Line, Blank, Statement, is_empty, before_comment, words_in, labelled, one_word_line, line_of, lines_in, name_of, operands_of, written_operand, SaysOperand, SaysOperands, LeadsTo, labels_in, Says, names_in, AllDiffer, Text, canonical_line, canonical_text}
 use Rattle.assembly.specs.TextWordLaws.{is_plain, plain_code, PlainWord, list_all-imp, IsShortOperand, plain_operand}
 use Rattle.assembly.specs.TextNameLaws.{plain_name, short_operands}
+use Rattle.lister.specs.Operands.{operands_in}
+
+-- the operands of an instruction's line are those of what it says
+same_operands : (i : Insn) → operands_in (action_of i) ≡ operands_of i
+same_operands Exit = refl
+same_operands i = refl
+
+pub line_is : (i : Insn) → name_of i ++ (flat_map (λ operand. codes " " ++ written_operand operand) (operands_in (action_of i)) ++ codes "\n") ≡ canonical_line i
+line_is i = rw (same_operands i) (sym (append_assoc (name_of i) (flat_map (λ operand. codes " " ++ written_operand operand) (operands_of i)) (codes "\n")))
 
 -- ---- splitting
 

@@ -2,12 +2,14 @@
 
 ghost use Rattle.std.specs.Prelude.{Some};
 ghost use Rattle.std.specs.List.{flat_map};
-ghost use Rattle.assembly.specs.Text.{canonical_line, written_operand, operands_of};
-ghost use Rattle.lister.specs.Values.{values_of};
+ghost use Rattle.assembly.specs.Text.{canonical_line, written_operand};
+ghost use Rattle.lister.specs.Operands.{operands_in};
 
 use crate::operand::{Register, Source, Target};
 use assembly::mnemonic::Mnemonic;
+use insn::action::Action;
 use insn::instruction::Insn;
+use insn::operation::UnOp;
 use std::fmt::{self, Display, Formatter, Write};
 
 /// The line of an instruction: its words with one space between two, and a line feed.
@@ -18,84 +20,42 @@ impl Display for Line {
     ghost output = { λ line. Some (canonical_line line.0) };
 
     fn fmt<W: Write>(&self, f: &mut Formatter<W>) -> fmt::Result {
-        let (mnemonic, operands) = (Mnemonic::of(self.0), Operands(self.0));
+        let (mnemonic, operands) = (Mnemonic::of(self.0), Operands(self.0.action()));
         write!(f, "{mnemonic}{operands}\n")
     }
 }
 
-/// The operands of an instruction, with a space before each.
+/// The operands of what an instruction says, with a space before each.
 #[derive(Clone, Copy)]
-struct Operands(Insn);
+struct Operands(Action);
 
 impl Display for Operands {
     ghost use Rattle.std.specs.Prelude.{codes, ◌++◌};
 
-    ghost output = { λ operands. Some (flat_map (λ operand. codes " " ++ written_operand operand) (operands_of operands.0)) };
-
-    fn fmt<W: Write>(&self, f: &mut Formatter<W>) -> fmt::Result {
-        let values = Values(self.0);
-        match self.0.distance() {
-            Some(distance) => write!(f, "{values} {}", Target(distance)),
-            None => write!(f, "{values}"),
-        }
-    }
-}
-
-/// The operands of an instruction but the target of a jump, with a space before each.
-#[derive(Clone, Copy)]
-struct Values(Insn);
-
-impl Display for Values {
-    ghost use Rattle.std.specs.Prelude.{codes, ◌++◌};
-
-    ghost output = { λ values. Some (flat_map (λ operand. codes " " ++ written_operand operand) (values_of values.0)) };
+    ghost output = { λ operands. Some (flat_map (λ operand. codes " " ++ written_operand operand) (operands_in operands.0)) };
 
     fn fmt<W: Write>(&self, f: &mut Formatter<W>) -> fmt::Result {
         match self.0 {
-            Insn::Alu64Imm { dst, imm, .. } | Insn::Alu32Imm { dst, imm, .. } => {
-                write!(f, " {} {imm}", Register(dst))
-            }
-            Insn::Jump64IfImm { dst, imm, .. } => write!(f, " {} {imm}", Register(dst)),
-            Insn::Jump32IfImm { dst, imm, .. } => write!(f, " {} {imm}", Register(dst)),
-            Insn::Alu64Reg { dst, src, .. }
-            | Insn::Alu32Reg { dst, src, .. }
-            | Insn::MoveSigned { dst, src, .. } => {
-                write!(f, " {} {}", Register(dst), Register(src))
-            }
-            Insn::Jump64IfReg { dst, src, .. } => write!(f, " {} {}", Register(dst), Register(src)),
-            Insn::Jump32IfReg { dst, src, .. } => write!(f, " {} {}", Register(dst), Register(src)),
-            Insn::Divide { dst, operand, .. } | Insn::Remainder { dst, operand, .. } => {
+            Action::Operate(_, _, dst, operand) => {
                 write!(f, " {} {}", Register(dst), Source(operand))
             }
-            Insn::Negate { dst, .. } | Insn::SwapBytes { dst, .. } => {
-                write!(f, " {}", Register(dst))
+            Action::Convert(_, UnOp::Extend(_), dst, src) => {
+                write!(f, " {} {}", Register(dst), Register(src))
             }
-            Insn::LoadWide { dst, value } => write!(f, " {} {value}", Register(dst)),
-            Insn::Load {
-                dst,
-                src,
-                offset,
-                ..
-            } => { write!(f, " {} {} {offset}", Register(dst), Register(src)) }
-            Insn::LoadSigned {
-                dst,
-                src,
-                offset,
-                ..
-            } => { write!(f, " {} {} {offset}", Register(dst), Register(src)) }
-            Insn::StoreReg {
-                dst,
-                src,
-                offset,
-                ..
-            } => { write!(f, " {} {offset} {}", Register(dst), Register(src)) }
-            Insn::StoreImm {
-                dst,
-                offset,
-                imm,
-                ..
-            } => { write!(f, " {} {offset} {imm}", Register(dst)) }
-            Insn::Jump { .. } | Insn::JumpLong { .. } | Insn::Exit => Ok(()),
+            Action::Convert(_, _, dst, _) => write!(f, " {}", Register(dst)),
+            Action::LoadWord(dst, value) => write!(f, " {} {value}", Register(dst)),
+            Action::LoadFrom(_, _, dst, src, offset) => {
+                write!(f, " {} {} {offset}", Register(dst), Register(src))
+            }
+            Action::StoreAt(_, dst, offset, operand) => {
+                write!(f, " {} {offset} {}", Register(dst), Source(operand))
+            }
+            Action::Go(distance) => write!(f, " {}", Target(distance)),
+            Action::Branch(_, _, dst, operand, offset) => {
+                let target = Target(i32::from(offset));
+                write!(f, " {} {} {target}", Register(dst), Source(operand))
+            }
+            Action::End => Ok(()),
         }
     }
 }
