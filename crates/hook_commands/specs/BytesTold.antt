@@ -1,7 +1,8 @@
 -- What is told of the bytes of the stack that a load reads.
 use Rattle.std.specs.Prelude.{◌≡◌, ℕ, zero, suc, ℤ, ◌+◌, ◌*◌, ◌-◌, ◌/◌, ◌&&◌, if◌then◌else◌, Bool, true, false, List, [], ◌∷◌, ◌++◌, Option, Some, None, Result, Ok, Err}
-use Rattle.hook_commands.specs.Names.{Load, LoadSigned, Layout, read_size, size_bytes, Known, reg_of}
-use Rattle.insn.specs.declared.instruction.Insn.{Insn}
+use Rattle.hook_commands.specs.Names.{Layout, size_bytes, Known, reg_of}
+use Rattle.insn.specs.declared.action.Action.{Action}
+use Rattle.insn.specs.declared.action.Action.TheVariants.{LoadFrom}
 use Rattle.insn.specs.declared.operation.Size.TheVariants.{Eight}
 use Rattle.insn.specs.declared.state.Region.{Region}
 use Rattle.insn.specs.declared.state.Region.TheVariants as region
@@ -36,13 +37,10 @@ bytes_at (Ok place) n = stack_bytes_in place.region place.span n
 abbrev pub bytes_behind : Layout → Reg → ℤ → ℕ → Option BytesRead
 bytes_behind layout r offset n = bytes_at (place_behind layout r offset n) n
 
--- the bytes of the stack that an instruction reads, or may read
-abbrev pub bytes_read : Layout → Known → Insn → Option BytesRead
-bytes_read layout known (Load size dst src offset) =
-    bytes_behind layout (reg_of known src) offset (size_bytes size)
-bytes_read layout known (LoadSigned size dst src offset) =
-    bytes_behind layout (reg_of known src) offset (size_bytes (read_size size))
-bytes_read layout known i = None
+-- the bytes of the stack that are read, or may be
+abbrev pub bytes_read : Layout → Known → Action → Option BytesRead
+bytes_read layout known (LoadFrom size extension dst src offset) = bytes_behind layout (reg_of known src) offset (size_bytes size)
+bytes_read layout known action = None
 
 -- ---- what is told of a block: eight bytes from a multiple of eight on
 
@@ -96,6 +94,6 @@ abbrev pub TellsRead : Stack → Option BytesRead → List BytesTold → Type 0
 TellsRead stack None told = told ≡ []
 TellsRead stack (Some bytes) told = TellsBlocks stack (first_block bytes) (block_count bytes) told
 
--- what is known of the bytes of the stack that an instruction reads is told
-abbrev pub TellsBytes : Layout → Known → Insn → List BytesTold → Type 0
-TellsBytes layout known i told = TellsRead known.stack (bytes_read layout known i) told
+-- what is known of the bytes of the stack that are read is told
+abbrev pub TellsBytes : Layout → Known → Action → List BytesTold → Type 0
+TellsBytes layout known action told = TellsRead known.stack (bytes_read layout known action) told

@@ -3,6 +3,7 @@ use Rattle.std.specs.Prelude.{◌≡◌, ℕ, List, [], ◌∷◌, codes, length
 use Rattle.hook_commands.specs.Names.{option_map, option_or, Layout, RegNo, VerifyFault, JumpOut, JumpBack, JumpIntoWide, WritesR10, FallsOff, UnsetRegister, UnsetByte, OutOfRegion, ReadOnlyField}
 use Rattle.hook_commands.specs.Names.{PointerMisuse, ExitsWithPointer, PointerRange, Memory, Known, reg_of, HookAnswer}
 use Rattle.std.specs.Box.{box_value}
+use Rattle.insn.specs.Meaning.{action_of}
 use Rattle.insn.specs.declared.instruction.Insn.{Insn}
 use Rattle.manual.specs.Topics.{IsSaid}
 use Rattle.reg_kind.specs.declared.reg.Reg.{Reg}
@@ -63,9 +64,9 @@ unset_among read = option_and_then (λ r. where_unset r.register r.known) read
 
 -- what is known in a case of the registers and the bytes that an instruction reads is told
 pub record IsReadTold (layout : Layout) (i : Insn) (known : Known) (told : ReadTold) : Type 0 where
-  pub left : told.left ≡ read_of known (left_read i)
-  pub right : told.right ≡ read_of known (right_read i)
-  pub reads : TellsBytes layout known i told.bytes.items
+  pub left : told.left ≡ read_of known (left_read (action_of i))
+  pub right : told.right ≡ read_of known (right_read (action_of i))
+  pub reads : TellsBytes layout known (action_of i) told.bytes.items
 
 -- it is told in each of some cases, in order
 abbrev pub AreCasesTold : Layout → Insn → List Known → List ReadTold → Type 0

@@ -6,11 +6,10 @@ pub use Rattle.hook_commands.specs.declared.fault.HookCommandFault.{HookCommandF
 pub use Rattle.hook_commands.specs.declared.judge.JudgeFault.{JudgeFault}
 pub use Rattle.hook_record.specs.Record.{kind_of, record_v1, record_v2, ask_in_v1, ask_in_v2}
 pub use Rattle.insn.specs.FirstLook.{distance_of, written_by}
-pub use Rattle.insn.specs.Instruction.{slots_of, read_size, size_bytes, reg_number}
+pub use Rattle.insn.specs.Instruction.{slots_of, size_bytes, reg_number}
 pub use Rattle.insn.specs.Program.{begins_at, slot_count}
 pub use Rattle.insn.specs.declared.fault.InsnFault.{InsnFault}
 pub use Rattle.insn.specs.declared.instruction.Insn.{Insn as Instruction}
-pub use Rattle.insn.specs.declared.instruction.Insn.TheVariants.{Load, LoadSigned}
 pub use Rattle.insn.specs.declared.layout.Layout.{Layout}
 pub use Rattle.insn.specs.declared.layout.Layout.TheVariants.{V1, V2}
 pub use Rattle.insn.specs.declared.register.RegNo.{RegNo}

@@ -3,6 +3,7 @@
 ghost use Rattle.hook_commands.specs.Printed.{hook_answer_text};
 
 use crate::back::JumpBackTold;
+use crate::fault::HookCommandFault;
 use crate::judge::Judged;
 use crate::trace::StepLines;
 use crate::why::RefusalTold;
@@ -44,6 +45,9 @@ pub enum HookAnswer {
     /// Why the walk refuses a program, at length.
     Refused(RefusalTold),
 }
+
+/// What a command about a hook answers, or why it has no answer.
+pub type HookResult<'w> = Result<HookAnswer, HookCommandFault<'w>>;
 
 impl Display for HookAnswer {
     ghost output = { hook_answer_text };

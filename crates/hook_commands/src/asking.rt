@@ -2,10 +2,9 @@
 
 ghost use Rattle.std.specs.Prelude.{◌≡◌, ◌^◌, ℕ, IfOk, IfSome, IfNone};
 ghost use Rattle.std.specs.String.{string_bytes};
-ghost use Rattle.hook_record.specs.Record.{kind_of};
 ghost use Rattle.hook_commands.specs.Asking.{record_hex, IsAskedAs, IsNumber, SayAsk};
 
-use crate::answer::HookAnswer;
+use crate::answer::{HookAnswer, HookResult};
 use crate::fault::HookCommandFault;
 use hook_record::{Ask, Kind, write, write_v2};
 use insn::layout::Layout;
@@ -39,24 +38,12 @@ fn number(text: &str) -> Option<u64>
     text.parse::<u64>().ok()
 }
 
-/// The kind that a number names.
-fn kind_of(number: u64) -> Option<Kind>
-    ensures { result ≡ kind_of number }
-{
-    match number {
-        1 => Some(Kind::Code),
-        2 => Some(Kind::Refresh),
-        3 => Some(Kind::ClientCredentials),
-        _ => None,
-    }
-}
-
 /// The ask that words tell.
 fn told_ask(words: AskWords<'_>) -> Option<Ask>
     ensures some { IfSome result (SayAsk words.entry) }
     ensures none { IfNone result ((ask : Ask) → SayAsk words.entry ask → ⊥) }
 {
-    let kind = kind_of(number(words.kind)?)?;
+    let kind = Kind::from_number(number(words.kind)?)?;
     let now = number(words.now)?;
     let client = number(words.client)?;
     let owner = number(words.owner)?;
@@ -88,11 +75,7 @@ fn hex_of(alloc: Global, layout: Layout, ask: &Ask) -> Result<String, AllocError
 }
 
 /// The hex of the record of the ask that words tell, in one version.
-pub fn asked(
-    alloc: Global,
-    layout: Layout,
-    words: AskWords<'_>,
-) -> Result<HookAnswer, HookCommandFault<'static>>
+pub fn asked(alloc: Global, layout: Layout, words: AskWords<'_>) -> HookResult<'static>
     ensures { IsAskedAs layout words.entry result }
 {
     let Some(ask) = told_ask(words) else {

@@ -6,7 +6,7 @@ ghost use Rattle.stack_state.specs.Fits.{mark_at};
 ghost use Rattle.hook_commands.specs.BytesTold.{are_unset, block_count, bytes_behind, bytes_each, bytes_read, first_block, TellsBlockBehind, TellsBlocks, TellsBytes};
 
 use crate::known_text::{KnownText, from_end};
-use insn::instruction::Insn;
+use insn::action::Action;
 use insn::layout::Layout;
 use insn::operation::Size;
 use insn::state::{Region, STACK_SIZE};
@@ -69,26 +69,15 @@ fn bytes_behind(layout: Layout, register: Reg, offset: i16, size: Size) -> Optio
     }
 }
 
-/// The bytes of the stack that an instruction reads, or may read.
-fn bytes_read(layout: Layout, known: &Known, insn: Insn) -> Option<BytesRead>
-    ensures value { result ≡ bytes_read layout known.now insn }
+/// The bytes of the stack that are read, or may be.
+fn bytes_read(layout: Layout, known: &Known, action: Action) -> Option<BytesRead>
+    ensures value { result ≡ bytes_read layout known.now action }
     ensures inside { IfSome result (λ bytes. bytes.to ≤ 512) }
 {
-    match insn {
-        Insn::Load {
-            size,
-            src,
-            offset,
-            ..
-        } => bytes_behind(layout, known.register(src), offset, size),
-        Insn::LoadSigned {
-            size,
-            src,
-            offset,
-            ..
-        } => bytes_behind(layout, known.register(src), offset, size.size()),
-        _ => None,
-    }
+    let Action::LoadFrom(size, _, _, src, offset) = action else {
+        return None;
+    };
+    bytes_behind(layout, known.register(src), offset, size)
 }
 
 /// What is known of a byte: why a load of it alone is refused, if it is.
@@ -165,17 +154,17 @@ fn blocks_told(alloc: Global, stack: &Stack, bytes: BytesRead) -> Result<Vec<Byt
     Ok(told)
 }
 
-/// What is known of the bytes of the stack that an instruction reads, or may read: of each eight bytes, from a multiple of
-/// eight on, of which it touches some; of none where it reads none there. It fails only where memory is refused.
+/// What is known of the bytes of the stack that are read, or may be: of each eight bytes, from a multiple of
+/// eight on, of which some are; of none where none is read there. It fails only where memory is refused.
 pub fn bytes_told(
     alloc: Global,
     layout: Layout,
     known: &Known,
-    insn: Insn,
+    action: Action,
 ) -> Result<Vec<BytesTold>, AllocError>
-    ensures { IfOk result (λ told. TellsBytes layout known.now insn told.items) }
+    ensures { IfOk result (λ told. TellsBytes layout known.now action told.items) }
 {
-    match bytes_read(layout, known, insn) {
+    match bytes_read(layout, known, action) {
         Some(bytes) => blocks_told(alloc, known.stack(), bytes),
         None => Ok(Vec::new(alloc)),
     }

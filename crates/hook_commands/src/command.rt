@@ -4,11 +4,10 @@ ghost use Rattle.std.specs.Prelude.{◌≡◌};
 ghost use Rattle.std.specs.Option.{option_copied};
 ghost use Rattle.hook_commands.specs.Answers.{file_of_hook_command, IsHookAnsweredBy};
 
-use crate::answer::HookAnswer;
+use crate::answer::HookResult;
 use crate::asking::{AskWords, asked};
 use crate::commands::file::{assembled, check, explained_check, listing, listing_with_slots};
 use crate::commands::run::{run, traced};
-use crate::fault::HookCommandFault;
 use insn::layout::Layout;
 use std::alloc::Global;
 
@@ -71,11 +70,7 @@ impl<'w> HookCommand<'w> {
     }
 
     /// What the command answers. `file` is what stands in its file, and `None` where that cannot be read.
-    pub fn answer(
-        self,
-        alloc: Global,
-        file: Option<&[u8]>,
-    ) -> Result<HookAnswer, HookCommandFault<'w>>
+    pub fn answer(self, alloc: Global, file: Option<&[u8]>) -> HookResult<'w>
         ensures { IsHookAnsweredBy self.entry (option_copied file.entry) result }
     {
         match self {

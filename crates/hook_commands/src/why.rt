@@ -164,11 +164,11 @@ fn read_told(
 ) -> Result<ReadTold, AllocError>
     ensures { IfOk result (IsReadTold layout insn known.now) }
 {
-    let bytes = bytes_told(alloc, layout, known, insn)?;
+    let action = insn.action();
     Ok(ReadTold {
-        left: read_of(known, left_read(insn)),
-        right: read_of(known, right_read(insn)),
-        bytes,
+        left: read_of(known, left_read(action)),
+        right: read_of(known, right_read(action)),
+        bytes: bytes_told(alloc, layout, known, action)?,
     })
 }
 

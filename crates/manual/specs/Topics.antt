@@ -1,5 +1,5 @@
 -- What topics say of a name.
-use Rattle.std.specs.Prelude.{◌≡◌, ◌≢◌, ℕ, ◌<◌, All, List, length, get_or, map, Option, Some, None}
+use Rattle.std.specs.Prelude.{◌≡◌, ◌≢◌, ℕ, ◌<◌, All, List, length, get_or, map, Option, IfSome, IfNone}
 use Rattle.manual.specs.declared.topic.Topic.{Topic}
 use Rattle.manual.specs.Words.{all_words}
 
@@ -13,18 +13,14 @@ pub record IsTextOf (topics : List Topic) (name text : List ℕ) : Type 0 where
   pub text_is : text ≡ topic.text.now
 
 -- what a list of topics says of a name: the text of the topic of that name, if there is one
-abbrev pub Say : List Topic → List ℕ → Option (List ℕ) → Type 0
-Say topics name (Some text) = IsTextOf topics name text
-Say topics name None = All (λ topic. topic.name.now ≢ name) topics
+pub record Say (topics : List Topic) (name : List ℕ) (text : Option (List ℕ)) : Type 0 where
+  pub some : IfSome text (IsTextOf topics name)
+  pub none : IfNone text (All (λ topic. topic.name.now ≢ name) topics)
 
 -- the words that the topics explain, in their order
 abbrev pub topic_words : List Topic → List (List ℕ)
 topic_words topics = map (λ topic. topic.name.now) topics
 
--- what topics that explain just these words say of a name
-abbrev pub IsSaidBy : List (List ℕ) → List ℕ → Option (List ℕ) → Type 0
-IsSaidBy words name text = (topics : List Topic) × (topic_words topics ≡ words) × Say topics name text
-
--- what the manual says of a name
+-- what the manual says of a name, by topics that explain just its words
 abbrev pub IsSaid : List ℕ → Option (List ℕ) → Type 0
-IsSaid name text = IsSaidBy all_words name text
+IsSaid name text = (topics : List Topic) × (topic_words topics ≡ all_words) × Say topics name text

@@ -2,7 +2,7 @@
 
 ghost use Rattle.std.specs.Prelude.{◌≡◌, ◌↔◌, IsTrue};
 ghost use Rattle.std.specs.Option.{option_copied};
-ghost use Rattle.manual.specs.Topics.{IsSaidBy, Say, topic_words};
+ghost use Rattle.manual.specs.Topics.{Say};
 
 /// What a name of the program means.
 #[derive(Clone, Copy, Debug)]
@@ -21,7 +21,7 @@ impl Topic {
 }
 
 /// What some topics say of a name: the text of the first one that has it.
-fn text_named(topics: &[Topic], name: &str) -> Option<&'static str>
+pub fn text_named(topics: &[Topic], name: &str) -> Option<&'static str>
     ensures { Say topics.now name.now (option_copied result) }
 {
     for topic in topics {
@@ -30,11 +30,4 @@ fn text_named(topics: &[Topic], name: &str) -> Option<&'static str>
         }
     }
     None
-}
-
-/// What topics that explain just their words say of a name.
-pub fn said_by(topics: &[Topic], name: &str) -> Option<&'static str>
-    ensures { IsSaidBy (topic_words topics.now) name.now (option_copied result) }
-{
-    text_named(topics, name)
 }

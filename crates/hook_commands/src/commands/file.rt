@@ -5,7 +5,7 @@ ghost use Rattle.std.specs.Prelude.{◌≡◌, IfErr, IfNone, IfOk, IfSome};
 ghost use Rattle.std.specs.Option.{option_copied};
 ghost use Rattle.hook_commands.specs.File.{is_elf as spec_is_elf, HoldsNoProgram, HoldsNoToldProgram, HoldsProgram, HoldsText, IsAssembledAs, IsCheckedOn, IsExplainedOn, IsListedAs, IsListedWithSlotsAs, IsNoText};
 
-use crate::answer::HookAnswer;
+use crate::answer::{HookAnswer, HookResult};
 use crate::fault::HookCommandFault;
 use crate::hex_text::bytes_of_hex;
 use crate::why::explanation;
@@ -76,11 +76,7 @@ pub fn told_program_in<'w>(
 }
 
 /// The bytes of the program that the text of a file says, as hex.
-pub fn assembled<'w>(
-    alloc: Global,
-    path: &'w str,
-    file: Option<&[u8]>,
-) -> Result<HookAnswer, HookCommandFault<'w>>
+pub fn assembled<'w>(alloc: Global, path: &'w str, file: Option<&[u8]>) -> HookResult<'w>
     ensures { IsAssembledAs path.now (option_copied file.entry) result }
 {
     let Some(text) = text_in(file) else {
@@ -96,11 +92,7 @@ pub fn assembled<'w>(
 }
 
 /// The canonical text of the program whose hex stands in a file.
-pub fn listing<'w>(
-    alloc: Global,
-    path: &'w str,
-    file: Option<&[u8]>,
-) -> Result<HookAnswer, HookCommandFault<'w>>
+pub fn listing<'w>(alloc: Global, path: &'w str, file: Option<&[u8]>) -> HookResult<'w>
     ensures { IsListedAs path.now (option_copied file.entry) result }
 {
     let program = program_in(alloc, path, file)?;
@@ -109,11 +101,7 @@ pub fn listing<'w>(
 }
 
 /// The instructions of the program whose hex stands in a file, behind their slots.
-pub fn listing_with_slots<'w>(
-    alloc: Global,
-    path: &'w str,
-    file: Option<&[u8]>,
-) -> Result<HookAnswer, HookCommandFault<'w>>
+pub fn listing_with_slots<'w>(alloc: Global, path: &'w str, file: Option<&[u8]>) -> HookResult<'w>
     ensures { IsListedWithSlotsAs path.now (option_copied file.entry) result }
 {
     let program = told_program_in(alloc, path, file)?;
@@ -127,7 +115,7 @@ pub fn check<'w>(
     layout: Layout,
     path: &'w str,
     file: Option<&[u8]>,
-) -> Result<HookAnswer, HookCommandFault<'w>>
+) -> HookResult<'w>
     ensures { IsCheckedOn layout path.now (option_copied file.entry) result }
 {
     let program = program_in(alloc, path, file)?;
@@ -143,7 +131,7 @@ pub fn explained_check<'w>(
     layout: Layout,
     path: &'w str,
     file: Option<&[u8]>,
-) -> Result<HookAnswer, HookCommandFault<'w>>
+) -> HookResult<'w>
     ensures { IsExplainedOn layout path.now (option_copied file.entry) result }
 {
     let program = told_program_in(alloc, path, file)?;

@@ -5,7 +5,7 @@ ghost use Rattle.hook_commands.specs.Answers.{IsRunOn, IsTracedOn};
 ghost use Rattle.hook_commands.specs.HexText.{IsHexOf};
 ghost use Rattle.hook_commands.specs.Judge.{IsJudged};
 
-use crate::answer::HookAnswer;
+use crate::answer::{HookAnswer, HookResult};
 use crate::fault::HookCommandFault;
 use crate::hex_text::bytes_of_hex;
 use crate::judge::{Asked, JudgeFault, Judged, judge};
@@ -41,11 +41,7 @@ fn judged_text(
 }
 
 /// What the hook of some code answers to a record, both as hex text.
-pub fn run(
-    alloc: Global,
-    code_hex: &str,
-    record_hex: &str,
-) -> Result<HookAnswer, HookCommandFault<'static>>
+pub fn run(alloc: Global, code_hex: &str, record_hex: &str) -> HookResult<'static>
     ensures { IsRunOn code_hex.now record_hex.now result }
 {
     let (_, _, judged) = judged_text(alloc, code_hex, record_hex)?;
@@ -53,11 +49,7 @@ pub fn run(
 }
 
 /// What the hook of some code answers to a record, as `run` has it, behind the steps of its run.
-pub fn traced(
-    alloc: Global,
-    code_hex: &str,
-    record_hex: &str,
-) -> Result<HookAnswer, HookCommandFault<'static>>
+pub fn traced(alloc: Global, code_hex: &str, record_hex: &str) -> HookResult<'static>
     ensures { IsTracedOn code_hex.now record_hex.now result }
 {
     let (code, mut record, judged) = judged_text(alloc, code_hex, record_hex)?;
