@@ -1,10 +1,9 @@
 -- What a Basic header's credentials lead to.
-use Rattle.std.proofs.Common.{◌≡◌, ◌&&◌, ℕ, List, Bool, true, false, not, drop, if◌then◌else◌, ◌⊎◌, inl, inr, refl, Result, Ok, Err}
-use Rattle.std.specs.Str.{is_utf8}
+use Rattle.std.proofs.Common.{◌≡◌, ◌&&◌, ℕ, List, Bool, true, false, not, if◌then◌else◌, ◌⊎◌, inl, inr, refl, Result, Ok, Err, arith}
 use Rattle.clients.specs.Faults.{◌>>=◌, GivesUnless}
-use Rattle.authentication.specs.Authentication.{is_basic, base64_bytes, basic_text, credentials_in}
+use Rattle.authentication.specs.Authentication.{is_basic, basic_text, credentials_in}
 use Rattle.authentication.specs.declared.authentication.AuthFault.{AuthFault}
-use Rattle.authentication.specs.declared.authentication.AuthFault.TheVariants.{BadHeader, TwoMethods, Memory}
+use Rattle.authentication.specs.declared.authentication.AuthFault.TheVariants.{TwoMethods, Memory}
 
 -- the answer is the expected one
 same : {A : Type 0} (W : Type 0) (r : Result A AuthFault) → GivesUnless Memory W r r
@@ -24,12 +23,7 @@ refused secret_sent basic credentials next e r none is why = rw is (rw none (eli
 
 -- a header with a text is a Basic one
 pub text_basic : (header text : List ℕ) → basic_text header ≡ Ok text → is_basic header ≡ true
-text_basic header text is = by (is_basic header) refl (base64_bytes (drop 6 header)) is
-  where
-    by : (basic : Bool) → is_basic header ≡ basic → (bytes : Result (List ℕ) AuthFault) →
-        (if basic then (bytes >>= (λ b. if is_utf8 b then Ok b else Err BadHeader)) else Err BadHeader) ≡ Ok text → is_basic header ≡ true
-    by true e bytes is = e
-    by false e bytes is = absurd (cc)
+text_basic header text is = grind (arith, is)
 
 -- why its credentials were not read
 pub unread : (basic : Bool) (read : Result (List ℕ) AuthFault) (text : List ℕ) (e : AuthFault) → basic ≡ true → read ≡ Ok text →

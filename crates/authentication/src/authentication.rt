@@ -163,10 +163,7 @@ fn known(registry: &Registry, id: &str) -> Result<ClientNo, AuthFault>
 fn is_another(named: Option<&str>, id: &str) -> bool
     ensures { result ≡ option_map_or (λ other. not (bytes_eq other id.now)) (option_copied named.entry) false }
 {
-    match named {
-        Some(other) => other != id,
-        None => false,
-    }
+    named.is_some_and(|other| other != id)
 }
 
 // The client of an identifier and a secret, unless another client is named beside them.

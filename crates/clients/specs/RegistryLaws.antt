@@ -1,7 +1,7 @@
 -- Laws of registries: what is read is a registry, and its clients are clients.
 use Rattle.std.proofs.Common.{◌≡◌, ◌≤◌, ◌<◌, ◌^◌, ℕ, ◌-◌, List, [], ◌∷◌, ◌++◌, length, Bool, true, false, if◌then◌else◌, refl, sym, ap, ◌∙◌, subst, arith, Option, Some, None, is_some, Result, Ok, Err, codes}
-use Rattle.clients.specs.Names.{list_all, list_any, ok_or, option_map_or, as_number, as_u64, as_array, Data, Items, no_items, item, CatalogueFault, any_twice, IsCatalogue, name_fault, scope_mask}
-use Rattle.clients.specs.Names.{ConfigFault, BadShape, OutOfRange, BadRedirect, Twice, Refusal, Spot}
+use Rattle.clients.specs.Names.{list_all, list_any, ok_or, Data, Items, no_items, item, CatalogueFault, any_twice, IsCatalogue, name_fault}
+use Rattle.clients.specs.Names.{ConfigFault, BadRedirect, Refusal, Spot}
 use Rattle.std.specs.Prelude.{All, slice_get, bytes_eq}
 use Rattle.std.proofs.lemmas.Bool.{and_from, leb-true}
 use Rattle.std.proofs.lemmas.Bool.Decides.{nat_tests}
@@ -15,13 +15,12 @@ use Rattle.params.specs.ScopeLaws.{IsCatalogue-push, IsCatalogue-nil, is_some-po
 use Rattle.clients.specs.Limits.{redirect_limit}
 use Rattle.clients.specs.Faults.{◌>>=◌}
 use Rattle.clients.specs.Spots.{located}
-use Rattle.clients.specs.Json.{member_of, text_of, life_of, life_within, items_in}
-use Rattle.clients.specs.Texts.{is_identifier, identifier_of, is_key}
-use Rattle.clients.specs.Keys.{key_digest}
+use Rattle.clients.specs.Json.{text_of, items_in}
+use Rattle.clients.specs.Texts.{is_identifier, is_key}
 use Rattle.clients.specs.Redirect.{is_redirect, redirect_of, redirects_after}
 use Rattle.clients.specs.Scopes.{with_name, name_after, scopes_after}
 use Rattle.clients.specs.Numbers.{number_among}
-use Rattle.clients.specs.Clients.{ids, id_member, one_or_two, secrets_of, secret_member, redirects_member, scope_member, grants_member, client_of, clients_after, client_at, has_secret}
+use Rattle.clients.specs.Clients.{ids, id_member, one_or_two, secret_member, redirects_member, scope_member, grants_member, client_of, clients_after, client_at, has_secret}
 use Rattle.clients.specs.ClientRecord.{ClientRecord}
 use Rattle.clients.specs.RegistryRecord.{RegistryRecord}
 use Rattle.clients.specs.Registry.{life_member, operator_member, owners_member, scopes_member, clients_member, registry_of}
@@ -48,11 +47,7 @@ option_ok None e x ok = cc ok
 option_ok (Some y) e x ok = cc ok
 
 life-read : (name : List ℕ) (value : Data) (life : ℕ) → life_member name value ≡ Ok life → IsLife life
-life-read name value life ok =
-    let member = then_ok (member_of name value) (λ m. life_of m) life ok in
-    let number = then_ok (ok_or (as_number member.0) BadShape) (λ n. life_within (as_u64 n)) life member.2 in
-    let passed : life_within (as_u64 number.0) ≡ Ok life = number.2 in
-    grind (arith, nat_tests, passed)
+life-read name value life ok = grind (arith, nat_tests, ok)
 
 catalogue-read : (names : List (List ℕ)) (items : Items) (all : List (List ℕ)) → IsCatalogue names → scopes_after names items ≡ Ok all → IsCatalogue all
 catalogue-read names no_items all is ok = let same : names ≡ all = cc ok in subst IsCatalogue same is
@@ -77,36 +72,15 @@ redirects-read client redirects (item d ds) all are ok =
 
 pub id-read : (clients : List ClientRecord) (value : Data) (id : List ℕ) → id_member clients value ≡ Ok id
     → (is_identifier id ≡ true) × (number_among id (ids clients) ≡ None)
-id-read clients value id ok =
-    let member = then_ok (member_of (codes "id") value) _ id ok in
-    let known = then_ok (identifier_of member.0) _ id member.2 in
-    let text = then_ok (text_of member.0) _ known.0 known.1 in
-    let is : is_identifier known.0 ≡ true = test_passed is_identifier text.0 known.0 OutOfRange text.2 in
-    new_ok known.0 (number_among known.0 (ids clients)) refl is known.2
-  where
-    new_ok : (x : List ℕ) (o : Option ℕ) → number_among x (ids clients) ≡ o → is_identifier x ≡ true → (if is_some o then Err Twice else Ok x) ≡ Ok id
-        → (is_identifier id ≡ true) × (number_among id (ids clients) ≡ None)
-    new_ok x o e is ok = grind (arith, e, is, ok)
+id-read clients value id ok = grind (arith, ok)
 
 one_or_two-read : (items : Items) (secrets : List (List ℕ)) → one_or_two items ≡ Ok secrets → (1 ≤ length secrets) × (length secrets ≤ 2)
-one_or_two-read no_items secrets ok = cc ok
-one_or_two-read (item d no_items) secrets ok =
-    let one = then_ok (key_digest d) _ secrets ok in
-    let read = one.2 in grind (arith, read)
-one_or_two-read (item d (item e no_items)) secrets ok =
-    let one = then_ok (key_digest d) _ secrets ok in
-    let two = then_ok (key_digest e) _ secrets one.2 in
-    let read = two.2 in grind (arith, read)
-one_or_two-read (item d (item e (item f items))) secrets ok = cc ok
+one_or_two-read items secrets ok = grind (arith, ok)
 
 pub secret-read : (value : Data) (secrets : List (List ℕ)) → secret_member value ≡ Ok secrets → (1 ≤ length secrets) × (length secrets ≤ 2)
 secret-read value secrets ok =
-    let member = then_ok (member_of (codes "secret") value) secrets_of secrets ok in
-    either member.0 (as_array member.0) member.2
-  where
-    either : (d : Data) (list : Option Items) → option_map_or one_or_two list (one_or_two (item d no_items)) ≡ Ok secrets → (1 ≤ length secrets) × (length secrets ≤ 2)
-    either d None is = one_or_two-read (item d no_items) secrets is
-    either d (Some items) is = one_or_two-read items secrets is
+    let read = λ (items : Items). one_or_two-read items secrets in
+    grind (arith, ok, read)
 
 pub redirects_member-read : (client : ℕ) (value : Data) (redirects : List (List ℕ)) → redirects_member client value ≡ Ok redirects → list_all is_redirect redirects ≡ true
 redirects_member-read client value redirects ok =
@@ -115,9 +89,8 @@ redirects_member-read client value redirects ok =
 
 allowed-read : (scopes : List (List ℕ)) (value : Data) (allowed : ℕ) → scope_member scopes value ≡ Ok allowed → (0 < allowed) × (allowed < 2 ^ length scopes)
 allowed-read scopes value allowed ok =
-    let member = then_ok (member_of (codes "scope") value) _ allowed ok in
-    let text = then_ok (text_of member.0) _ allowed member.2 in
-    scope_mask-within scopes text.0 allowed (option_ok (scope_mask scopes text.0) _ allowed text.2)
+    let within = λ (text : List ℕ). scope_mask-within scopes text allowed in
+    grind (arith, ok, within)
 
 -- what is read as a client is one, and its identifier is new
 pub client-read : (scopes : List (List ℕ)) (clients : List ClientRecord) (value : Data) (client : ClientRecord) → client_of scopes clients value ≡ Ok client

@@ -1,6 +1,6 @@
 //! The clients of a registry (RFC 6749, section 2).
 
-ghost use Rattle.std.specs.Prelude.{◌≡◌, ◌<◌, ◌≤◌, [], ◌∷◌, ◌++◌, length, map, string_bytes, None, Some, IfSome, IsOk, IsTrue, option_copied, OnOk, OnErr};
+ghost use Rattle.std.specs.Prelude.{◌≡◌, ◌<◌, ◌≤◌, [], ◌∷◌, ◌++◌, length, map, string_bytes, None, Some, IfSome, IsOk, IsTrue, option_copied, OnOk, OnErr, List};
 ghost use Rattle.std.specs.List.{list_any};
 ghost use Rattle.std.specs.Str.{bytes_eq};
 ghost use Rattle.serde_json.specs.View.{view, items_view};
@@ -8,15 +8,16 @@ ghost use Rattle.clients.specs.Faults.{GivesUnless};
 ghost use Rattle.clients.specs.FaultsParts.{seen_by};
 ghost use Rattle.clients.specs.Limits.{client_limit, identifier_limit, redirect_limit};
 ghost use Rattle.clients.specs.Grants.{has_grant};
-ghost use Rattle.clients.specs.Numbers.{number_among};
-ghost use Rattle.clients.specs.Clients.{ids, has_secret, has_redirect, id_member, secret_member, redirects_member, scope_member, grants_in, grants_member, client_at, client_of, clients_after};
+ghost use Rattle.clients.specs.Numbers.{number_among, IsIndex};
+ghost use Rattle.clients.specs.Clients.{ids, has_secret, has_redirect, id_member, secret_member, redirects_member, scope_member, grants_member, client_at, client_of, clients_after};
 ghost use Rattle.clients.specs.declared.fault.Refusal.TheVariants as refusal;
+ghost use Rattle.clients.specs.ClientRecord.{ClientRecord};
+ghost use Rattle.clients.specs.RegistryRules.{IsClient};
 
 use crate::digest::sent_digest;
 use crate::fault::{ConfigFault, Refusal, located};
 use crate::grant::{GrantType, Grants, grant_set};
 use crate::json::{items, list, member};
-use crate::numbering::Numbering;
 use crate::redirect::redirect_list;
 use crate::scope::scope;
 use crate::secret::{Secrets, client_secrets};
@@ -26,6 +27,7 @@ use consent::{ClientNo, ScopeSet};
 use params::Catalogue;
 use serde_json::Value;
 use std::alloc::{AllocError, Global};
+use std::collections::BTreeMap;
 use std::marker::Model;
 
 const MOST_REDIRECTS: usize = 8;
@@ -47,12 +49,7 @@ pub struct Client {
 }
 
 impl Model for Client {
-    ghost use Rattle.clients.specs.ClientRecord.{ClientRecord};
-
     ghost Value = { ClientRecord };
-
-    ghost use Rattle.std.specs.Prelude.{map, string_bytes};
-    ghost use Rattle.clients.specs.RegistryRules.{IsClient};
 
     ghost view = { λ c. record { id = string_bytes c.id; secrets = c.secrets; redirects = map string_bytes c.redirects.items; allowed = c.allowed; grants = c.grants } };
 
@@ -73,10 +70,7 @@ impl Client {
     pub fn has_secret(&self, secret: &str) -> bool
         ensures { result ≡ has_secret secret.now self.now }
     {
-        match sent_digest(secret.as_bytes()) {
-            Some(digest) => self.secrets.has(&digest),
-            None => false,
-        }
+        sent_digest(secret.as_bytes()).is_some_and(|digest| self.secrets.has(&digest))
     }
 
     /// Whether the text is one of the client's redirect URIs, character by character (RFC 6749, section 3.1.2.3).
@@ -107,19 +101,16 @@ impl Client {
 #[derive(Drop)]
 pub(crate) struct Clients {
     list: Vec<Client>,
-    numbering: Numbering,
+    // The number of each, by its identifier: one is found without comparing every one.
+    numbers: BTreeMap<String, u32>,
 }
 
 impl Model for Clients {
-    ghost use Rattle.std.specs.Prelude.{◌≡◌, List};
-    ghost use Rattle.clients.specs.ClientRecord.{ClientRecord};
-    ghost use Rattle.clients.specs.Clients.{ids};
-
     ghost Value = { List ClientRecord };
 
     ghost view = { λ clients. clients.list.items };
 
-    ghost invariant = { λ clients. clients.numbering ≡ ids clients.list.items };
+    ghost invariant = { λ clients. IsIndex clients.numbers (ids clients.list.items) };
 }
 
 impl Clients {
@@ -128,8 +119,16 @@ impl Clients {
     {
         Clients {
             list: Vec::new(alloc),
-            numbering: Numbering::new(alloc),
+            numbers: BTreeMap::new(alloc),
         }
+    }
+
+    // The place of the client with this identifier, counted from 1.
+    fn place(&self, id: &str) -> Option<u32>
+        ensures value { result ≡ number_among id.now (ids self.now) }
+        ensures listed { IfSome result (λ number. (1 ≤ number) × (number ≤ length (ids self.now))) }
+    {
+        self.numbers.get(id).copied()
     }
 
     // The number of the client with this identifier.
@@ -137,7 +136,7 @@ impl Clients {
         ensures value { result ≡ number_among id.now (ids self.now) }
         ensures listed { IfSome result (λ number. number ≤ length self.now) }
     {
-        self.numbering.number(id.as_bytes()).map(ClientNo::new)
+        self.place(id).map(ClientNo::new)
     }
 
     // The client of this number.
@@ -169,8 +168,10 @@ impl Clients {
         ensures ok { OnOk result (self.new ≡ self.old ++ client ∷ []) }
         ensures err { OnErr result (self.new ≡ self.old) }
     {
+        let number = self.list.len() as u32 + 1;
         self.list.reserve(1)?;
-        self.numbering.push(alloc, client.id())?;
+        self.numbers
+            .insert(String::from_str(alloc, client.id())?, number)?;
         let Ok(()) = self.list.push(client) else {
             unreachable!();
         };
@@ -213,19 +214,13 @@ fn scope_member(catalogue: &Catalogue, value: &Value) -> Result<ScopeSet, Config
     scope(catalogue, member(value, "scope")?)
 }
 
-// The list of the member `grants`.
-fn grants_in(value: &Value) -> Result<&[Value], ConfigFault>
-    ensures { seen_by (λ list. items_view list.now) result ≡ grants_in (view value.now) }
-{
-    list(member(value, "grants")?)
-}
-
 // The member `grants` of the client with the number.
 fn grants_member(client: usize, value: &Value) -> Result<Grants, Refusal>
     ensures { result ≡ grants_member client (view value.now) }
 {
     let spot = Spot::Client(client, ClientSpot::Grants(None));
-    grant_set(client, located(spot, grants_in(value))?)
+    let list = located(spot, member(value, "grants").and_then(list))?;
+    grant_set(client, list)
 }
 
 // A client after these.

@@ -6,7 +6,6 @@ mod digest;
 mod fault;
 mod grant;
 mod json;
-mod numbering;
 mod owner;
 mod redirect;
 mod registry;

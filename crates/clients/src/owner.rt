@@ -1,6 +1,6 @@
 //! The owners of a registry.
 
-ghost use Rattle.std.specs.Prelude.{◌≡◌, ◌<◌, ◌≤◌, [], ◌∷◌, ◌++◌, length, map, string_bytes, option_map, option_copied, bytes_eq, is_some, None, IfSome, OnOk, OnErr};
+ghost use Rattle.std.specs.Prelude.{◌≡◌, ◌<◌, ◌≤◌, [], ◌∷◌, ◌++◌, length, map, string_bytes, option_map, option_copied, bytes_eq, is_some, None, IfSome, OnOk, OnErr, List};
 ghost use Rattle.serde_json.specs.View.{view, items_view};
 ghost use Rattle.clients.specs.Limits.{owner_limit, key_limit};
 ghost use Rattle.clients.specs.Faults.{GivesUnless};
@@ -9,6 +9,8 @@ ghost use Rattle.clients.specs.Keys.{key_digest};
 ghost use Rattle.clients.specs.Numbers.{number_among};
 ghost use Rattle.clients.specs.Owners.{keys, owner_with, sub_of, key_in, new_key, sub_member, owner_of, owners_after};
 ghost use Rattle.clients.specs.declared.fault.Refusal.TheVariants as refusal;
+ghost use Rattle.clients.specs.OwnerRecord.{OwnerRecord};
+ghost use Rattle.clients.specs.RegistryRules.{IsOwner};
 
 use crate::digest::{are_same, key_digest, sent_digest};
 use crate::fault::{ConfigFault, Refusal, located};
@@ -27,12 +29,7 @@ pub(crate) struct Owner {
 }
 
 impl Model for Owner {
-    ghost use Rattle.clients.specs.OwnerRecord.{OwnerRecord};
-
     ghost Value = { OwnerRecord };
-
-    ghost use Rattle.std.specs.Prelude.{option_map, string_bytes};
-    ghost use Rattle.clients.specs.RegistryRules.{IsOwner};
 
     ghost view = { λ o. record { key = o.key; sub = option_map string_bytes o.sub } };
 
@@ -52,10 +49,7 @@ impl Owner {
         ensures value { option_copied result ≡ self.now.sub }
         ensures short { IfSome result (λ text. length text.now ≤ key_limit) }
     {
-        match &self.sub {
-            Some(sub) => Some(sub.as_str()),
-            None => None,
-        }
+        Some(self.sub.as_ref()?.as_str())
     }
 }
 
@@ -66,10 +60,6 @@ pub(crate) struct Owners {
 }
 
 impl Model for Owners {
-    ghost use Rattle.std.specs.Prelude.{◌≤◌, List, length};
-    ghost use Rattle.clients.specs.Limits.{owner_limit};
-    ghost use Rattle.clients.specs.OwnerRecord.{OwnerRecord};
-
     ghost Value = { List OwnerRecord };
 
     ghost view = { λ owners. owners.list.items };
@@ -152,10 +142,7 @@ impl Owners {
 fn key_in(value: &Value) -> &Value
     ensures { view result.now ≡ key_in (view value.now) }
 {
-    match value.get("key") {
-        Some(key) => key,
-        None => value,
-    }
+    value.get("key").unwrap_or(value)
 }
 
 // The digest of an owner's key, which none of the owners has.

@@ -8,9 +8,10 @@ ghost use Rattle.clients.specs.Numbers.{number_among};
 ghost use Rattle.clients.specs.Limits.{key_limit, owner_limit};
 ghost use Rattle.clients.specs.Owners.{owner_with, sub_of};
 ghost use Rattle.clients.specs.Clients.{ids, client_at};
-ghost use Rattle.clients.specs.Registry.{IsReadable, AreLivesAndOperatorRight, life_member, operator_member, owners_member, scopes_member, clients_member, registry_of, data_of, registry_in, spot_in, is_operator_key, has_operator_among_owners};
+ghost use Rattle.clients.specs.Registry.{IsReadable, AreLivesAndOperatorRight, owners_member, scopes_member, clients_member, registry_of, data_of, registry_in, spot_in, is_operator_key, has_operator_among_owners};
 ghost use Rattle.clients.specs.declared.fault.Refusal.TheVariants as refusal;
 ghost use Rattle.clients.specs.RegistryRules.{IsRegistry};
+ghost use Rattle.clients.specs.RegistryRecord.{RegistryRecord};
 
 use crate::client::{Client, Clients, client_list};
 use crate::digest::{are_same, key_digest, sent_digest};
@@ -59,11 +60,7 @@ impl Drop for Registry {
 }
 
 impl Model for Registry {
-    ghost use Rattle.clients.specs.RegistryRecord.{RegistryRecord};
-
     ghost Value = { RegistryRecord };
-
-    ghost use Rattle.clients.specs.RegistryRules.{IsRegistry};
 
     ghost view = { λ r. record { access_life = r.access_life; refresh_life = r.refresh_life; operator = r.operator; owners = r.owners; scopes = r.catalogue; clients = r.clients } };
 
@@ -83,10 +80,7 @@ impl Registry {
         if bytes.len() > MOST_BYTES {
             return Err(ConfigFault::OutOfRange);
         }
-        match read_registry(alloc, &read_data(alloc, bytes)?) {
-            Ok(registry) => Ok(registry),
-            Err(refusal) => Err(refusal.fault()),
-        }
+        read_registry(alloc, &read_data(alloc, bytes)?).map_err(Refusal::fault)
     }
 
     /// Where in JSON text of no registry its first fault lies. None: the text as a whole is at fault, or nothing is.
@@ -176,10 +170,7 @@ impl Registry {
     pub fn is_operator(&self, key: &[u8]) -> bool
         ensures { result ≡ is_operator_key key.now self.now }
     {
-        match sent_digest(key) {
-            Some(digest) => are_same(&digest, &self.operator),
-            None => false,
-        }
+        sent_digest(key).is_some_and(|digest| are_same(&digest, &self.operator))
     }
 
     /// The life of an access token, in seconds.
@@ -225,20 +216,6 @@ fn read_data(alloc: Global, bytes: &[u8]) -> Result<Value, ConfigFault>
     }
 }
 
-// The member of this name: a life.
-fn life_member(value: &Value, name: &str) -> Result<u32, ConfigFault>
-    ensures { result ≡ life_member name.now (view value.now) }
-{
-    life(member(value, name)?)
-}
-
-// The member `operator`.
-fn operator_member(value: &Value) -> Result<Digest, ConfigFault>
-    ensures { result ≡ operator_member (view value.now) }
-{
-    key_digest(member(value, "operator")?)
-}
-
 // The member `owners`.
 fn owners_member(alloc: Global, value: &Value) -> Result<Owners, Refusal>
     ensures { GivesUnless refusal.Memory Unit result (owners_member (view value.now)) }
@@ -267,9 +244,18 @@ fn clients_member(alloc: Global, catalogue: &Catalogue, value: &Value) -> Result
 fn read_registry(alloc: Global, value: &Value) -> Result<Registry, Refusal>
     ensures { GivesUnless refusal.Memory (AreLivesAndOperatorRight (view value.now)) result (registry_of (view value.now)) }
 {
-    let access_life = located(Spot::AccessLife, life_member(value, "access_life"))?;
-    let refresh_life = located(Spot::RefreshLife, life_member(value, "refresh_life"))?;
-    let operator = located(Spot::Operator, operator_member(value))?;
+    let access_life = located(
+        Spot::AccessLife,
+        member(value, "access_life").and_then(life),
+    )?;
+    let refresh_life = located(
+        Spot::RefreshLife,
+        member(value, "refresh_life").and_then(life),
+    )?;
+    let operator = located(
+        Spot::Operator,
+        member(value, "operator").and_then(key_digest),
+    )?;
     let owners = owners_member(alloc, value)?;
     let catalogue = scopes_member(alloc, value)?;
     let clients = clients_member(alloc, &catalogue, value)?;

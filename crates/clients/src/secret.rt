@@ -1,6 +1,6 @@
 //! The secrets of a client: one, or two while one takes the other's place.
 
-ghost use Rattle.std.specs.Prelude.{◌≡◌, bytes_eq};
+ghost use Rattle.std.specs.Prelude.{◌≡◌, bytes_eq, ℕ, List, ◌∷◌, option_to_list};
 ghost use Rattle.std.specs.List.{list_any};
 ghost use Rattle.serde_json.specs.View.{view, items_view};
 ghost use Rattle.clients.specs.Clients.{one_or_two, secrets_of};
@@ -20,8 +20,6 @@ pub(crate) struct Secrets {
 }
 
 impl Model for Secrets {
-    ghost use Rattle.std.specs.Prelude.{ℕ, List, ◌∷◌, option_to_list};
-
     ghost Value = { List (List ℕ) };
 
     ghost view = { λ s. s.first ∷ option_to_list s.second };

@@ -1,5 +1,8 @@
 //! A code or token as a store keeps it, from which a store is made again.
 
+ghost use Rattle.consent.specs.RecordFacts.{KindFact, kind_fact, RecordFact, record_fact};
+ghost use Rattle.consent.specs.RecordFormats.{kept_kind_format, record_format};
+
 use crate::digest::Digest;
 use crate::grant::TokenKind;
 use crate::numbers::{ClientNo, Moment, OwnerNo};
@@ -38,9 +41,6 @@ pub struct KeptRecord<'a> {
 
 #[tactic(auto, unfolding(crate::specs::RecordFormats::kept_kind_format))]
 impl Wire for KeptKind<'_> {
-    ghost use Rattle.consent.specs.RecordFacts.{KindFact, kind_fact};
-    ghost use Rattle.consent.specs.RecordFormats.{kept_kind_format};
-
     ghost Value = { KindFact };
 
     ghost value = { kind_fact };
@@ -83,9 +83,6 @@ impl<'a> FromWire<'a> for KeptKind<'a> {
 
 #[tactic(auto, unfolding(crate::specs::RecordFormats::record_format))]
 impl Wire for KeptRecord<'_> {
-    ghost use Rattle.consent.specs.RecordFacts.{RecordFact, record_fact};
-    ghost use Rattle.consent.specs.RecordFormats.{record_format};
-
     ghost Value = { RecordFact };
 
     ghost value = { record_fact };

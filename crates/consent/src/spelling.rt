@@ -1,5 +1,14 @@
 //! What changes are made of, as bytes.
 
+ghost use Rattle.std.specs.Prelude.{ℕ, List};
+ghost use Rattle.consent.specs.Formats.{party_format, moment_format, version_format, kind_format, token_format, code_format, fact_format, consent_format};
+ghost use Rattle.wire.specs.Format.{u64_format, fixed};
+ghost use Rattle.consent.specs.declared.record_version.RecordVersion.{RecordVersion};
+ghost use Rattle.consent.specs.declared.grant.TokenKind.{TokenKind};
+ghost use Rattle.consent.specs.declared.change.NewToken.{NewToken};
+ghost use Rattle.consent.specs.Facts.{GivenCode, code_of, Fact, fact_of};
+ghost use Rattle.consent.specs.declared.kept_consent.KeptConsent.{KeptConsent};
+
 use crate::change::{Change, CodeFacts, NewToken};
 use crate::digest::Digest;
 use crate::grant::TokenKind;
@@ -10,9 +19,6 @@ use crate::scope::ScopeSet;
 use wire::{DecodeFault, EncodeFault, Fault, FromWire, Reader, Wire};
 
 impl Wire for ClientNo {
-    ghost use Rattle.std.specs.Prelude.{ℕ};
-    ghost use Rattle.consent.specs.Formats.{party_format};
-
     ghost Value = { ℕ };
 
     ghost value = { λ n. n };
@@ -35,9 +41,6 @@ impl<'a> FromWire<'a> for ClientNo {
 }
 
 impl Wire for OwnerNo {
-    ghost use Rattle.std.specs.Prelude.{ℕ};
-    ghost use Rattle.consent.specs.Formats.{party_format};
-
     ghost Value = { ℕ };
 
     ghost value = { λ n. n };
@@ -60,9 +63,6 @@ impl<'a> FromWire<'a> for OwnerNo {
 }
 
 impl Wire for Moment {
-    ghost use Rattle.std.specs.Prelude.{ℕ};
-    ghost use Rattle.consent.specs.Formats.{moment_format};
-
     ghost Value = { ℕ };
 
     ghost value = { λ n. n };
@@ -85,9 +85,6 @@ impl<'a> FromWire<'a> for Moment {
 }
 
 impl Wire for ScopeSet {
-    ghost use Rattle.std.specs.Prelude.{ℕ};
-    ghost use Rattle.wire.specs.Format.{u64_format};
-
     ghost Value = { ℕ };
 
     ghost value = { λ scope. scope };
@@ -106,9 +103,6 @@ impl<'a> FromWire<'a> for ScopeSet {
 }
 
 impl Wire for Digest {
-    ghost use Rattle.std.specs.Prelude.{List, ℕ};
-    ghost use Rattle.wire.specs.Format.{fixed};
-
     ghost Value = { List ℕ };
 
     ghost value = { λ digest. digest };
@@ -127,9 +121,6 @@ impl<'a> FromWire<'a> for Digest {
 }
 
 impl Wire for RecordVersion {
-    ghost use Rattle.consent.specs.declared.record_version.RecordVersion.{RecordVersion};
-    ghost use Rattle.consent.specs.Formats.{version_format};
-
     ghost Value = { RecordVersion };
 
     ghost value = { λ version. version };
@@ -151,9 +142,6 @@ impl<'a> FromWire<'a> for RecordVersion {
 }
 
 impl Wire for TokenKind {
-    ghost use Rattle.consent.specs.declared.grant.TokenKind.{TokenKind};
-    ghost use Rattle.consent.specs.Formats.{kind_format};
-
     ghost Value = { TokenKind };
 
     ghost value = { λ kind. kind };
@@ -180,9 +168,6 @@ impl<'a> FromWire<'a> for TokenKind {
 
 #[tactic(auto, unfolding(crate::specs::Formats::token_format))]
 impl Wire for NewToken {
-    ghost use Rattle.consent.specs.declared.change.NewToken.{NewToken};
-    ghost use Rattle.consent.specs.Formats.{token_format};
-
     ghost Value = { NewToken };
 
     ghost value = { λ token. token };
@@ -211,9 +196,6 @@ impl<'a> FromWire<'a> for NewToken {
 
 #[tactic(auto, unfolding(crate::specs::Formats::code_format))]
 impl Wire for CodeFacts<'_> {
-    ghost use Rattle.consent.specs.Facts.{GivenCode, code_of};
-    ghost use Rattle.consent.specs.Formats.{code_format};
-
     ghost Value = { GivenCode };
 
     ghost value = { code_of };
@@ -244,9 +226,6 @@ impl<'a> FromWire<'a> for CodeFacts<'a> {
 
 #[tactic(auto, unfolding(crate::specs::Formats::fact_format))]
 impl Wire for Change<'_> {
-    ghost use Rattle.consent.specs.Facts.{Fact, fact_of};
-    ghost use Rattle.consent.specs.Formats.{fact_format};
-
     ghost Value = { Fact };
 
     ghost value = { fact_of };
@@ -351,9 +330,6 @@ impl<'a> FromWire<'a> for Change<'a> {
 
 #[tactic(auto, unfolding(crate::specs::Formats::consent_format))]
 impl Wire for KeptConsent {
-    ghost use Rattle.consent.specs.declared.kept_consent.KeptConsent.{KeptConsent};
-    ghost use Rattle.consent.specs.Formats.{consent_format};
-
     ghost Value = { KeptConsent };
 
     ghost value = { λ consent. consent };

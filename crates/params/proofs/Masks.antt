@@ -1,8 +1,9 @@
 -- Names, and masks of them.
-use Rattle.std.proofs.Common.{◌≡◌, ℕ, ◌+◌, ◌*◌, ◌/◌, ◌^◌, ◌<◌, suc, zero, List, [], ◌∷◌, map, length, Bool, true, false, cond, refl, sym, ap, ◌∙◌, arith, Option, Some, None, option_map, bit_or, max, add-one}
-use Rattle.params.proofs.Names.{String, bytes_eq, list_any, position_from, or_parts, bit_at_or, bit_at_lowest, bit_at-suc, bit_at-zero, same_from_bits, pow-succ', zero-max, bit_at, any_twice}
+use Rattle.std.proofs.Common.{◌≡◌, ℕ, ◌+◌, ◌*◌, ◌^◌, ◌<◌, suc, zero, List, [], ◌∷◌, map, length, Bool, true, false, cond, refl, sym, ap, ◌∙◌, arith, Option, Some, None, option_map, bit_or, add-one}
+use Rattle.params.proofs.Names.{String, bytes_eq, list_any, position_from, or_parts, pow-succ', any_twice}
 use Rattle.params.proofs.Names.{bytes_eq-sym, same_bytes, bit_of, bit_of-small, is_among, mask_of, place_among}
 use Rattle.std.specs.Prelude.{string_bytes}
+use Rattle.std.proofs.lemmas.Nat.{or_block}
 
 module _ {Y : Type 0} where
   pub position_from-texts : (name : List ℕ) (i : ℕ) (names : List (String Y)) → position_from (λ s. bytes_eq name (string_bytes s)) i names ≡ position_from (bytes_eq name) i (map string_bytes names)
@@ -11,34 +12,24 @@ module _ {Y : Type 0} where
 
 -- ---- one more token
 
-half : (b m : ℕ) → b < 2 → (b + 2 * m) / 2 ≡ m
-half b m small = omega arith
-
-double : (x : ℕ) → 2 * x / 2 ≡ x
-double x = omega arith
-
 -- doubling, and setting the lowest bit
 bit_or-even : (x b m : ℕ) → b < 2 → bit_or (2 * x) (b + 2 * m) ≡ b + 2 * bit_or x m
-bit_or-even x b m small = same_from_bits _ _ by
-  where
-    by : (i : ℕ) → bit_at (bit_or (2 * x) (b + 2 * m)) i ≡ bit_at (b + 2 * bit_or x m) i
-    by zero = omega (arith, bit_at_or (2 * x) (b + 2 * m) 0, bit_at_lowest (2 * x), bit_at_lowest (b + 2 * m), bit_at_lowest (b + 2 * bit_or x m))
-    by (suc i) =
-        let x' : bit_at (2 * x) (suc i) ≡ bit_at x i = bit_at-suc (2 * x) i ∙ ap (λ n. bit_at n i) (double x) in
-        let m' : bit_at (b + 2 * m) (suc i) ≡ bit_at m i = bit_at-suc (b + 2 * m) i ∙ ap (λ n. bit_at n i) (half b m small) in
-        let both : bit_at (b + 2 * bit_or x m) (suc i) ≡ bit_at (bit_or x m) i = bit_at-suc (b + 2 * bit_or x m) i ∙ ap (λ n. bit_at n i) (half b (bit_or x m) small) in
-        bit_at_or (2 * x) (b + 2 * m) (suc i) ∙ ap (λ n. max n (bit_at (b + 2 * m) (suc i))) x' ∙ ap (λ n. max (bit_at x i) n) m' ∙ sym (bit_at_or x m i) ∙ sym both
+bit_or-even x b m small =
+    let left : 2 * x ≡ x * 2 ^ 1 + 0 = omega arith in
+    let right : b + 2 * m ≡ m * 2 ^ 1 + b = omega arith in
+    let both : bit_or (x * 2 ^ 1 + 0) (m * 2 ^ 1 + b) ≡ bit_or x m * 2 ^ 1 + b = or_block 1 x m 0 b (omega arith) small in
+    rw (left, right, both) (omega arith)
 
 bit_or-one : (b m : ℕ) → b < 2 → bit_or 1 (b + 2 * m) ≡ 1 + 2 * m
-bit_or-one b m small = same_from_bits _ _ by
+bit_or-one b m small =
+    let right : b + 2 * m ≡ m * 2 ^ 1 + b = omega arith in
+    let both : bit_or 1 (m * 2 ^ 1 + b) ≡ m * 2 ^ 1 + bit_or 1 b = or_block 1 0 m 1 b (omega arith) small in
+    rw (right, both, lowest b small) (omega arith)
   where
-    by : (i : ℕ) → bit_at (bit_or 1 (b + 2 * m)) i ≡ bit_at (1 + 2 * m) i
-    by zero = omega (arith, bit_at_or 1 (b + 2 * m) 0, bit_at_lowest 1, bit_at_lowest (b + 2 * m), bit_at_lowest (1 + 2 * m))
-    by (suc i) =
-        let none : bit_at 1 (suc i) ≡ 0 = bit_at-suc 1 i ∙ bit_at-zero i in
-        let m' : bit_at (b + 2 * m) (suc i) ≡ bit_at m i = bit_at-suc (b + 2 * m) i ∙ ap (λ n. bit_at n i) (half b m small) in
-        let one : bit_at (1 + 2 * m) (suc i) ≡ bit_at m i = bit_at-suc (1 + 2 * m) i ∙ ap (λ n. bit_at n i) (half 1 m (omega arith)) in
-        bit_at_or 1 (b + 2 * m) (suc i) ∙ ap (λ n. max n (bit_at (b + 2 * m) (suc i))) none ∙ zero-max _ ∙ m' ∙ sym one
+    lowest : (b : ℕ) → b < 2 → bit_or 1 b ≡ 1
+    lowest zero small = refl
+    lowest (suc zero) small = refl
+    lowest (suc (suc b)) small = absurd (omega arith)
 
 pub mask_of-nil : (names : List (List ℕ)) → mask_of names [] ≡ 0
 mask_of-nil [] = refl

@@ -1,19 +1,13 @@
 -- A scope text read token by token.
-use Rattle.std.proofs.Common.{◌≡◌, ℕ, ◌*◌, ◌%◌, ◌^◌, ◌<◌, List, [], ◌∷◌, true, false, refl, sym, ap, ◌∙◌, arith, Option, Some, None, is_some, if◌then◌else◌, bit_or, max}
-use Rattle.params.proofs.Names.{bytes_eq, list_all, YieldsList, bit_at_or, same_from_bits, bit_at, any_twice, is_among, mask_of, place_among, is_some-position_from}
+use Rattle.std.proofs.Common.{◌≡◌, ℕ, ◌*◌, ◌%◌, ◌^◌, ◌<◌, List, [], ◌∷◌, true, false, refl, sym, ap, ◌∙◌, arith, Option, Some, None, is_some, if◌then◌else◌, bit_or}
+use Rattle.params.proofs.Names.{bytes_eq, list_all, YieldsList, bit_at_or, same_from_bits, any_twice, is_among, mask_of, place_among, is_some-position_from}
 use Rattle.std.specs.Borrow.{Bor}
 use Rattle.std.proofs.Math.Pow.{pow-lt}
 use Rattle.std.specs.Int.Bits.{or_zero_r}
 use Rattle.params.proofs.Masks.{mask_of-cons, mask_of-nil}
 
 or_assoc : (a b c : ℕ) → bit_or (bit_or a b) c ≡ bit_or a (bit_or b c)
-or_assoc a b c = same_from_bits _ _ (λ i.
-    bit_at_or (bit_or a b) c i ∙ ap (λ n. max n (bit_at c i)) (bit_at_or a b i)
-    ∙ by (bit_at a i) (bit_at b i) (bit_at c i)
-    ∙ ap (λ n. max (bit_at a i) n) (sym (bit_at_or b c i)) ∙ sym (bit_at_or a (bit_or b c) i))
-  where
-    by : (x y z : ℕ) → max (max x y) z ≡ max x (max y z)
-    by x y z = omega arith
+or_assoc a b c = same_from_bits _ _ (λ i. omega (arith, bit_at_or (bit_or a b) c i, bit_at_or a b i, bit_at_or a (bit_or b c) i, bit_at_or b c i))
 
 -- the answer, when the tokens so far have this mask and those are left
 abbrev pub scope_after : List (List ℕ) → ℕ → List (List ℕ) → Option ℕ

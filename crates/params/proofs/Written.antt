@@ -1,5 +1,5 @@
 -- The written text of a set of names, and that it is read back as that set.
-use Rattle.std.proofs.Common.{◌≡◌, ◌≢◌, ◌≤◌, ℕ, ◌+◌, ◌/◌, ◌%◌, ◌^◌, ◌<◌, List, [], ◌∷◌, ◌++◌, length, Bool, true, false, ◌==◌, refl, sym, ap, ◌∙◌, arith, append_assoc, drop, take, nat_le, nat_lt, Some, if◌then◌else◌}
+use Rattle.std.proofs.Common.{◌≡◌, ◌≢◌, ◌≤◌, ℕ, ◌+◌, ◌/◌, ◌%◌, ◌^◌, ◌<◌, List, [], ◌∷◌, ◌++◌, length, Bool, true, false, ◌==◌, refl, sym, ap, ◌∙◌, arith, append_assoc, drop, take, nat_le, nat_lt, Some}
 use Rattle.params.proofs.Names.{bytes_eq, All, list_all, join_with_byte, pow-succ', or_parts, or_left, or_right, and_parts, and_from, ne_eqb, eq-eqb}
 use Rattle.params.proofs.Names.{take-append-drop, drop_all, list_all-append, list_any-append, bytes_eq-Decides, any_twice, is_scope_character, is_scope_token, is_scope_name, is_among, IsCatalogue}
 use Rattle.params.proofs.Names.{tokens_of, mask_of, names_in_mask, scope_mask, scope_text, text_with_name, list_all-names_of}
@@ -28,16 +28,12 @@ pub text_after-odd : (text : List ℕ) (names : List (List ℕ)) (i left : ℕ) 
     → text_after text (names_in_mask (drop i names) left) ≡ text_after (text_with_name text name) (names_in_mask (drop (i + 1) names) (left / 2))
 text_after-odd text names i left name all at odd =
     let is = (and_parts (is_scope_name name) (list_all is_scope_name (drop (i + 1) names)) (ap (λ l. list_all is_scope_name l) (sym at) ∙ list_all-drop is_scope_name i names all)).0 in
-    ap (λ l. text_after text (names_in_mask l left)) at
-    ∙ ap (λ b. text_after text (if b then name ∷ names_in_mask (drop (i + 1) names) (left / 2) else names_in_mask (drop (i + 1) names) (left / 2))) (eq-eqb (left % 2) 1 odd)
-    ∙ text_after-cons text name (names_in_mask (drop (i + 1) names) (left / 2)) is
+    rw (at, eq-eqb (left % 2) 1 odd) (text_after-cons text name (names_in_mask (drop (i + 1) names) (left / 2)) is)
 
 -- and where it is not
 pub text_after-even : (text : List ℕ) (names : List (List ℕ)) (i left : ℕ) (name : List ℕ) → drop i names ≡ name ∷ drop (i + 1) names → left % 2 ≢ 1
     → text_after text (names_in_mask (drop i names) left) ≡ text_after text (names_in_mask (drop (i + 1) names) (left / 2))
-text_after-even text names i left name at even =
-    ap (λ l. text_after text (names_in_mask l left)) at
-    ∙ ap (λ b. text_after text (if b then name ∷ names_in_mask (drop (i + 1) names) (left / 2) else names_in_mask (drop (i + 1) names) (left / 2))) (ne_eqb (left % 2) 1 even)
+text_after-even text names i left name at even = rw (at, ne_eqb (left % 2) 1 even) refl
 
 -- past the last name the text is whole
 pub text_after-end : (text whole : List ℕ) (names : List (List ℕ)) (i left : ℕ) → length names ≤ i
@@ -55,10 +51,7 @@ pub text_after-some : (text : List ℕ) (names : List (List ℕ)) (i left : ℕ)
     → 0 < length (text_after text (names_in_mask (drop i names) left))
 text_after-some text names i left name all at odd =
     let is = (and_parts (is_scope_name name) (list_all is_scope_name (drop (i + 1) names)) (ap (λ l. list_all is_scope_name l) (sym at) ∙ list_all-drop is_scope_name i names all)).0 in
-    let here : names_in_mask (drop i names) left ≡ name ∷ names_in_mask (drop (i + 1) names) (left / 2) =
-    ap (λ l. names_in_mask l left) at
-    ∙ ap (λ b. if b then name ∷ names_in_mask (drop (i + 1) names) (left / 2) else names_in_mask (drop (i + 1) names) (left / 2)) (eq-eqb (left % 2) 1 odd) in
-    rw here (some_after text name (names_in_mask (drop (i + 1) names) (left / 2)) is)
+    rw (at, eq-eqb (left % 2) 1 odd) (some_after text name (names_in_mask (drop (i + 1) names) (left / 2)) is)
 
 -- ---- read back
 

@@ -2,7 +2,7 @@
 ghost use Rattle.std.specs.Prelude.{◌≡◌, ◌<◌, ◌≤◌, ◌^◌, ℕ, List, [], ◌∷◌, ◌++◌, length, OnOk, OnErr, IfOk, IfErr, IfSome, Some, None, is_some, map, string_bytes};
 ghost use Rattle.params.specs.declared.catalogue.CatalogueFault.TheVariants.{Memory};
 ghost use Rattle.params.specs.Limits.{scope_text_limit};
-ghost use Rattle.params.specs.Scope.{IsNameRefusal, IsReadBack, name_fault, scope_mask, scope_text, text_with_name, place_among, is_among, is_scope_token, is_scope_character};
+ghost use Rattle.params.specs.Scope.{IsNameRefusal, IsReadBack, name_fault, scope_mask, scope_text, text_with_name, place_among, is_among, is_scope_token, is_scope_character, IsCatalogue};
 
 use consent::ScopeSet;
 use std::alloc::{AllocError, AllocFailed, Global};
@@ -58,9 +58,6 @@ pub struct Catalogue {
 }
 
 impl Model for Catalogue {
-    ghost use Rattle.std.specs.Prelude.{ℕ, List, map, string_bytes};
-    ghost use Rattle.params.specs.Scope.{IsCatalogue};
-
     ghost Value = { List (List ℕ) };
 
     ghost view = { λ a. map string_bytes a.names.items };

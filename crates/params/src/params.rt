@@ -1,5 +1,5 @@
 // The parameters of a query or a form.
-ghost use Rattle.std.specs.Prelude.{◌≡◌, ◌<◌, length, IfOk, IfErr, Ok, Some, option_copied};
+ghost use Rattle.std.specs.Prelude.{◌≡◌, ◌<◌, length, IfOk, IfErr, Ok, Some, option_copied, ℕ, List};
 ghost use Rattle.params.specs.declared.params.ParamFault.TheVariants.{Memory};
 ghost use Rattle.params.specs.Form.{IsFormRefusal, read_params, value_sent, has_replacement, any_twice, names_of_pairs, texts_of};
 
@@ -51,9 +51,6 @@ pub struct Params<'a> {
 }
 
 impl<'a> Model for Params<'a> {
-    ghost use Rattle.std.specs.Prelude.{ℕ, List};
-    ghost use Rattle.params.specs.Form.{texts_of};
-
     ghost Value = { List (List ℕ × List ℕ) };
 
     ghost view = { λ a. texts_of a.pairs.items };

@@ -14,11 +14,7 @@ use Rattle.pkce.specs.TokenLaws.{decoded-from_token, token_text-from_token, leng
 
 -- a text that is read as nothing
 pub unread : (text : List ℕ) → ((bytes : List ℕ) → token_bytes text ≡ Some bytes → ⊥) → None ≡ token_bytes text
-unread text never = by (token_bytes text) refl
-  where
-    by : (o : Option (List ℕ)) → token_bytes text ≡ o → None ≡ token_bytes text
-    by None e = sym e
-    by (Some bytes) e = absurd (never bytes e)
+unread text never = grind (arith, never)
 
 -- a text that is read has 43 characters
 pub length-43 : (text bytes : List ℕ) → IsBytes text → token_bytes text ≡ Some bytes → length text ≡ 43

@@ -1,10 +1,8 @@
 -- The last of objects.
-use Rattle.std.proofs.Common.{◌≡◌, ℕ, ◌+◌, ◌-◌, List, [], ◌∷◌, ◌++◌, length, refl, sym, ap, ◌∙◌, false, ◌||◌, Option, Some, None, map, String, Global, Vec, string_bytes, arith}
+use Rattle.std.proofs.Common.{◌≡◌, ℕ, ◌+◌, ◌-◌, List, [], ◌∷◌, ◌++◌, length, refl, sym, ap, ◌∙◌, Option, Some, None, map, String, Global, Vec, arith}
 use Rattle.std.specs.Prelude.{slice_get, option_to_list, MatchOption}
 use native.Mathlib.Numerals.{unary_clauses}
-use Rattle.std.specs.List.{list_any}
 use Rattle.std.specs.Option.{option_map_or}
-use Rattle.std.specs.Str.{bytes_eq}
 use Rattle.std.proofs.lemmas.List.{map-append}
 use Rattle.registry_warnings.specs.Warnings.{Objects, names_listed, innermost, outer}
 
@@ -28,12 +26,6 @@ popped (o ∷ old) new None is n m count few = absurd (omega (arith, count, few.
 popped old new (Some last) is n m count few =
     let mapped : map names_listed old ≡ map names_listed new ++ names_listed last ∷ [] = ap (λ (l : List (Vec (String Global) Global)). map names_listed l) is ∙ map-append names_listed new (last ∷ []) in
     (rw mapped (sym (innermost-append (map names_listed new) (names_listed last))), rw mapped (sym (outer-append (map names_listed new) (names_listed last))))
-
--- a text is among the texts of strings where one of the strings has it
-pub any_text : (text : List ℕ) (strings : List (String Global))
-    → list_any (λ s. bytes_eq text (string_bytes s)) strings ≡ list_any (bytes_eq text) (map string_bytes strings)
-any_text text [] = refl
-any_text text (s ∷ ss) = ap (λ b. bytes_eq text (string_bytes s) || b) (any_text text ss)
 
 -- the innermost one is the last
 pub last-innermost : (open_ones : List (Vec (String Global) Global)) (names : Vec (String Global) Global)

@@ -7,7 +7,7 @@ use Rattle.std.specs.Result.{result_ok}
 use Rattle.std.specs.Str.{is_utf8}
 use Rattle.hex.specs.Hex.{decode_sized}
 use Rattle.sha2.specs.Sha256.{sha256}
-use Rattle.json.specs.Token.{Token, begin_object, end_object, begin_array, end_array, key, string, number, boolean, null, bad}
+use Rattle.json.specs.Token.{Token, begin_object, end_object, key, string}
 use Rattle.json.specs.Lex.{tokens}
 use Rattle.clients.specs.Spots.{is_of_registry}
 use Rattle.registry_warnings.specs.Names.{is_of_key, is_known_in}
@@ -55,13 +55,7 @@ abbrev pub after : Objects → Token → Objects
 after objects begin_object = objects ++ [] ∷ []
 after objects end_object = outer objects
 after objects (key name) = with_member name objects
-after objects begin_array = objects
-after objects end_array = objects
-after objects (string text) = objects
-after objects (number text) = objects
-after objects (boolean b) = objects
-after objects null = objects
-after objects bad = objects
+after objects _ = objects
 
 -- a member whose name means nothing where it stands, and one that its object has already: a line each
 abbrev pub unknown_text : Objects → List ℕ → List ℕ
@@ -82,15 +76,8 @@ digest_text objects text =
 
 abbrev pub token_warnings : Objects → Token → List ℕ
 token_warnings objects (key name) = unknown_text objects name ++ twice_text objects name
-token_warnings objects begin_object = []
-token_warnings objects end_object = []
-token_warnings objects begin_array = []
-token_warnings objects end_array = []
 token_warnings objects (string text) = digest_text objects text
-token_warnings objects (number text) = []
-token_warnings objects (boolean b) = []
-token_warnings objects null = []
-token_warnings objects bad = []
+token_warnings objects _ = []
 
 -- of tokens, where these objects are open
 abbrev pub warnings : Objects → List Token → List ℕ

@@ -1,6 +1,6 @@
 //! The objects that are open where JSON text is read.
 
-ghost use Rattle.std.specs.Prelude.{◌≡◌, ◌-◌, map, option_copied, [], ◌∷◌, ◌++◌, length, bytes_eq, string_bytes, OnOk};
+ghost use Rattle.std.specs.Prelude.{◌≡◌, ◌-◌, map, option_copied, [], ◌∷◌, ◌++◌, length, bytes_eq, string_bytes, OnOk, ℕ, List};
 ghost use Rattle.std.specs.Option.{option_map_or};
 ghost use Rattle.std.specs.List.{list_any};
 ghost use Rattle.registry_warnings.specs.Warnings.{last_name, member_read, names_listed, innermost, outer, with_member};
@@ -17,10 +17,7 @@ fn stands_among(name: &str, names: &[String]) -> bool
 fn last_of(names: &[String]) -> Option<&str>
     ensures { option_copied result ≡ last_name (map string_bytes names.now) }
 {
-    match names.last() {
-        Some(name) => Some(name.as_str()),
-        None => None,
-    }
+    Some(names.last()?.as_str())
 }
 
 // The objects that are open, the innermost last, each with the names of its members so far.
@@ -30,9 +27,6 @@ pub(crate) struct Objects {
 }
 
 impl Model for Objects {
-    ghost use Rattle.std.specs.Prelude.{ℕ, List, map, string_bytes};
-    ghost use Rattle.registry_warnings.specs.Warnings.{names_listed};
-
     ghost Value = { List (List (List ℕ)) };
 
     ghost view = { λ objects. map names_listed objects.open.items };
@@ -58,9 +52,16 @@ impl Objects {
     pub(crate) fn place(&self) -> Option<&str>
         ensures { option_copied result ≡ member_read self.now }
     {
-        match self.open.first() {
-            Some(names) => last_of(names),
-            None => None,
+        last_of(self.open.first()?)
+    }
+
+    // The names of the members of the innermost one.
+    fn innermost(&self) -> &[String]
+        ensures { map string_bytes result.now ≡ innermost self.now }
+    {
+        match self.open.last() {
+            Some(names) => names,
+            None => &[],
         }
     }
 
@@ -68,10 +69,7 @@ impl Objects {
     pub(crate) fn member(&self) -> Option<&str>
         ensures { option_copied result ≡ last_name (innermost self.now) }
     {
-        match self.open.last() {
-            Some(names) => last_of(names),
-            None => None,
-        }
+        last_of(self.innermost())
     }
 
     // One more is open.
@@ -94,10 +92,7 @@ impl Objects {
     pub(crate) fn has(&self, name: &str) -> bool
         ensures { result ≡ list_any (bytes_eq name.now) (innermost self.now) }
     {
-        match self.open.last() {
-            Some(names) => stands_among(name, names),
-            None => false,
-        }
+        stands_among(name, self.innermost())
     }
 
     // The innermost one has a further member of this name.
@@ -105,10 +100,7 @@ impl Objects {
         ensures { OnOk result (self.new ≡ with_member name.now self.old) }
     {
         let own = String::from_str(alloc, name)?;
-        let mut names = match self.end() {
-            Some(names) => names,
-            None => Vec::new(alloc),
-        };
+        let mut names = self.end().unwrap_or(Vec::new(alloc));
         names.push(own)?;
         self.open.push(names)?;
         Ok(())

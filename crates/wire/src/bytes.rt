@@ -1,13 +1,13 @@
 //! Bytes and texts, as bytes.
 
+ghost use Rattle.std.specs.Prelude.{List, ℕ};
+ghost use Rattle.wire.specs.Format.{fixed, bytes_format, text_format};
+
 use crate::fault::{DecodeFault, EncodeFault, Fault};
 use crate::reader::Reader;
 use crate::wire::{FromWire, Wire};
 
 impl<const N: usize> Wire for [u8; N] {
-    ghost use Rattle.std.specs.Prelude.{List, ℕ};
-    ghost use Rattle.wire.specs.Format.{fixed};
-
     ghost Value = { List ℕ };
 
     ghost value = { λ bytes. bytes };
@@ -30,9 +30,6 @@ impl<'a, const N: usize> FromWire<'a> for [u8; N] {
 }
 
 impl Wire for &[u8] {
-    ghost use Rattle.std.specs.Prelude.{List, ℕ};
-    ghost use Rattle.wire.specs.Format.{bytes_format};
-
     ghost Value = { List ℕ };
 
     ghost value = { λ bytes. bytes.now };
@@ -57,9 +54,6 @@ impl<'a> FromWire<'a> for &'a [u8] {
 }
 
 impl Wire for &str {
-    ghost use Rattle.std.specs.Prelude.{List, ℕ};
-    ghost use Rattle.wire.specs.Format.{text_format};
-
     ghost Value = { List ℕ };
 
     ghost value = { λ text. text.now };

@@ -1,20 +1,17 @@
 //! Options and lists, as bytes.
 
-ghost use Rattle.std.specs.Prelude.{◌≡◌, map, OnOk, IsErrOf};
+ghost use Rattle.std.specs.Prelude.{◌≡◌, map, OnOk, IsErrOf, Option, List};
 ghost use Rattle.std.specs.List.{AllByRecursion};
 ghost use Rattle.wire.specs.declared.fault.EncodeFault.TheVariants.{TooLong};
 ghost use Rattle.wire.specs.Reading.{Reads};
-ghost use Rattle.wire.specs.Lists.{each_at, each_onto};
+ghost use Rattle.wire.specs.Lists.{each_at, each_onto, option_of, list_of};
+ghost use Rattle.std.specs.Option.{option_map};
 
 use crate::fault::{DecodeFault, EncodeFault, Fault};
 use crate::reader::Reader;
 use crate::wire::{FromWire, Wire};
 
 impl<T: Wire> Wire for Option<T> {
-    ghost use Rattle.std.specs.Prelude.{Option};
-    ghost use Rattle.std.specs.Option.{option_map};
-    ghost use Rattle.wire.specs.Lists.{option_of};
-
     ghost Value = { Option T.Value };
 
     ghost value = { option_map T.value };
@@ -78,9 +75,6 @@ fn take_each<'a, T: FromWire<'a> + Drop>(
 }
 
 impl<T: Wire> Wire for Vec<T> {
-    ghost use Rattle.std.specs.Prelude.{List, map};
-    ghost use Rattle.wire.specs.Lists.{list_of};
-
     ghost Value = { List T.Value };
 
     ghost value = { λ items. map T.value items.items };

@@ -1,13 +1,14 @@
 //! Numbers and whether, as bytes.
 
+ghost use Rattle.std.specs.Prelude.{ℕ, Bool};
+ghost use Rattle.wire.specs.Format.{u8_format, u32_format, u64_format};
+ghost use Rattle.wire.specs.Lists.{bool_format};
+
 use crate::fault::{DecodeFault, EncodeFault, Fault};
 use crate::reader::Reader;
 use crate::wire::{FromWire, Wire};
 
 impl Wire for u8 {
-    ghost use Rattle.std.specs.Prelude.{ℕ};
-    ghost use Rattle.wire.specs.Format.{u8_format};
-
     ghost Value = { ℕ };
 
     ghost value = { λ n. n };
@@ -27,9 +28,6 @@ impl<'a> FromWire<'a> for u8 {
 }
 
 impl Wire for u32 {
-    ghost use Rattle.std.specs.Prelude.{ℕ};
-    ghost use Rattle.wire.specs.Format.{u32_format};
-
     ghost Value = { ℕ };
 
     ghost value = { λ n. n };
@@ -50,9 +48,6 @@ impl<'a> FromWire<'a> for u32 {
 }
 
 impl Wire for u64 {
-    ghost use Rattle.std.specs.Prelude.{ℕ};
-    ghost use Rattle.wire.specs.Format.{u64_format};
-
     ghost Value = { ℕ };
 
     ghost value = { λ n. n };
@@ -75,9 +70,6 @@ impl<'a> FromWire<'a> for u64 {
 }
 
 impl Wire for bool {
-    ghost use Rattle.std.specs.Prelude.{Bool};
-    ghost use Rattle.wire.specs.Lists.{bool_format};
-
     ghost Value = { Bool };
 
     ghost value = { λ b. b };

@@ -1,6 +1,6 @@
 //! Bytes that are read from the front.
 
-ghost use Rattle.std.specs.Prelude.{◌≡◌, ◌↔◌, [], IsTrue};
+ghost use Rattle.std.specs.Prelude.{◌≡◌, ◌↔◌, [], IsTrue, List, ℕ};
 ghost use Rattle.wire.specs.Format.{byte_at, part_at, big_endian_at};
 ghost use Rattle.std.specs.Int.{w16, w32, w64};
 ghost use Rattle.wire.specs.Reading.{Reads};
@@ -17,8 +17,6 @@ pub struct Reader<'a> {
 }
 
 impl<'a> Model for Reader<'a> {
-    ghost use Rattle.std.specs.Prelude.{List, ℕ};
-
     ghost Value = { List ℕ };
 
     ghost view = { λ r. r.rest.now };

@@ -1,14 +1,15 @@
 //! What is written as bytes and read back.
 
+ghost use Rattle.std.specs.Prelude.{◌≡◌, List, ℕ, OnOk, IsErrOf};
+ghost use Rattle.wire.specs.Format.{Format};
+ghost use Rattle.wire.specs.declared.fault.EncodeFault.TheVariants.{TooLong};
+ghost use Rattle.wire.specs.Reading.{Reads};
+
 use crate::fault::{DecodeFault, EncodeFault};
 use crate::reader::Reader;
 
 /// What is written as bytes.
 pub trait Wire {
-    ghost use Rattle.std.specs.Prelude.{◌≡◌, List, ℕ, OnOk, IsErrOf};
-    ghost use Rattle.wire.specs.Format.{Format};
-    ghost use Rattle.wire.specs.declared.fault.EncodeFault.TheVariants.{TooLong};
-
     // What is spelled: a value without where its parts lie in memory.
     ghost Value: { Type 0 };
 
@@ -27,8 +28,6 @@ pub trait Wire {
 
 /// What is read from bytes. Texts may lie in the bytes.
 pub trait FromWire<'a>: Wire {
-    ghost use Rattle.wire.specs.Reading.{Reads};
-
     /// Takes the value from the front, or gives the first fault.
     fn from_wire(from: &mut Reader<'a>) -> Result<Self, DecodeFault>
         ensures { Reads Self.value result from.new (Self.format.read from.old) };
