@@ -33,10 +33,8 @@ pub enum BatchFault {
 impl Display for BatchFault {
     fn fmt<W: Write>(&self, f: &mut Formatter<W>) -> fmt::Result {
         match self {
-            BatchFault::Memory => write!(f, "Memory"),
             BatchFault::Failed(reason) => write!(f, "Failed: {reason}"),
-            BatchFault::Full => write!(f, "Full"),
-            BatchFault::TooLong => write!(f, "TooLong"),
+            _ => write!(f, "{self:?}"),
         }
     }
 }

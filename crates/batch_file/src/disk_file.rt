@@ -57,14 +57,8 @@ pub enum OpenFault {
 impl Display for OpenFault {
     fn fmt<W: std::fmt::Write>(&self, f: &mut Formatter<W>) -> fmt::Result {
         match self {
-            OpenFault::Memory => write!(f, "Memory"),
-            OpenFault::Missing => write!(f, "Missing"),
-            OpenFault::Link => write!(f, "Link"),
-            OpenFault::NotAFile => write!(f, "NotAFile"),
-            OpenFault::SecondLink => write!(f, "SecondLink"),
-            OpenFault::WritableByOthers => write!(f, "WritableByOthers"),
-            OpenFault::InUse => write!(f, "InUse"),
             OpenFault::Open(reason) => write!(f, "Open: {reason}"),
+            _ => write!(f, "{self:?}"),
         }
     }
 }
@@ -114,9 +108,8 @@ pub enum MakeFault {
 impl Display for MakeFault {
     fn fmt<W: std::fmt::Write>(&self, f: &mut Formatter<W>) -> fmt::Result {
         match self {
-            MakeFault::Memory => write!(f, "Memory"),
-            MakeFault::Exists => write!(f, "Exists"),
             MakeFault::Make(reason) => write!(f, "Make: {reason}"),
+            _ => write!(f, "{self:?}"),
         }
     }
 }

@@ -1,6 +1,6 @@
 //! A whole file in memory: what is put in the place of another, in one step.
 
-ghost use Rattle.std.specs.Prelude.{◌≡◌, ◌<◌, ◌≤◌, ◌^◌, ◌+◌, ◌++◌, [], ◌∷◌, length, OnOk, OnErr, IfOk, IsErrOf};
+ghost use Rattle.std.specs.Prelude.{◌≡◌, ◌<◌, ◌≤◌, ◌^◌, ◌+◌, ◌++◌, [], ◌∷◌, length, OnOk, OnErr, IfOk, IsErrOf, List, ℕ};
 ghost use Rattle.batch_file.specs.declared.frames.AddFault.TheVariants.{Memory};
 ghost use Rattle.batch_file.specs.Frames.{file_size, recovered, IsReadable, IsWhole};
 
@@ -38,9 +38,6 @@ pub struct Frames {
 }
 
 impl Model for Frames {
-    ghost use Rattle.std.specs.Prelude.{List, ℕ};
-    ghost use Rattle.batch_file.specs.Frames.{recovered, IsWhole};
-
     ghost Value = { List (List ℕ) };
 
     ghost view = { λ frames. recovered frames.bytes.items };

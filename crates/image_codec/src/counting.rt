@@ -19,8 +19,6 @@ fn is_short(bytes: &[u8]) -> bool
 
 // What says whether all of it can be counted.
 trait Counted: Wire {
-    ghost use Rattle.std.specs.Prelude.{◌↔◌, IsTrue};
-
     fn counts(&self) -> bool
         ensures { IsTrue result ↔ Self.format.Counts (Self.value self.now) };
 }

@@ -1,5 +1,9 @@
 //! What is left of a server when what has expired goes.
 
+ghost use Rattle.change_codec.specs.Rules.{ClientFact, RulesFact};
+ghost use Rattle.image_codec.specs.Facts.{client_fact, rules_fact, HookFact, hook_fact, ImageFact, image_fact};
+ghost use Rattle.image_codec.specs.Formats.{client_format, rules_format, hook_format, image_format};
+
 use consent::{KeptConsent, KeptRecord, Moment, RecordVersion, ScopeSet};
 use wire::{DecodeFault, EncodeFault, FromWire, Reader, Wire};
 
@@ -47,10 +51,6 @@ pub struct Image<'a> {
 
 #[tactic(auto, unfolding(crate::specs::Formats::client_format))]
 impl Wire for ClientRules<'_> {
-    ghost use Rattle.change_codec.specs.Rules.{ClientFact};
-    ghost use Rattle.image_codec.specs.Facts.{client_fact};
-    ghost use Rattle.image_codec.specs.Formats.{client_format};
-
     ghost Value = { ClientFact };
 
     ghost value = { client_fact };
@@ -75,10 +75,6 @@ impl<'a> FromWire<'a> for ClientRules<'a> {
 
 #[tactic(auto, unfolding(crate::specs::Formats::rules_format))]
 impl Wire for Rules<'_> {
-    ghost use Rattle.change_codec.specs.Rules.{RulesFact};
-    ghost use Rattle.image_codec.specs.Facts.{rules_fact};
-    ghost use Rattle.image_codec.specs.Formats.{rules_format};
-
     ghost Value = { RulesFact };
 
     ghost value = { rules_fact };
@@ -109,9 +105,6 @@ impl<'a> FromWire<'a> for Rules<'a> {
 
 #[tactic(auto, unfolding(crate::specs::Formats::hook_format))]
 impl Wire for KeptHook<'_> {
-    ghost use Rattle.image_codec.specs.Facts.{HookFact, hook_fact};
-    ghost use Rattle.image_codec.specs.Formats.{hook_format};
-
     ghost Value = { HookFact };
 
     ghost value = { hook_fact };
@@ -138,9 +131,6 @@ impl<'a> FromWire<'a> for KeptHook<'a> {
 
 #[tactic(auto, unfolding(crate::specs::Formats::image_format))]
 impl Wire for Image<'_> {
-    ghost use Rattle.image_codec.specs.Facts.{ImageFact, image_fact};
-    ghost use Rattle.image_codec.specs.Formats.{image_format};
-
     ghost Value = { ImageFact };
 
     ghost value = { image_fact };

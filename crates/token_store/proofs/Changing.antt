@@ -1,5 +1,5 @@
 -- What the store fits as a change is made.
-use Rattle.std.proofs.Common.{◌≡◌, ℕ, List, [], ◌∷◌, ◌++◌, Option, Some, None, append-nil, refl, sym, subst, arith}
+use Rattle.std.proofs.Common.{◌≡◌, ℕ, List, [], ◌∷◌, ◌++◌, Option, Some, None, IfSome, append-nil, refl, sym, subst, arith}
 use Rattle.token_store.proofs.Names.{Event, Grant, grant_at, CanFollow, with_change, AllFollow, Made, Kept, kept_at, FitsBy, FitsHistory, MakesChanges, kept_of, IsTied, TellsSame, MakesChange, Tables}
 use Rattle.std.specs.Prelude.{option_map}
 use Rattle.consent.specs.History.{Change}
@@ -30,24 +30,17 @@ pub makes_first : (old mid new : List Kept) (m : ℕ) (c : Made) (cs : List Made
 makes_first old mid new m c cs one more history next fits means follows =
     let b = begins history m c cs next means in
     let follow : CanFollow history m b.first × AllFollow (with_change history m b.first) m b.later = subst (AllFollow history m) b.told_is follows in
-    subst (λ h. FitsHistory new h m) (sym b.leads_on) (more (with_change history m b.first) b.later (one history b.first fits b.first_is follow.0) b.later_are follow.1)
+    let here = rw b.first_is at (one history fits) in
+    subst (λ h. FitsHistory new h m) (sym b.leads_on) (more (with_change history m b.first) b.later (here follow.0) b.later_are follow.1)
 
 -- and none
 pub makes_none : (kept : List Kept) (m : ℕ) → MakesChanges kept kept m []
 makes_none kept m history [] fits means follows = rw (append-nil history) fits
 makes_none kept m history (x ∷ xs) fits means follows = cc
 
--- what is named, and what is said of it
-pub record Named {A : Type 0} (o : Option Grant) (f : Grant → A) (x : A) : Type 0 where
-  pub grant : Grant
-  pub at : o ≡ Some grant
-  pub is : f grant ≡ x
-
-pub named_by : {A : Type 0} (o : Option Grant) (f : Grant → A) (x : A) → option_map f o ≡ Some x → Named o f x
-named_by None f x h = cc
-named_by (Some g) f x h = record { grant = g; at = refl; is = cc }
-
--- so it is of what the change means
-pub means_so : (kept : List Kept) (history : List Event) (m : ℕ) (change next : Change) → change ≡ next → CanFollow history m next →
-    (CanFollow history m change → FitsHistory kept (with_change history m change) m) → FitsHistory kept (with_change history m next) m
-means_so kept history m change next is can fits = subst (λ (x : Change). FitsHistory kept (with_change history m x) m) is (fits (subst (CanFollow history m) (sym is) can))
+-- what is said of what a digest names
+pub makes_named : (kept : List Kept) (history : List Event) (m : ℕ) (o : Option Grant) (f : Grant → Change) →
+    ((g : Grant) → o ≡ Some g → CanFollow history m (f g) → FitsHistory kept (with_change history m (f g)) m) →
+    IfSome (option_map f o) (λ next. CanFollow history m next → FitsHistory kept (with_change history m next) m)
+makes_named kept history m None f makes = tt
+makes_named kept history m (Some g) f makes = makes g refl

@@ -24,10 +24,10 @@ pub has_slot : (families : List (Option Shared)) (n : ℕ) → 0 < (shared_at fa
 has_slot families n some = grind arith
 
 -- the counts of the families are right again
-pub counted_without : (families families' : List (Option Shared)) (es es' : List (List ℕ × Record)) (coming : List ℕ) (digest : List ℕ) (r : Record) →
-    IsCounted families es coming → lookup (bytes_eq digest) es ≡ Some r →
-    IsPermutation (remove_entry (bytes_eq digest) es) es' → HasLeft families families' r.family → IsCounted families' es' coming
-counted_without families families' es es' coming digest r counted at taken left n =
+pub counted_without : (families families' : List (Option Shared)) (es es' : List (List ℕ × Record)) (digest : List ℕ) (r : Record) →
+    IsCounted families es [] → lookup (bytes_eq digest) es ≡ Some r →
+    IsPermutation (remove_entry (bytes_eq digest) es) es' → HasLeft families families' r.family → IsCounted families' es' []
+counted_without families families' es es' digest r counted at taken left n =
     let sums = count_without (λ x. x.family == n) digest es es' r at taken in
     let some = member_counted digest es r at in
     grind (arith, nat_tests, sums, some, counted n, counted r.family, left.others n, left.here)
@@ -42,12 +42,12 @@ pub count_seen : (families : List (Option Shared)) (es : List (List ℕ × Recor
 count_seen families es t = count-map (kept_in families) (λ k. is_unexpired t k.grant) es ∙ sym (count-map (λ e. e.1) (is_live_at t) es)
 
 -- one is gone that had expired
-pub dropped_one : (families families' : List (Option Shared)) (es es' : List (List ℕ × Record)) (coming : List ℕ) (digest : List ℕ) (r : Record) (moment : ℕ) →
-    IsDistinct bytes_eq (keys_of es) → IsDistinct bytes_eq (keys_of es') → IsCounted families' es' coming →
+pub dropped_one : (families families' : List (Option Shared)) (es es' : List (List ℕ × Record)) (digest : List ℕ) (r : Record) (moment : ℕ) →
+    IsDistinct bytes_eq (keys_of es) → IsDistinct bytes_eq (keys_of es') → IsCounted families' es' [] →
     lookup (bytes_eq digest) es ≡ Some r → r.moment + r.life ≤ moment → IsPermutation (remove_entry (bytes_eq digest) es) es' →
     ((d : List ℕ) → lookup (bytes_eq d) es' ≡ cond (bytes_eq digest d) None (lookup (bytes_eq d) es)) → HasLeft families families' r.family →
     TellsSame (all_kept families es) (all_kept families' es') moment
-dropped_one families families' es es' coming digest r moment once once' counted' at late taken others left = record {
+dropped_one families families' es es' digest r moment once once' counted' at late taken others left = record {
   finds = λ d t le. found families' es' d t once' ∙ same_shown d t le ∙ sym (found families es d t once);
   counts = λ t le. (let sums = count_without (is_live_at t) digest es es' r at taken in
       let dead = expired t le in

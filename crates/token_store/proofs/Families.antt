@@ -1,7 +1,7 @@
 -- Families that are ended, opened or let go of.
 use Rattle.std.proofs.Common.{◌≡◌, ◌≢◌, ◌≤◌, ℕ, List, [], ◌∷◌, Option, Some, None, Bool, true, false, eqb, refl, ◌∙◌, sym, arith}
 use Rattle.token_store.proofs.Names.{slice_index_or, nat_le, if◌then◌else◌, values_of, count_by-cons, Record, Shared, Agenda, shared_at, all_kept, member_count, is_coded, Tied, IsOwned, RecordChange}
-use Rattle.token_store.proofs.Names.{changed, HasEnded, HasLowered, IsNextOwned, lowered_by, lowered_shared, nat_tests}
+use Rattle.token_store.proofs.Names.{changed, HasEnded, HasLowered, IsNextOwned, lowered_by, lowered_shared, nat_tests, Tables, IsTied, kept_of}
 use Rattle.std.specs.Prelude.{map, option_map}
 
 -- ENDING
@@ -95,7 +95,7 @@ tied_lowered old new owner client mask es agenda owners lowered =
 -- OPENING
 
 -- where no record is of a family it isn't seen
-pub unseen : (old new : List (Option Shared)) (n : ℕ) (es : List (List ℕ × Record)) → ((k : ℕ) → k ≢ n → slice_index_or new k None ≡ slice_index_or old k None) → member_count es n ≡ 0 →
+unseen : (old new : List (Option Shared)) (n : ℕ) (es : List (List ℕ × Record)) → ((k : ℕ) → k ≢ n → slice_index_or new k None ≡ slice_index_or old k None) → member_count es n ≡ 0 →
     all_kept new es ≡ all_kept old es
 unseen old new n [] others none = refl
 unseen old new n (e ∷ es) others none =
@@ -103,6 +103,6 @@ unseen old new n (e ∷ es) others none =
     let same = others e.1.family in
     grind (arith, nat_tests, sums, same, unseen old new n es others)
 
-pub vacant_count : (families : List (Option Shared)) (es : List (List ℕ × Record)) (agenda : Agenda) (owners : List ((ℕ × ℕ) × ℕ)) (n : ℕ) → Tied families es agenda owners [] →
-    (shared_at families n).count ≡ 0 → member_count es n ≡ 0
-vacant_count families es agenda owners n tied none = let same = tied.counted n in omega (arith, same, none)
+pub unseen_empty : (t : Tables) (new : List (Option Shared)) (n : ℕ) → IsTied t [] → (shared_at t.families.slots n).count ≡ 0 →
+    ((k : ℕ) → k ≢ n → slice_index_or new k None ≡ slice_index_or t.families.slots k None) → all_kept new t.records.entries ≡ kept_of t
+unseen_empty t new n tied empty others = let same = tied.counted n in unseen t.families.slots new n t.records.entries others (omega (arith, same, empty))

@@ -3,7 +3,7 @@ use Rattle.std.proofs.Common.{◌≡◌, inl, inr, ℕ, List, [], ◌∷◌, ◌
 use Rattle.token_store.proofs.Names.{◌==◌, eq-eqb, and_from, find-some, same_Some, Event, Grant, grants, grant_at}
 use Rattle.token_store.proofs.Names.{is_named, is_code, is_code_of, code_terms, has_ended, opener, is_of, IsHome, with_change, code_terms-push_other, has_ended-push_other, grant_at-kin}
 use Rattle.token_store.proofs.Names.{code_terms-kin, code_terms-fresh, has_ended-fresh, is_history-push, Record, Shared, Kept, FitsBy, to_keep}
-use Rattle.token_store.proofs.Names.{with_family_number, token_issued, issued_with, own_shared, kind_in, owner_in, kept_in, kept_at, terms_by, shared_at, kept_under, all_kept, token_kept, IsUnused}
+use Rattle.token_store.proofs.Names.{with_family_number, token_issued, issued_with, own_shared, fact_in, kind_told, owner_told, kept_in, kept_at, terms_by, shared_at, kept_under, all_kept, token_kept, IsUnused}
 use Rattle.std.specs.Prelude.{option_map}
 use Rattle.consent.specs.declared.change.NewToken.{NewToken}
 use Rattle.token_store.specs.declared.record.Given.{Given}
@@ -82,7 +82,7 @@ ready_joined kept history number moment g s digest r fits found at =
       (client, owner),
     )
   where
-    owner_cases : (given : Given) → kind_in given ≡ g.kind → owner_in s.owner given ≡ g.owner → (o : Option ℕ) → code_terms history g.family ≡ option_map (terms_by s.client s.owner) o → s.owner ≡ g.owner
+    owner_cases : (given : Given) → kind_told (fact_in given) ≡ g.kind → owner_told s.owner (fact_in given) ≡ g.owner → (o : Option ℕ) → code_terms history g.family ≡ option_map (terms_by s.client s.owner) o → s.owner ≡ g.owner
     owner_cases (Token token) kind owner o terms = owner
     owner_cases (Code texts) kind owner None terms = absurd (code_has_terms history digest moment g at (ap is_code (sym kind)) terms)
     owner_cases (Code texts) kind owner (Some scope) terms = (code_terms-kin history digest moment g (terms_by s.client s.owner scope) fits.is_history.kin at terms).1

@@ -27,18 +27,11 @@ count-map f p [] = refl
 count-map f p (x ∷ xs) =
     count_by-cons p (f x) (map f xs) ∙ ap (λ n. cond {A = ℕ} (p (f x)) 1 0 + n) (count-map f p xs) ∙ sym (count_by-cons (λ y. p (f y)) x xs)
 
-pub same_as_is : (kept : List Kept) (m : ℕ) → TellsSame kept kept m
-same_as_is kept m = record { finds = λ d t le. refl; counts = λ t le. refl }
-
 pub same_on : (a b c : List Kept) (m : ℕ) → TellsSame a b m → TellsSame b c m → TellsSame a c m
 same_on a b c m first more = record {
   finds = λ d t le. more.finds d t le ∙ first.finds d t le;
   counts = λ t le. more.counts t le ∙ first.counts t le;
 }
-
--- what is absent stays absent
-pub absent_on : (a b : List Kept) (digest : List ℕ) (m : ℕ) → TellsSame a b m → kept_at a digest m ≡ None → kept_at b digest m ≡ None
-absent_on a b digest m same none = same.finds digest m (omega arith) ∙ none
 
 pub count-push : (p : Kept → Bool) (kept : List Kept) (k : Kept) → count_by p (kept ++ k ∷ []) ≡ count_by p kept + cond {A = ℕ} (p k) 1 0
 count-push p kept k = sum_by_push (λ x. cond {A = ℕ} (p x) 1 0) kept k

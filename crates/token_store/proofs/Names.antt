@@ -34,15 +34,15 @@ pub use Rattle.std.specs.Ordering.{is_gt}
 pub use Rattle.std.specs.Prelude.{count_by, ◌==◌, slice_index_or, is_some, unwrap_or, nat_le, if◌then◌else◌, ◌||◌, find, nat_eq, not, min, All}
 pub use Rattle.std.specs.Str.{bytes_eq}
 pub use Rattle.std.specs.Vec.{with_items, vec_len}
-pub use Rattle.token_store.specs.Agenda.{deadlines_of, is_deadline, IsExact, least_from, least, IsBounded, deadlines_in}
+pub use Rattle.token_store.specs.Agenda.{deadlines_of, is_deadline, IsExact, least, IsBounded, deadlines_in}
 pub use Rattle.token_store.specs.AgendaParts.{is_ahead, is_filled}
 pub use Rattle.token_store.specs.Fits.{FitsBy, to_keep, FitsHistory, MakesChanges}
 pub use Rattle.token_store.specs.FitsParts.{with_family_number, MakesChange}
-pub use Rattle.token_store.specs.Homes.{AreHomes, HasHome, AllHome, HasGrown, number_of_family, renumber_by}
-pub use Rattle.token_store.specs.Image.{HasDigestTwice, as_kept, kept_record}
-pub use Rattle.token_store.specs.ImageParts.{is_unexpired_record, renumbered, IsRestored}
+pub use Rattle.token_store.specs.Homes.{AreHomes, ComesBy, HasHome, AllHome, HasGrown, IsAtOdds, AreSaid, number_of_family, renumber_by}
+pub use Rattle.token_store.specs.Image.{HasDigestTwice, HasFamilyDiffering, IsLiveOf, as_kept, is_unexpired_record, kept_record, kind_told, owner_told, terms_by}
+pub use Rattle.token_store.specs.ImageParts.{renumbered, IsRestored}
 pub use Rattle.token_store.specs.Kept.{Kept, kept_at, kept_unexpired, Room, Held}
-pub use Rattle.token_store.specs.Records.{shared_at, all_kept, Tied, kept_of, IsTied, kept_in, kept_under, member_count, IsCounted, is_coded, IsOwned, own_shared, kind_in, owner_in, terms_by, expiry}
+pub use Rattle.token_store.specs.Records.{shared_at, all_kept, Tied, kept_of, IsTied, kept_in, kept_under, member_count, IsCounted, is_coded, IsOwned, own_shared, fact_in, expiry}
 pub use Rattle.token_store.specs.Records.{expiry_of, AllListed, or_nothing, owner_cmp, code_shared, texts_given}
 pub use Rattle.token_store.specs.RecordsParts.{code_kept, IsUnused, TellsSame, is_live_at, HasLeft, RecordChange, changed, HasEnded, HasLowered, IsNextOwned, lowered_by, lowered_shared, token_kept}
 pub use Rattle.token_store.specs.RecordsParts.{HasOpened, HasEntered, SharesSame, spent_in, HasTaken, IsNoneExpired, AllGone, Sheds, AllLive, IsAfter, start_of}

@@ -1,15 +1,25 @@
 -- How tables are made of records.
-use Rattle.std.proofs.Common.{◌≡◌, ◌≤◌, ◌<◌, ◌⊎◌, ℕ, ◌+◌, List, [], ◌∷◌, ◌++◌, Option, Some, Bool, true, false, cond, refl, ap, ◌∙◌, sym, arith, map, take, drop, get_or, length, append_assoc, add-one, drop-cons}
+use Rattle.std.proofs.Common.{◌≡◌, ◌≤◌, ◌<◌, ◌⊎◌, inl, inr, subst, ℕ, ◌+◌, List, [], ◌∷◌, ◌++◌, Option, Some, None, Bool, true, false, cond, refl, ap, ◌∙◌, sym, arith, map, take, drop, get_or}
+use Rattle.std.proofs.Common.{length, append_assoc, add-one, drop-cons}
 use Rattle.token_store.proofs.Names.{count_by, is_some, nat_eq, bytes_eq-Decides, take-append-drop, map-append, find-append, count_by-cons, find-map, find-uncounted, Event, is_named, is_unexpired}
-use Rattle.token_store.proofs.Names.{Record, Shared, Tables, Kept, kept_at, kept_unexpired, FitsBy, to_keep, HasDigestTwice, as_kept, kept_record, is_unexpired_record, renumbered, IsRestored}
-use Rattle.token_store.proofs.Names.{AreHomes, HasHome, AllHome, HasGrown, number_of_family, renumber_by, IsTied, kept_of, kept_in, all_kept, HasOpened, TellsSame, is_live_at, nat_tests}
+use Rattle.token_store.proofs.Names.{Record, Shared, Tables, Kept, kept_at, kept_unexpired, FitsBy, to_keep, HasDigestTwice, HasFamilyDiffering, as_kept, kept_record, is_unexpired_record}
+use Rattle.token_store.proofs.Names.{renumbered, IsRestored}
+use Rattle.token_store.proofs.Names.{AreHomes, ComesBy, HasHome, AllHome, HasGrown, IsAtOdds, AreSaid, number_of_family, renumber_by, IsTied, kept_of, kept_in, all_kept, HasOpened, TellsSame}
+use Rattle.token_store.proofs.Names.{is_live_at, nat_tests}
 use Rattle.token_store.proofs.Names.{sum_by-append}
 use Rattle.std.specs.Prelude.{filter, option_map}
+use Rattle.std.proofs.lemmas.List.Elements.{Contains-append_left, Contains-append_right, Contains-push}
+use Rattle.token_store.specs.ImageParts.{AgreesWithRecord}
+use Rattle.token_store.specs.Records.{family_numbered}
 use Rattle.consent.specs.declared.kept_record.KeptRecord.{KeptRecord}
 use Rattle.token_store.proofs.Looking.{count-push, same_push, same_on, count-map}
 use Rattle.token_store.proofs.Telling.{fits_same}
 
 -- FAMILIES
+
+some_or_none : {A C : Type 0} (o : Option A) → is_some o ≡ true → ((x : A) → o ≡ Some x → C) → C
+some_or_none None is f = cc
+some_or_none (Some x) is f = f x refl
 
 pub homes_opened : (numbers numbers' : List (ℕ × ℕ)) (old new : List (Option Shared)) (f n : ℕ) (s : Shared) → AreHomes numbers old → HasOpened old new n s →
     ((q : ℕ) → number_of_family numbers' q ≡ cond (nat_eq f q) (Some n) (number_of_family numbers q)) → AreHomes numbers' new
@@ -43,6 +53,40 @@ pub all_split : (numbers : List (ℕ × ℕ)) (families : List (Option Shared)) 
     AllHome numbers families m (rs ++ r ∷ later) → is_unexpired_record m r ≡ true → HasHome numbers families r
 all_split numbers families m [] r later all live = all.0 live
 all_split numbers families m (x ∷ rs) r later all live = all_split numbers families m rs r later all.1 live
+
+-- what families share goes on to be said
+pub said_push : (numbers numbers' : List (ℕ × ℕ)) (families families' : List (Option Shared)) (m : ℕ) (rs : List KeptRecord) (r : KeptRecord) →
+    AreHomes numbers families → HasGrown numbers families numbers' families' → ComesBy numbers numbers' m r →
+    (is_unexpired_record m r ≡ true → HasHome numbers' families' r) → AreSaid numbers families rs m → AreSaid numbers' families' (rs ++ r ∷ []) m
+said_push numbers numbers' families families' m rs r homes grown comes home said f n s number at =
+    elim (comes f (ap is_some number)) [
+      | inl was ↦ some_or_none (number_of_family numbers f) was (λ k old. some_or_none (family_numbered families k) (homes.there f k old) (λ t was_at.
+          let same = grown.numbers_stay f k old in let stays = grown.families_stay k t was_at in
+          let says = said f k t old was_at in (
+            says.0,
+            record { there = Contains-append_left rs (r ∷ []) says.0 says.1.there; live = says.1.live; family_is = says.1.family_is },
+            subst (λ t. AgreesWithRecord t says.0) (grind (arith, same, stays, number, at)) says.2,
+          )))
+      | inr new ↦ (let has = home new.1 in let is = has.number_is in let there = has.at in (
+        r,
+        record { there = Contains-push rs r; live = new.1; family_is = new.0 },
+        subst (λ t. AgreesWithRecord t r) (grind (arith, is, there, new, number, at)) has.agrees,
+      ))
+    ]
+
+-- a record at odds with its family differs from one before it
+pub differing_at : (numbers : List (ℕ × ℕ)) (families : List (Option Shared)) (m : ℕ) (whole rs : List KeptRecord) (r : KeptRecord) (later : List KeptRecord) → whole ≡ rs ++ r ∷ later →
+    AreHomes numbers families → AreSaid numbers families rs m → IsAtOdds numbers families m r → HasFamilyDiffering whole m
+differing_at numbers families m whole rs r later is homes said odds =
+    some_or_none (family_numbered families odds.number) (homes.there r.family odds.number odds.number_is) (λ s at.
+    let one = said r.family odds.number s odds.number_is at in record {
+      family = r.family;
+      one = one.0;
+      other = r;
+      is_one = record { there = rw is (Contains-append_left rs (r ∷ later) one.0 one.1.there); live = one.1.live; family_is = one.1.family_is };
+      is_other = record { there = rw is (Contains-append_right rs (r ∷ later) r (0, omega arith, refl)); live = odds.live; family_is = refl };
+      differ = λ same. odds.differs s at (let agrees = one.2 in grind (arith, same, agrees));
+    })
 
 -- LISTS
 

@@ -1,10 +1,9 @@
 -- The tables as what has expired goes.
 use Rattle.std.proofs.Common.{◌≡◌, ◌<◌, ℕ, List, [], ◌∷◌, ◌++◌, Option, Some, None, false, cond, refl, arith}
-use Rattle.token_store.proofs.Names.{IsDistinct, IsPermutation, bytes_eq, lookup, keys_of, remove_entry, list_any-append, bytes_eq-Decides, Deadline, Record, Shared, least_from, is_deadline}
+use Rattle.token_store.proofs.Names.{IsDistinct, IsPermutation, bytes_eq, lookup, keys_of, remove_entry, list_any-append, bytes_eq-Decides, Deadline, Record, Shared, least, is_deadline}
 use Rattle.token_store.proofs.Names.{all_kept, expiry_of, IsCounted, IsOwned, is_live_at, HasLeft, HasTaken, IsNoneExpired, AllGone, Sheds, nat_tests}
-use Rattle.token_store.proofs.Looking.{same_as_is, same_on}
+use Rattle.token_store.proofs.Looking.{same_on}
 use Rattle.token_store.proofs.Dropping.{counted_without, dropped_one}
-use Rattle.token_store.proofs.Settling.{fewer_found}
 use Rattle.token_store.proofs.Timing.{least_at}
 
 -- WHICH ARE GONE
@@ -18,8 +17,8 @@ pub gone_one : (e : Deadline) (es : List (List ℕ × Record)) (m : ℕ) → ((t
 gone_one e es m gone d t listed at = let is = (bytes_eq-Decides d e.digest).0 in let late = gone t in grind (arith, is, late)
 
 -- those whose least is still to come
-pub gone_later : (xs : List Deadline) (bound m : ℕ) (es : List (List ℕ × Record)) → m < least_from bound xs → AllGone xs es m
-gone_later xs bound m es lt d t listed at = let le = least_at bound xs d t listed in omega (arith, lt, le)
+pub gone_later : (xs : List Deadline) (m : ℕ) (es : List (List ℕ × Record)) → m < least xs → AllGone xs es m
+gone_later xs m es lt d t listed at = let le = least_at xs d t listed in omega (arith, lt, le)
 
 -- WHAT GOES
 
@@ -31,7 +30,7 @@ taken_out old without new digest r at once moved taken is = rw is (record { foun
 pub sheds_none : (families : List (Option Shared)) (es : List (List ℕ × Record)) (owners : List ((ℕ × ℕ) × ℕ)) (xs : List Deadline) (m : ℕ) → IsDistinct bytes_eq (keys_of es) → IsCounted families es [] →
     AllGone xs es m → Sheds families es owners families es owners xs m
 sheds_none families es owners xs m once counted gone =
-    record { once = once; counted = counted; owned = λ owned. owned; same = same_as_is (all_kept families es) m; fewer = λ d t at. at; gone = gone }
+    record { once = once; counted = counted; owned = λ owned. owned; same = record { finds = λ d t le. refl; counts = λ t le. refl }; fewer = λ d t at. at; gone = gone }
 
 pub sheds_on : (f g h : List (Option Shared)) (es fs gs : List (List ℕ × Record)) (o p q : List ((ℕ × ℕ) × ℕ)) (xs ys : List Deadline) (m : ℕ) →
     Sheds f es o g fs p xs m → Sheds g fs p h gs q ys m → Sheds f es o h gs q (xs ++ ys) m
@@ -52,13 +51,13 @@ pub sheds_one : (families families' : List (Option Shared)) (es es' : List (List
     IsCounted families es [] → HasTaken es es' e.digest r → is_live_at m r ≡ false → HasLeft families families' r.family → (IsOwned families owners → IsOwned families' owners') →
     Sheds families es owners families' es' owners' (e ∷ []) m
 sheds_one families families' es es' owners owners' e r m once counted has late left owned =
-    let counted' = counted_without families families' es es' [] e.digest r counted has.found has.moved left in
+    let counted' = counted_without families families' es es' e.digest r counted has.found has.moved left in
     record {
       once = has.once;
       counted = counted';
       owned = owned;
-      same = dropped_one families families' es es' [] e.digest r m once has.once counted' has.found (grind (arith, nat_tests, late)) has.moved has.taken left;
-      fewer = fewer_found es es' e.digest has.taken;
+      same = dropped_one families families' es es' e.digest r m once has.once counted' has.found (grind (arith, nat_tests, late)) has.moved has.taken left;
+      fewer = λ d t at. (let less = has.taken d in grind (arith, less));
       gone = gone_one e es' m (λ t at. (let gone = has.taken e.digest in let same = (bytes_eq-Decides e.digest e.digest).1 refl in grind (arith, at, gone, same)));
     }
 

@@ -1,51 +1,35 @@
 -- Deadlines: the least of them, and those that are still to come.
 use Rattle.std.proofs.Common.{◌≡◌, ◌<◌, ◌≤◌, ℕ, List, [], ◌∷◌, ◌++◌, Bool, true, false, cond, set, zero, suc, refl, ap, ◌∙◌, arith}
-use Rattle.token_store.proofs.Names.{◌==◌, not, min, list_any, list_all, AllByRecursion, nil_from_length, Deadline, Page, least_from, least, IsBounded, deadlines_in, is_deadline, is_ahead, nat_tests}
+use Rattle.token_store.proofs.Names.{◌==◌, not, min, list_any, list_all, AllByRecursion, nil_from_length, Deadline, Page, least, IsBounded, deadlines_in, is_deadline, is_ahead, nat_tests}
 use Rattle.std.specs.Prelude.{filter}
 use Rattle.std.proofs.lemmas.List.{append-nil}
 use Rattle.std.proofs.lemmas.List.Concat.{flat_map-append}
 
 -- THE LEAST
 
-least_appended : (bound : ℕ) (xs ys : List Deadline) → least_from bound (xs ++ ys) ≡ least_from (least_from bound xs) ys
-least_appended bound [] ys = refl
-least_appended bound (x ∷ xs) ys = least_appended (min bound x.moment) xs ys
-
-pub least_pushed : (bound : ℕ) (xs : List Deadline) (e : Deadline) → least_from bound (xs ++ e ∷ []) ≡ min (least_from bound xs) e.moment
-least_pushed bound xs e = least_appended bound xs (e ∷ [])
-
-least_low : (bound : ℕ) (xs : List Deadline) → least_from bound xs ≤ bound
-least_low bound [] = omega arith
-least_low bound (x ∷ xs) = let low = least_low (min bound x.moment) xs in omega (arith, low)
-
-least_within : (a b : ℕ) (xs : List Deadline) → least_from (min a b) xs ≡ min a (least_from b xs)
-least_within a b [] = refl
-least_within a b (x ∷ xs) =
-    let same : min (min a b) x.moment ≡ min a (min b x.moment) = omega arith in
-    ap (λ n. least_from n xs) same ∙ least_within a (min b x.moment) xs
+least_low : (xs : List Deadline) → least xs ≤ 18446744073709551615
+least_low [] = omega arith
+least_low (x ∷ xs) = let low = least_low xs in omega (arith, low)
 
 -- the least of both
 pub least_both : (xs ys : List Deadline) → least (xs ++ ys) ≡ min (least xs) (least ys)
-least_both xs ys =
-    let top : ℕ = 18446744073709551615 in
-    let low : least_from top xs ≤ top = least_low top xs in
-    let same : least_from top xs ≡ min (least_from top xs) top = omega (arith, low) in
-    least_appended top xs ys ∙ ap (λ n. least_from n ys) same ∙ least_within (least_from top xs) top ys
+least_both [] ys = let low = least_low ys in omega (arith, low)
+least_both (x ∷ xs) ys = let more = least_both xs ys in omega (arith, more)
+
+pub least_pushed : (xs : List Deadline) (e : Deadline) → least (xs ++ e ∷ []) ≡ min (least xs) e.moment
+least_pushed xs e = let both = least_both xs (e ∷ []) in let low = least_low xs in omega (arith, both, low)
 
 -- none comes before the least
-pub least_at : (bound : ℕ) (xs : List Deadline) (d : List ℕ) (t : ℕ) → list_any (is_deadline d t) xs ≡ true → least_from bound xs ≤ t
-least_at bound [] d t h = cc
-least_at bound (x ∷ xs) d t h = grind (arith, nat_tests, least_low (min bound x.moment) xs, least_at (min bound x.moment) xs d t)
+pub least_at : (xs : List Deadline) (d : List ℕ) (t : ℕ) → list_any (is_deadline d t) xs ≡ true → least xs ≤ t
+least_at [] d t h = cc
+least_at (x ∷ xs) d t h = grind (arith, nat_tests, least_at xs d t)
 
 -- THOSE THAT ARE STILL TO COME
 
 -- before the least all are
-pub ahead_all : (moment bound : ℕ) (xs : List Deadline) → moment < least_from bound xs → filter (is_ahead moment) xs ≡ xs
-ahead_all moment bound [] lt = refl
-ahead_all moment bound (x ∷ xs) lt = grind (arith, nat_tests, least_low (min bound x.moment) xs, ahead_all moment (min bound x.moment) xs lt)
-
 pub ahead_least : (moment : ℕ) (xs : List Deadline) → moment < least xs → filter (is_ahead moment) xs ≡ xs
-ahead_least moment xs lt = ahead_all moment 18446744073709551615 xs lt
+ahead_least moment [] lt = refl
+ahead_least moment (x ∷ xs) lt = grind (arith, nat_tests, ahead_least moment xs)
 
 -- such a one is among them
 pub ahead_any : (moment : ℕ) (xs : List Deadline) (d : List ℕ) (t : ℕ) → moment < t → list_any (is_deadline d t) xs ≡ true → list_any (is_deadline d t) (filter (is_ahead moment) xs) ≡ true

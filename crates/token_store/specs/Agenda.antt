@@ -6,14 +6,10 @@ use Rattle.token_store.specs.declared.agenda.Deadline.{Deadline}
 use Rattle.token_store.specs.declared.agenda.Page.{Page}
 use Rattle.token_store.specs.declared.agenda.Agenda.{Agenda}
 
--- the least of the bound and these moments
-abbrev pub least_from : ℕ → List Deadline → ℕ
-least_from bound [] = bound
-least_from bound (e ∷ es) = least_from (min bound e.moment) es
-
 -- the least of these moments; where there is none, the greatest number of 64 bits
 abbrev pub least : List Deadline → ℕ
-least deadlines = least_from 18446744073709551615 deadlines
+least [] = 18446744073709551615
+least (e ∷ es) = min e.moment (least es)
 
 -- a page's bound is the least moment on it
 abbrev pub IsBounded : Page → Type 0

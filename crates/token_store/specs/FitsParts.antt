@@ -1,7 +1,7 @@
 -- Beside Fits: only the contracts of this crate's own parts and their proofs cite this, no public clause.
-use Rattle.std.specs.Prelude.{◌≡◌, ◌+◌, ℕ, List, Bool, Option, Some, if◌then◌else◌, ◌==◌, nat_le, is_some, length}
+use Rattle.std.specs.Prelude.{◌+◌, ℕ, List, Bool, Option, IfSome, if◌then◌else◌, ◌==◌, nat_le, is_some, length}
 use Rattle.consent.specs.Limits.{record_limit}
-use Rattle.consent.specs.History.{Event, are_taken, with_change, CanFollow, Change as told}
+use Rattle.consent.specs.History.{Event, are_taken, with_change, CanFollow}
 use Rattle.consent.specs.Changes.{change_of}
 use Rattle.consent.specs.declared.change.Change.{Change}
 use Rattle.token_store.specs.declared.fault.StoreFault.{StoreFault}
@@ -10,8 +10,8 @@ use Rattle.token_store.specs.Fits.{FitsHistory, refusal_by}
 
 -- what fitted a history fits it with the change, where it means something and may follow
 abbrev pub MakesChange : (old new : List Kept) → ℕ → Change → Type 0
-MakesChange old new moment change = (history : List Event) (next : told) → FitsHistory old history moment →
-    change_of history moment change ≡ Some next → CanFollow history moment next → FitsHistory new (with_change history moment next) moment
+MakesChange old new moment change = (history : List Event) → FitsHistory old history moment →
+    IfSome (change_of history moment change) (λ next. CanFollow history moment next → FitsHistory new (with_change history moment next) moment)
 
 -- there is room for so many more
 abbrev pub has_kept_room : List Kept → ℕ → ℕ → Bool

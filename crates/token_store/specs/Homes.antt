@@ -1,12 +1,12 @@
 -- The families of records that a store is made of, under the store's numbers.
-use Rattle.std.specs.Prelude.{◌≡◌, ℕ, List, [], ◌∷◌, true, Option, Some, is_some, unwrap_or, map, nat_eq}
+use Rattle.std.specs.Prelude.{◌≡◌, ◌⊎◌, ℕ, List, [], ◌∷◌, true, Option, Some, is_some, unwrap_or, map, nat_eq}
 use Rattle.std.specs.Map.{lookup}
 use Rattle.consent.specs.declared.kept_record.KeptRecord.{KeptRecord}
 use Rattle.token_store.specs.declared.record.Shared.{Shared}
 use Rattle.token_store.specs.Kept.{Kept}
-use Rattle.token_store.specs.Image.{as_kept}
+use Rattle.token_store.specs.Image.{IsLiveOf, as_kept, is_unexpired_record}
 use Rattle.token_store.specs.Records.{family_numbered}
-use Rattle.token_store.specs.ImageParts.{AgreesWithRecord, is_unexpired_record, renumbered}
+use Rattle.token_store.specs.ImageParts.{AgreesWithRecord, renumbered}
 
 -- the store's number of a family
 abbrev pub number_of_family : List (ℕ × ℕ) → ℕ → Option ℕ
@@ -36,6 +36,23 @@ pub record HasHome (numbers : List (ℕ × ℕ)) (families : List (Option Shared
 abbrev pub AllHome : List (ℕ × ℕ) → List (Option Shared) → ℕ → List KeptRecord → Type 0
 AllHome numbers families moment [] = Unit {0}
 AllHome numbers families moment (r ∷ rs) = (is_unexpired_record moment r ≡ true → HasHome numbers families r) × AllHome numbers families moment rs
+
+-- the record is unexpired, its family is there, and what that shares is something else
+pub record IsAtOdds (numbers : List (ℕ × ℕ)) (families : List (Option Shared)) (moment : ℕ) (r : KeptRecord) : Type 0 where
+  pub live : is_unexpired_record moment r ≡ true
+  pub number : ℕ
+  pub number_is : number_of_family numbers r.family ≡ Some number
+  pub differs : (s : Shared) → family_numbered families number ≡ Some s → ¬ (AgreesWithRecord s r)
+
+-- a family is there that was there before, or is that of the record, which is unexpired
+abbrev pub ComesBy : (old new : List (ℕ × ℕ)) → ℕ → KeptRecord → Type 0
+ComesBy old new moment r = (f : ℕ) → is_some (number_of_family new f) ≡ true →
+    (is_some (number_of_family old f) ≡ true) ⊎ ((r.family ≡ f) × (is_unexpired_record moment r ≡ true))
+
+-- what is shared by a family that is there, an unexpired record of it says
+abbrev pub AreSaid : List (ℕ × ℕ) → List (Option Shared) → List KeptRecord → ℕ → Type 0
+AreSaid numbers families records moment = (f n : ℕ) (s : Shared) → number_of_family numbers f ≡ Some n → family_numbered families n ≡ Some s →
+    (r : KeptRecord) × IsLiveOf records moment f r × AgreesWithRecord s r
 
 -- each record whose family was there has it still
 abbrev pub HomesStay : List (ℕ × ℕ) → (old new : List (Option Shared)) → Type 0

@@ -1,5 +1,5 @@
 -- Beside Image: only the contracts of this crate's own parts and their proofs cite this, no public clause.
-use Rattle.std.specs.Prelude.{◌≡◌, ◌+◌, ◌⊎◌, ℕ, List, Bool, true, Some, map, nat_lt, is_some}
+use Rattle.std.specs.Prelude.{◌≡◌, ◌⊎◌, ℕ, List, true, Some, map, is_some}
 use Rattle.std.specs.Str.{bytes_eq}
 use Rattle.std.specs.Map.{lookup}
 use Rattle.consent.specs.History.{is_named}
@@ -7,16 +7,9 @@ use Rattle.consent.specs.declared.kept_record.KeptRecord.{KeptRecord}
 use Rattle.token_store.specs.declared.record.Record.{Record}
 use Rattle.token_store.specs.declared.record.Shared.{Shared}
 use Rattle.token_store.specs.Kept.{Kept, kept_at}
-use Rattle.token_store.specs.Image.{kept_record}
+use Rattle.token_store.specs.Image.{is_unexpired_record, kept_record}
 use Rattle.token_store.specs.Records.{kept_under}
 use Rattle.token_store.specs.RecordsParts.{TellsSame}
-
-abbrev pub is_unexpired_record : ℕ → KeptRecord → Bool
-is_unexpired_record moment r = nat_lt moment (r.moment + r.life)
-
--- what its family shares, without records
-abbrev pub shared_of : KeptRecord → Shared
-shared_of r = record { client = r.client; owner = r.owner; code_scope = r.code_scope; ended = r.ended; count = 0 }
 
 -- the family shares what the record says
 pub record AgreesWithRecord (s : Shared) (r : KeptRecord) : Type 0 where

@@ -11,12 +11,6 @@ pub record Kept : Type 0 where
   pub spent : Bool
   pub ended : Bool
 
--- what a code has and a token has not
-pub record Texts : Type 0 where
-  pub owner : ℕ
-  pub redirect : List ℕ
-  pub challenge : List ℕ
-
 -- for how many records more there is memory, the families, and what is expected, if anything is
 pub record Room : Type 0 where
   pub records : ℕ

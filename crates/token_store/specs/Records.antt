@@ -1,5 +1,5 @@
 -- The store's tables, and what is seen of them.
-use Rattle.std.specs.Prelude.{◌≡◌, ◌+◌, ℕ, List, [], Bool, true, false, ◌==◌, ◌&&◌, Option, Some, None, is_some, unwrap_or, option_map, map, count_by, string_bytes, slice_index_or}
+use Rattle.std.specs.Prelude.{◌≡◌, ◌+◌, ℕ, List, Bool, true, false, ◌==◌, ◌&&◌, Option, Some, None, is_some, unwrap_or, option_map, map, count_by, string_bytes, slice_index_or}
 use Rattle.std.specs.List.{list_any, IsDistinct}
 use Rattle.std.specs.declared.boxed.Box.{Box}
 use Rattle.std.specs.declared.alloc.Global.{Global}
@@ -8,9 +8,8 @@ use Rattle.std.specs.Ordering.{nat_cmp, ordering_then}
 use Rattle.std.specs.declared.cmp.Ordering.{Ordering}
 use Rattle.std.specs.BTreeMap.{is_at}
 use Rattle.std.specs.Map.{lookup, keys_of, values_of}
-use Rattle.consent.specs.declared.grant.Kind.{Kind}
-use Rattle.consent.specs.declared.grant.Kind.TheVariants as kind
-use Rattle.consent.specs.History.{Terms}
+use Rattle.consent.specs.RecordFacts as fact
+use Rattle.consent.specs.RecordFacts.{KindFact}
 use Rattle.token_store.specs.declared.agenda.Agenda.{Agenda}
 use Rattle.token_store.specs.declared.agenda.Deadline.{Deadline}
 use Rattle.token_store.specs.declared.record.CodeTexts.{CodeTexts}
@@ -21,50 +20,35 @@ use Rattle.token_store.specs.declared.record.Shared.{Shared}
 use Rattle.token_store.specs.declared.tables.Tables.{Tables}
 use Rattle.consent.specs.declared.change.CodeFacts.{CodeFacts}
 use Rattle.token_store.specs.Agenda.{deadlines_of, IsExact, is_deadline}
-use Rattle.token_store.specs.Kept.{Kept, Texts}
+use Rattle.token_store.specs.Kept.{Kept}
+use Rattle.token_store.specs.Image.{kept_told}
 
 -- RECORDS
 
-abbrev pub kind_in : Given → Kind
-kind_in (Code texts) = kind.Code
-kind_in (Token token) = kind.Token token
+-- a code by the texts that are kept
+abbrev pub texts_seen : Box CodeTexts Global → KindFact
+texts_seen texts = fact.Code texts.value.owner (string_bytes texts.value.redirect) (string_bytes texts.value.challenge)
 
--- a code has its owner itself, a token that of its family
-abbrev pub owner_in : ℕ → Given → ℕ
-owner_in owner (Code texts) = texts.value.owner
-owner_in owner (Token token) = owner
-
-abbrev pub redirect_in : Given → List ℕ
-redirect_in (Code texts) = string_bytes texts.value.redirect
-redirect_in (Token token) = []
-
-abbrev pub challenge_in : Given → List ℕ
-challenge_in (Code texts) = string_bytes texts.value.challenge
-challenge_in (Token token) = []
-
--- the terms of a code of this scope
-abbrev pub terms_by : ℕ → ℕ → ℕ → Terms
-terms_by client owner scope = record { client = client; owner = owner; scope = scope }
+-- what was given, without where its texts lie in memory
+abbrev pub fact_in : Given → KindFact
+fact_in (Code texts) = texts_seen texts
+fact_in (Token token) = fact.Token token
 
 -- a record under its digest as it is seen, by what its family shares
 abbrev pub kept_under : Shared → List ℕ → Record → Kept
-kept_under s digest r = record {
-  grant = record {
-    digest = digest;
-    kind = kind_in r.given;
-    family = r.family;
-    client = s.client;
-    owner = owner_in s.owner r.given;
-    scope = r.scope;
-    moment = r.moment;
-    life = r.life;
-    redirect = redirect_in r.given;
-    challenge = challenge_in r.given;
-  };
-  terms = option_map (terms_by s.client s.owner) s.code_scope;
+kept_under s digest r = kept_told (record {
+  digest = digest;
+  kind = fact_in r.given;
+  family = r.family;
+  client = s.client;
+  owner = s.owner;
+  scope = r.scope;
+  moment = r.moment;
+  life = r.life;
+  code_scope = s.code_scope;
   spent = r.spent;
   ended = s.ended;
-}
+})
 
 -- FAMILIES
 
@@ -149,17 +133,9 @@ IsTied t awaited = Tied t.families.slots t.records.entries t.agenda t.owners.key
 
 -- NEW RECORDS
 
--- the texts that are kept
-abbrev pub texts_seen : Box CodeTexts Global → Texts
-texts_seen texts = record {
-  owner = texts.value.owner;
-  redirect = string_bytes texts.value.redirect;
-  challenge = string_bytes texts.value.challenge;
-}
-
--- those of a code that is given
-abbrev pub texts_given : CodeFacts → Texts
-texts_given facts = record { owner = facts.owner; redirect = facts.redirect.now; challenge = facts.challenge.now }
+-- a code by the texts that it is given for
+abbrev pub texts_given : CodeFacts → KindFact
+texts_given facts = fact.Code facts.owner facts.redirect.now facts.challenge.now
 
 -- what a new family of the client's own shares
 abbrev pub own_shared : ℕ → ℕ → Shared

@@ -1,5 +1,5 @@
 -- Beside Records: only the contracts of this crate's own parts and their proofs cite this, no public clause.
-use Rattle.std.specs.Prelude.{◌≡◌, ◌≢◌, ◌+◌, ◌-◌, ◌<◌, ◌≤◌, ℕ, List, [], ◌∷◌, ◌++◌, Bool, true, false, not, nat_lt, nat_le, ◌==◌, if◌then◌else◌, Option, Some, None, is_some, map, option_map}
+use Rattle.std.specs.Prelude.{◌≡◌, ◌≢◌, ◌+◌, ◌-◌, ◌<◌, ◌≤◌, ℕ, List, [], ◌∷◌, ◌++◌, Bool, true, false, not, nat_lt, nat_le, ◌==◌, if◌then◌else◌, Option, Some, None, option_map}
 use Rattle.std.specs.List.{list_any, IsDistinct}
 use Rattle.std.specs.Str.{bytes_eq}
 use Rattle.std.specs.declared.ops.Bound.{Bound}
@@ -7,7 +7,7 @@ use Rattle.std.specs.declared.ops.Bound.TheVariants.{Included, Excluded}
 use Rattle.std.specs.BTreeMap.{is_at}
 use Rattle.std.specs.List.Sorted.{IsPermutation}
 use Rattle.std.specs.Map.{lookup, keys_of, remove_entry, set_value}
-use Rattle.consent.specs.declared.grant.Kind.TheVariants as kind
+use Rattle.consent.specs.RecordFacts as fact
 use Rattle.consent.specs.Limits.{code_life}
 use Rattle.consent.specs.History.{is_named, is_beyond, is_within}
 use Rattle.consent.specs.History.Change.{Consented}
@@ -19,7 +19,8 @@ use Rattle.consent.specs.declared.change.CodeFacts.{CodeFacts}
 use Rattle.consent.specs.declared.change.NewToken.{NewToken}
 use Rattle.token_store.specs.Agenda.{is_deadline}
 use Rattle.token_store.specs.Kept.{Kept, kept_at, kept_unexpired}
-use Rattle.token_store.specs.Records.{terms_by, kept_under, kept_in, family_numbered, shared_at, kept_of, all_kept, expiry_of, owner_cmp, has_owner, code_shared, IsCounted, IsOwned}
+use Rattle.token_store.specs.Image.{terms_by, kept_told}
+use Rattle.token_store.specs.Records.{kept_under, kept_in, family_numbered, shared_at, kept_of, all_kept, expiry_of, owner_cmp, has_owner, code_shared, texts_given, IsCounted, IsOwned}
 use Rattle.std.specs.Option.{option_and_then}
 
 abbrev pub is_live_at : ℕ → Record → Bool
@@ -123,14 +124,6 @@ changed (RecordChange.Ended family) k = if k.grant.family == family then record 
 changed (RecordChange.Lowered owner client mask) k =
     if is_beyond (Consented owner client mask) k.terms then record k { ended = true } else k
 
--- what is kept of all, with such a change
-abbrev pub all_changed : RecordChange → List Kept → List Kept
-all_changed change kept = map (changed change) kept
-
--- what the digest names, at whatever moment, is changed so
-abbrev pub HasSpent : (old new : List Kept) → List ℕ → Type 0
-HasSpent old new digest = (moment : ℕ) → is_some (kept_at old digest moment) ≡ true → new ≡ all_changed (RecordChange.Spent digest moment) old
-
 -- the family has ended, if it is there
 pub record HasEnded (old new : List (Option Shared)) (n : ℕ) : Type 0 where
   pub here : family_numbered new n ≡ option_map (λ (s : Shared). record s { ended = true }) (family_numbered old n)
@@ -190,23 +183,19 @@ owner_no number = if number == 0 then None else Some number
 
 -- what is kept of a new code
 abbrev pub code_kept : ℕ → List ℕ → CodeFacts → ℕ → Kept
-code_kept family digest facts moment = record {
-  grant = record {
-    digest = digest;
-    kind = kind.Code;
-    family = family;
-    client = facts.client;
-    owner = facts.owner;
-    scope = facts.scope;
-    moment = moment;
-    life = code_life;
-    redirect = facts.redirect.now;
-    challenge = facts.challenge.now;
-  };
-  terms = Some (terms_by facts.client facts.owner facts.scope);
+code_kept family digest facts moment = kept_told (record {
+  digest = digest;
+  kind = texts_given facts;
+  family = family;
+  client = facts.client;
+  owner = facts.owner;
+  scope = facts.scope;
+  moment = moment;
+  life = code_life;
+  code_scope = Some facts.scope;
   spent = false;
   ended = false;
-}
+})
 
 -- the record is that of a new code, in the family with the number
 abbrev pub IsCodeRecord : ℕ → CodeFacts → ℕ → Record → Type 0
@@ -215,20 +204,16 @@ IsCodeRecord family facts moment r =
 
 -- what is kept of a new token, in the family with the number
 abbrev pub token_kept : ℕ → Shared → ℕ → NewToken → Kept
-token_kept family s moment token = record {
-  grant = record {
-    digest = token.digest;
-    kind = kind.Token token.kind;
-    family = family;
-    client = s.client;
-    owner = s.owner;
-    scope = token.scope;
-    moment = moment;
-    life = token.life;
-    redirect = [];
-    challenge = [];
-  };
-  terms = option_map (terms_by s.client s.owner) s.code_scope;
+token_kept family s moment token = kept_told (record {
+  digest = token.digest;
+  kind = fact.Token token.kind;
+  family = family;
+  client = s.client;
+  owner = s.owner;
+  scope = token.scope;
+  moment = moment;
+  life = token.life;
+  code_scope = s.code_scope;
   spent = false;
   ended = s.ended;
-}
+})

@@ -7,7 +7,8 @@ use Rattle.token_store.specs.declared.record.Shared.{Shared}
 use Rattle.token_store.specs.declared.tables.Coming.{Coming}
 use Rattle.token_store.specs.declared.tables.Tables.{Tables}
 use Rattle.token_store.specs.Agenda.{agenda_room}
-use Rattle.token_store.specs.Kept.{Texts, Room, Held}
+use Rattle.consent.specs.RecordFacts.{KindFact}
+use Rattle.token_store.specs.Kept.{Room, Held}
 use Rattle.token_store.specs.Records.{family_numbered, shared_at, is_coded, code_shared, own_shared, texts_seen, texts_given}
 
 -- how many codes and tokens the change gives
@@ -32,7 +33,7 @@ pub record Waits (families : List (Option Shared)) (n : ℕ) (s : Shared) : Type
   pub alike : (owner client : ℕ) → is_coded owner client (family_numbered families n) ≡ is_coded owner client (Some s)
 
 -- such a one is expected, in a family of its own
-pub record IsExpected (room : Room) (s : Shared) (texts : Option Texts) : Type 0 where
+pub record IsExpected (room : Room) (s : Shared) (texts : Option KindFact) : Type 0 where
   pub coming : Coming
   pub is : room.coming ≡ Some coming
   pub texts_are : option_map texts_seen coming.texts ≡ texts

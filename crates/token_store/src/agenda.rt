@@ -1,5 +1,5 @@
 //! When which records expire.
-ghost use Rattle.std.specs.Prelude.{◌≡◌, ◌+◌, ◌≤◌, ℕ, [], ◌∷◌, ◌++◌, true, filter, max, nat_lt, OnOk, length};
+ghost use Rattle.std.specs.Prelude.{◌≡◌, ◌+◌, ◌≤◌, [], ◌∷◌, ◌++◌, true, filter, max, nat_lt, OnOk, length};
 ghost use Rattle.std.specs.List.{AllByRecursion, list_all};
 ghost use Rattle.token_store.specs.Agenda.{least, IsBounded, deadlines_in, deadlines_of, IsExact, agenda_room};
 ghost use Rattle.token_store.specs.AgendaParts.{is_ahead, is_filled, page_room, HasCome};

@@ -8,7 +8,7 @@ ghost use Rattle.token_store.specs.Records.{IsTied, kept_of};
 ghost use Rattle.token_store.specs.Room.{HasRoomFor, HasSpare, room_of};
 
 use crate::record::{Record, Shared};
-use crate::tables::{Coming, Tables};
+use crate::tables::{Coming, Tables, end_one, lower_all, spend_one};
 use consent::{Change, Changes, ClientNo, CodeFacts, Digest, Moment, NewToken};
 
 impl Tables {
@@ -68,7 +68,7 @@ impl Tables {
         ensures makes { MakesChange (kept_of self.old) (kept_of self.new) moment (Change.Spent digest.now) }
     {
         if self.record_at(digest, moment).is_some() {
-            self.spend(digest);
+            spend_one(&mut self.records, digest);
         }
     }
 
@@ -82,7 +82,7 @@ impl Tables {
             return;
         };
         let number = record.family;
-        self.end(number);
+        end_one(&mut self.families, number);
     }
 
     // Makes a change.
@@ -97,7 +97,13 @@ impl Tables {
                 owner,
                 client,
                 mask,
-            } => self.lower(*owner, *client, *mask),
+            } => lower_all(
+                &mut self.families,
+                &self.owners,
+                owner.get(),
+                client.get(),
+                *mask,
+            ),
             Change::CodeGiven { facts, digest } => self.give_code(facts, digest, moment),
             Change::IssuedAlone { client, token } => self.issue_alone(*client, token, moment),
             Change::Issued { of, token } => self.issue_with(of, token, moment),

@@ -1,8 +1,8 @@
 //! A store's codes and tokens as values, from which a store is made again.
 
-ghost use Rattle.std.specs.Prelude.{◌≡◌, ◌+◌, ℕ, true, false, IfOk};
-ghost use Rattle.token_store.specs.Image.{kept_record};
-ghost use Rattle.token_store.specs.ImageParts.{AgreesWithRecord, is_unexpired_record, shared_of, IsRecordOf};
+ghost use Rattle.std.specs.Prelude.{◌≡◌, ◌+◌, true, false, IfOk};
+ghost use Rattle.token_store.specs.Image.{is_unexpired_record, kept_record, shared_of};
+ghost use Rattle.token_store.specs.ImageParts.{AgreesWithRecord, IsRecordOf};
 ghost use Rattle.token_store.specs.Records.{kept_under};
 
 use crate::record::{CodeTexts, Given, Record, Shared};

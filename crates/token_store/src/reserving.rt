@@ -8,7 +8,7 @@ ghost use Rattle.token_store.specs.RecordsParts.{TellsSame};
 ghost use Rattle.token_store.specs.Room.{records_by, records_of, HasRoomFor, HasSpare, IsExpected, IsReady, room_of};
 
 use crate::record::{CodeTexts, Shared};
-use crate::tables::{Coming, Tables};
+use crate::tables::{Coming, Tables, close};
 use consent::{Change, Changes, CodeFacts};
 use std::alloc::{AllocError, Global};
 
@@ -48,8 +48,14 @@ impl Tables {
         ensures tied { IsTied self.new [] }
         ensures same { kept_of self.new ≡ kept_of self.old }
     {
-        if let Some(coming) = self.coming.take() {
-            self.close_if_empty(coming.number);
+        let Some(coming) = self.coming.take() else {
+            return;
+        };
+        let Some(shared) = self.families.get(coming.number) else {
+            return;
+        };
+        if shared.count == 0 {
+            close(&mut self.families, &mut self.owners, coming.number);
         }
     }
 

@@ -7,9 +7,9 @@ ghost use Rattle.consent.specs.History.{is_unexpired};
 ghost use Rattle.token_store.specs.Kept.{kept_unexpired};
 ghost use Rattle.token_store.specs.Records.{family_numbered, kept_of, IsTied};
 ghost use Rattle.token_store.specs.RecordsParts.{kept_with, HasEntered, HasPut, TellsSame};
-ghost use Rattle.token_store.specs.Image.{as_kept, HasDigestTwice};
-ghost use Rattle.token_store.specs.ImageParts.{FindsAtMost, IsRestored, IsSecond, is_unexpired_record};
-ghost use Rattle.token_store.specs.Homes.{AreHomes, HasHome, AllHome, HasGrown, HomesStay, as_numbered};
+ghost use Rattle.token_store.specs.Image.{as_kept, is_unexpired_record, HasDigestTwice, HasFamilyDiffering};
+ghost use Rattle.token_store.specs.ImageParts.{FindsAtMost, IsRestored, IsSecond};
+ghost use Rattle.token_store.specs.Homes.{AreHomes, ComesBy, HasHome, AllHome, HasGrown, HomesStay, IsAtOdds, as_numbered};
 
 use crate::image::{is_of, is_unexpired, record_of, shared_by};
 use crate::record::Record;
@@ -70,6 +70,8 @@ impl Tables {
         ensures here { OnOk result (is_unexpired_record moment kept.now ≡ true → HasHome numbers.new.entries self.new.families.slots kept.now) }
         ensures full { IsErrOf result RestoreFault.Full → ⊥ }
         ensures twice { IsErrOf result RestoreFault.DigestTwice → ⊥ }
+        ensures comes { OnOk result (ComesBy numbers.old.entries numbers.new.entries moment kept.now) }
+        ensures differs { IsErrOf result RestoreFault.FamilyDiffers → IsAtOdds numbers.old.entries self.old.families.slots moment kept.now }
     {
         if !is_unexpired(kept, moment) {
             return Ok(());
@@ -98,12 +100,14 @@ impl Tables {
     ) -> Result<(), RestoreFault>
         requires tied { IsTied self.old [] }
         requires homes { AreHomes numbers.old.entries self.old.families.slots }
+        requires none { numbers.old.entries ≡ [] }
         ensures tied { OnOk result (IsTied self.new []) }
         ensures records { OnOk result (self.new.records.entries ≡ self.old.records.entries) }
         ensures homes { OnOk result (AreHomes numbers.new.entries self.new.families.slots) }
         ensures all { OnOk result (AllHome numbers.new.entries self.new.families.slots moment records.now) }
         ensures full { IsErrOf result RestoreFault.Full → ⊥ }
         ensures twice { IsErrOf result RestoreFault.DigestTwice → ⊥ }
+        ensures differs { IsErrOf result RestoreFault.FamilyDiffers → HasFamilyDiffering records.now moment }
     {
         for kept in records {
             self.open_home(numbers, kept, moment)?;
@@ -126,6 +130,7 @@ impl Tables {
         ensures homes { OnOk result (HomesStay numbers.now.entries self.old.families.slots self.new.families.slots) }
         ensures found { OnOk result (FindsAtMost self.old.records.entries self.new.records.entries moment kept.now) }
         ensures full { IsErrOf result RestoreFault.Full → ⊥ }
+        ensures differs { IsErrOf result RestoreFault.FamilyDiffers → ⊥ }
         ensures twice { IsErrOf result RestoreFault.DigestTwice → IsSecond self.old.records.entries moment kept.now }
     {
         if !is_unexpired(kept, moment) {
@@ -135,7 +140,7 @@ impl Tables {
             return Err(RestoreFault::DigestTwice);
         }
         let Some(number) = numbers.get(&kept.family) else {
-            return Err(RestoreFault::FamilyDiffers);
+            unreachable!();
         };
         let Ok(record) = record_of(alloc, kept, *number) else {
             return Err(RestoreFault::Memory);
@@ -160,6 +165,7 @@ impl Tables {
         ensures tied { OnOk result (IsTied self.new []) }
         ensures tells { OnOk result (TellsSame (as_numbered numbers.now.entries records.now) (kept_of self.new) moment) }
         ensures full { IsErrOf result RestoreFault.Full → ⊥ }
+        ensures differs { IsErrOf result RestoreFault.FamilyDiffers → ⊥ }
         ensures twice { IsErrOf result RestoreFault.DigestTwice → HasDigestTwice (as_kept records.now) moment }
     {
         for kept in records {
@@ -204,6 +210,7 @@ impl Tables {
         ensures restored { IfOk result (λ t. (renumber : ℕ → ℕ) × IsRestored (as_kept records.now) (kept_of t) moment renumber) }
         ensures full { IsErrOf result RestoreFault.Full ↔ record_limit < kept_unexpired (as_kept records.now) moment }
         ensures twice { IsErrOf result RestoreFault.DigestTwice → HasDigestTwice (as_kept records.now) moment }
+        ensures differs { IsErrOf result RestoreFault.FamilyDiffers → HasFamilyDiffering records.now moment }
     {
         if unexpired_count(records, moment) > RECORD_LIMIT {
             return Err(RestoreFault::Full);

@@ -4,6 +4,12 @@ ghost use Rattle.consent.specs.Limits.{record_limit};
 ghost use Rattle.consent.specs.History.{Event, unexpired_count};
 ghost use Rattle.consent.specs.Changes.{as_list};
 ghost use Rattle.consent.specs.Seen.{seen_at};
+ghost use Rattle.token_store.specs.Kept.{Held, kept_unexpired};
+ghost use Rattle.token_store.specs.Records.{IsTied, kept_of};
+ghost use Rattle.token_store.specs.Room.{room_of, HasRoom};
+ghost use Rattle.token_store.specs.Fits.{FitsHistory, FitsStore, ForEachHistory, MakesChanges, refusal};
+ghost use Rattle.token_store.specs.Image.{as_kept, HasDigestTwice, HasFamilyDiffering};
+ghost use Rattle.token_store.specs.Found.{code_scope_at, found_seen};
 
 use crate::fault::StoreFault;
 use crate::found::Found;
@@ -21,11 +27,6 @@ pub struct Store {
 }
 
 impl Model for Store {
-    ghost use Rattle.std.specs.Prelude.{[]};
-    ghost use Rattle.token_store.specs.Kept.{Held};
-    ghost use Rattle.token_store.specs.Records.{IsTied, kept_of};
-    ghost use Rattle.token_store.specs.Room.{room_of};
-
     ghost Value = { Held };
 
     ghost view = { λ s. record { kept = kept_of s.tables; room = room_of s.tables } };
@@ -34,12 +35,6 @@ impl Model for Store {
 }
 
 impl Store {
-    ghost use Rattle.token_store.specs.Fits.{FitsHistory, FitsStore, ForEachHistory, MakesChanges, refusal};
-    ghost use Rattle.token_store.specs.Image.{as_kept, HasDigestTwice};
-    ghost use Rattle.token_store.specs.Kept.{kept_unexpired};
-    ghost use Rattle.token_store.specs.Found.{code_scope_at, found_seen};
-    ghost use Rattle.token_store.specs.Room.{HasRoom};
-
     /// No codes and tokens, which later ones take memory from `alloc` for.
     pub fn new(alloc: Global) -> Self
         ensures { (moment : ℕ) → FitsStore result [] moment }
@@ -69,6 +64,7 @@ impl Store {
         // Full comes before the others.
         ensures full { IsErrOf result RestoreFault.Full ↔ record_limit < kept_unexpired (as_kept records.now) moment }
         ensures twice { IsErrOf result RestoreFault.DigestTwice → HasDigestTwice (as_kept records.now) moment }
+        ensures differs { IsErrOf result RestoreFault.FamilyDiffers → HasFamilyDiffering records.now moment }
     {
         let tables = match Tables::restored(alloc, records, moment) {
             Ok(tables) => tables,

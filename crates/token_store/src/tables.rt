@@ -9,12 +9,12 @@ ghost use Rattle.token_store.specs.Kept.{kept_at, kept_unexpired};
 ghost use Rattle.token_store.specs.FitsParts.{are_kept, has_kept_room, kept_refusal};
 ghost use Rattle.token_store.specs.Room.{HasSpare, Waits, room_of};
 ghost use Rattle.token_store.specs.Records.{family_numbered, kept_under, kept_of, shared_at, IsOwned, IsTied};
-ghost use Rattle.token_store.specs.RecordsParts.{is_live_at, IsNextOwned, start_of, kept_found, HasEntered, HasLeft, HasClosed, HasEnded, HasIndexed, HasOpened, HasLowered, HasPut, HasSpent, lowered_by, AllLive, KeepsToo, OthersStay, RecordChange, TellsSame, all_changed, spent_in};
+ghost use Rattle.token_store.specs.RecordsParts.{is_live_at, IsNextOwned, IsUnused, start_of, kept_found, HasEntered, HasLeft, HasClosed, HasEnded, HasIndexed, HasOpened, HasLowered, HasPut, lowered_by, AllLive, KeepsToo, OthersStay, TellsSame, spent_in};
 
 use crate::agenda::Agenda;
 use crate::fault::StoreFault;
 use crate::record::{CodeTexts, Record, Shared};
-use consent::{ClientNo, Digest, Moment, OwnerNo, RECORD_LIMIT, ScopeSet};
+use consent::{Digest, Moment, RECORD_LIMIT, ScopeSet};
 use slab::Slab;
 use std::alloc::{AllocError, Global};
 use std::collections::{BTreeSet, HashMap};
@@ -164,39 +164,6 @@ impl Tables {
 }
 
 impl Tables {
-    /// Ends the family, if there is one with the number.
-    pub(crate) fn end(&mut self, number: usize)
-        requires { IsTied self.old [] }
-        ensures tied { IsTied self.new [] }
-        ensures changed { kept_of self.new ≡ all_changed (RecordChange.Ended number) (kept_of self.old) }
-    {
-        end_one(&mut self.families, number);
-    }
-
-    /// Ends each family of the two whose code's scope is not within the mask.
-    pub(crate) fn lower(&mut self, owner: OwnerNo, client: ClientNo, mask: ScopeSet)
-        requires { IsTied self.old [] }
-        ensures tied { IsTied self.new [] }
-        ensures changed { kept_of self.new ≡ all_changed (RecordChange.Lowered owner client mask) (kept_of self.old) }
-    {
-        lower_all(
-            &mut self.families,
-            &self.owners,
-            owner.get(),
-            client.get(),
-            mask,
-        );
-    }
-
-    /// The record of the digest is spent.
-    pub(crate) fn spend(&mut self, digest: &Digest)
-        requires { IsTied self.old [] }
-        ensures tied { IsTied self.new [] }
-        ensures changed { HasSpent (kept_of self.old) (kept_of self.new) digest.now }
-    {
-        spend_one(&mut self.records, digest);
-    }
-
     /// Opens a family without records.
     pub(crate) fn open_family(&mut self, shared: Shared) -> Result<usize, AllocError>
         requires tied { IsTied self.old [] }
@@ -213,20 +180,6 @@ impl Tables {
         add_owner(&mut self.owners, shared.code_scope, parties, number)?;
         self.families.insert_reserved(shared);
         Ok(number)
-    }
-
-    /// Lets go of the family, if it has no records.
-    pub(crate) fn close_if_empty(&mut self, number: usize)
-        requires { IsTied self.old [] }
-        ensures tied { IsTied self.new [] }
-        ensures same { kept_of self.new ≡ kept_of self.old }
-    {
-        let Some(shared) = self.families.get(number) else {
-            return;
-        };
-        if shared.count == 0 {
-            close(&mut self.families, &mut self.owners, number);
-        }
     }
 
     /// Keeps the record in its family, in the place of what has expired under its digest.
@@ -261,6 +214,7 @@ impl Tables {
         requires empty { shared.count ≡ 0 }
         requires room { HasSpare (room_of self.old) 1 }
         ensures tied { IsTied self.new [] }
+        ensures unused { (moment : ℕ) → IsUnused (kept_of self.old) moment new.family }
         ensures keeps { (moment : ℕ) → kept_at (kept_of self.old) digest.now moment ≡ None →
             TellsSame (kept_of self.old ++ kept_under shared digest.now new ∷ []) (kept_of self.new) moment }
     {
@@ -307,7 +261,8 @@ fn renew(families: &mut Slab<Shared>, number: usize, shared: Shared)
     }
 }
 
-fn end_one(families: &mut Slab<Shared>, number: usize)
+// Ends the family, if there is one with the number.
+pub(crate) fn end_one(families: &mut Slab<Shared>, number: usize)
     ensures ended { HasEnded families.old.slots families.new.slots number }
 {
     if let Some(shared) = families.get_mut(number) {
@@ -315,7 +270,8 @@ fn end_one(families: &mut Slab<Shared>, number: usize)
     }
 }
 
-fn spend_one(records: &mut HashMap<Digest, Record>, digest: &Digest)
+// The record of the digest is spent, if there is one.
+pub(crate) fn spend_one(records: &mut HashMap<Digest, Record>, digest: &Digest)
     ensures spent { records.new.entries ≡ spent_in digest.now records.old.entries (lookup (bytes_eq digest.now) records.old.entries) }
 {
     if let Some(record) = records.get_mut(digest) {
@@ -323,7 +279,14 @@ fn spend_one(records: &mut HashMap<Digest, Record>, digest: &Digest)
     }
 }
 
-fn lower_all(families: &mut Slab<Shared>, owners: &Owners, owner: u32, client: u32, mask: ScopeSet)
+// Ends each family of the two whose code's scope is not within the mask.
+pub(crate) fn lower_all(
+    families: &mut Slab<Shared>,
+    owners: &Owners,
+    owner: u32,
+    client: u32,
+    mask: ScopeSet,
+)
     requires owned { IsOwned families.old.slots owners.now.keys }
     ensures lowered { HasLowered families.old.slots families.new.slots owner client mask }
 {
@@ -390,7 +353,7 @@ pub(crate) fn leave(families: &mut Slab<Shared>, owners: &mut Owners, number: us
 }
 
 // Lets go of the family, which the index has only if a code of some scope opened it.
-fn close(families: &mut Slab<Shared>, owners: &mut Owners, number: usize)
+pub(crate) fn close(families: &mut Slab<Shared>, owners: &mut Owners, number: usize)
     ensures owned { IsOwned families.old.slots owners.old.keys → IsOwned families.new.slots owners.new.keys }
     ensures closed { HasClosed families.old.slots families.new.slots number }
 {

@@ -8,5 +8,5 @@ loop-deadline-preserved c =
     let xs = c.args.deadlines.now in
     let i = c.loop-deadline.deadline-index in
     let e = c.deadline-item.result in
-    c.min-earliest.ensures ∙ ap (λ n. min n e.moment) c.loop-deadline.invariant ∙ sym (least_pushed 18446744073709551615 (take i xs) e)
+    c.min-earliest.ensures ∙ ap (λ n. min n e.moment) c.loop-deadline.invariant ∙ sym (least_pushed (take i xs) e)
     ∙ ap (λ y. least (take i xs ++ y ∷ [])) c.deadline-item.is ∙ ap least (sym (take_more xs i e c.loop-deadline-test.true))

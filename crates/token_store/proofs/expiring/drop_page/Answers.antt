@@ -10,4 +10,4 @@ returns-else-page-get c =
     let is = c.get.ensures.value in
     let bounded = c.requires.bounded in
     sheds_none a.families.now.slots a.records.now.entries a.owners.now.keys xs a.moment c.requires.once c.requires.counted
-    (gone_later xs 18446744073709551615 a.moment a.records.now.entries (omega (arith, later, is, bounded)))
+    (gone_later xs a.moment a.records.now.entries (omega (arith, later, is, bounded)))

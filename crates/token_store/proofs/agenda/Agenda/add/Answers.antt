@@ -12,6 +12,6 @@ returns-clause-exact c = λ exact.
     record {
       pages = exact.pages;
       newest = c.add.ensures.bounded exact.newest;
-      all = c.min-self.ensures ∙ ap (λ n. min n e.moment) exact.all ∙ sym (least_pushed 18446744073709551615 (deadlines_of a) e)
+      all = c.min-self.ensures ∙ ap (λ n. min n e.moment) exact.all ∙ sym (least_pushed (deadlines_of a) e)
           ∙ ap least (append_assoc before a.newest.deadlines.items (e ∷ [])) ∙ ap (λ l. least (before ++ l)) (sym c.add.ensures.added);
     }

@@ -6,7 +6,7 @@ use Rattle.token_store.proofs.agenda.Page.add.Goals as goal
 pub returns-clause-bounded : goal.returns-clause-bounded
 returns-clause-bounded c = λ bounded.
     let items = c.args.self.now.deadlines.items in
-    c.min-self.ensures ∙ ap (λ n. min n c.args.deadline.moment) bounded ∙ sym (least_pushed 18446744073709551615 items c.args.deadline) ∙ ap least (sym c.in-Ok.ensures.items)
+    c.min-self.ensures ∙ ap (λ n. min n c.args.deadline.moment) bounded ∙ sym (least_pushed items c.args.deadline) ∙ ap least (sym c.in-Ok.ensures.items)
 
 pub returns-clause-room : goal.returns-clause-room
 returns-clause-room c = let len = c.in-Ok.ensures.len in let capacity = c.in-Ok.ensures.capacity in omega (arith, len, capacity)

@@ -7,5 +7,5 @@ pub returns-clause-live : goal.returns-clause-live
 returns-clause-live c = λ is d t at.
     let deadlines = deadlines_of c.args.self.now.agenda in
     let lt = ltb-true c.args.moment (least deadlines) (sym c.is_ahead.ensures ∙ is) in
-    let le = least_at 18446744073709551615 deadlines d t (c.requires.listed d t at) in
+    let le = least_at deadlines d t (c.requires.listed d t at) in
     omega (arith, lt, le)

@@ -1,5 +1,5 @@
 use Rattle.std.proofs.Common.{refl}
-use Rattle.token_store.proofs.Settling.{tied_moved, same_awaiting}
+use Rattle.token_store.proofs.Settling.{tied_moved, same_moved}
 use Rattle.token_store.proofs.tables.Tables.make_room.Goals as goal
 
 pub returns-clause-tied : goal.returns-clause-tied
@@ -12,4 +12,4 @@ pub returns-clause-same : goal.returns-clause-same
 returns-clause-same c = λ m.
     let t = c.args.self.now in
     let e = c.reserve.ensures in
-    same_awaiting t.families.slots t.families.slots t.records.entries c.reserve.new.self.entries m (λ k d x. refl) c.requires.once e.unique e.entries.0 e.entries.2
+    same_moved t.families.slots t.families.slots t.records.entries c.reserve.new.self.entries m (λ k d x. refl) c.requires.once e.unique e.entries.0 e.entries.2

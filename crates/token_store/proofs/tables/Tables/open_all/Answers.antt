@@ -1,6 +1,6 @@
-use Rattle.std.proofs.Common.{◌≡◌, ◌<◌, ◌+◌, ◌∷◌, ◌++◌, [], take, length, ap, ◌∙◌, sym}
+use Rattle.std.proofs.Common.{◌≡◌, ◌<◌, ◌+◌, ◌∷◌, ◌++◌, [], take, drop, length, arith, ap, ◌∙◌, sym}
 use Rattle.std.proofs.lemmas.List.{take_more}
-use Rattle.token_store.proofs.Remaking.{all_push, all_mapped, home_grown}
+use Rattle.token_store.proofs.Remaking.{all_push, all_mapped, home_grown, parts_at, differing_at, said_push}
 use Rattle.token_store.proofs.tables.Tables.open_all.Goals as goal
 
 pub loop-kept-preserved : goal.loop-kept-preserved
@@ -20,4 +20,13 @@ loop-kept-preserved c =
       records_are = c.in_ok-open_home.ensures.records ∙ c.loop-kept.invariant.records_are;
       homes = c.in_ok-open_home.ensures.homes;
       all = rw more (all_push n' f' m (take i rs) r (all_mapped n n' f f' m (take i rs) (λ x. home_grown n n' f f' x c.in_ok-open_home.ensures.grown) c.loop-kept.invariant.all) c.in_ok-open_home.ensures.here);
+      said = rw more (said_push n n' f f' m (take i rs) r c.loop-kept.invariant.homes c.in_ok-open_home.ensures.grown c.in_ok-open_home.ensures.comes c.in_ok-open_home.ensures.here c.loop-kept.invariant.said);
     }
+
+pub returns-in_err-open_home-clause-differs : goal.returns-in_err-open_home-clause-differs
+returns-in_err-open_home-clause-differs c is =
+    let rs = c.args.records.now in
+    let i = c.loop-kept.kept-index in
+    let r = c.kept-item.result in
+    let whole : rs ≡ take i rs ++ r ∷ drop (i + 1) rs = parts_at rs i r c.loop-kept-test.true ∙ ap (λ x. take i rs ++ x ∷ drop (i + 1) rs) (sym c.kept-item.is) in
+    differing_at c.loop-kept.numbers.entries c.loop-kept.self.families.slots c.args.moment rs (take i rs) r (drop (i + 1) rs) whole c.loop-kept.invariant.homes c.loop-kept.invariant.said (c.in_err-open_home.ensures.differs (let from = c.from_residual.ensures in grind (arith, is, from)))
