@@ -2,7 +2,7 @@
 use Rattle.std.proofs.Common.{◌≡◌, ◌≤◌, ℕ, List, [], ◌++◌, Bool, true, false, max, refl, ap, sym, ◌∙◌, arith, append-nil, subst, Result, Ok, Err, Option, Some, None}
 use Rattle.endpoints.specs.Names.{all_dated, Endpoint}
 use Rattle.endpoints.proofs.Names.{RegistryRecord, changes_of, as_list, AllFollow, Event, happening, with_changes, Changes, DatedFact, HookFault, Hosting, Asked, path_of, Written, in_writing, Draws}
-use Rattle.endpoints.proofs.Names.{Held, FitsStore, fits_later, Outcome, bare, reply_of, Ruling, hook_change_at, HostRun, IsHostFault, says_with, IsSame, Makes, MakesHost, StandsAlone, with_notes}
+use Rattle.endpoints.proofs.Names.{Held, FitsStore, fits_later, Outcome, bare, reply_of, Ruling, hook_change_at, HostRun, IsHostFault, says_with, IsSame, Makes, MakesHost, with_notes}
 use Rattle.endpoints.proofs.Names.{AllRightAfter, CanMakeAll, endpoint_at, method_at, Asking, FitsNow, IsRuling, comes_to, setting_now, AnswersRequest, before_now, SeenServer, Outset, Before}
 use Rattle.endpoints.proofs.Names.{FitsServer, AreUnkept, AreNoted, IsStep, outset_of}
 use Rattle.std.specs.Prelude.{bytes_eq}
@@ -65,17 +65,17 @@ module _ {H : Type 0} (hosting : Hosting H) where
       let told = told_parts hosting (setting_now hosting old history asking.draws r.fault) ruling.decision o r.told_is in
       let changes = told.0 in
       let go = subst (λ (n : ℕ). FitsServer hosting mid outset history n → changes_of history n (as_list ruling.decision.changes) ≡ Some o.changes →
-      AllFollow history n o.changes → AllRightAfter old.rules history n o.changes → StandsAlone (as_list ruling.decision.changes) →
+      AllFollow history n o.changes → AllRightAfter old.rules history n o.changes →
       CanMakeAll hosting mid.host (as_list ruling.decision.changes) ruling.checked → FitsServer hosting new outset (with_changes history n o.changes) n)
       same.greatest (makes outset history o.changes) in (
         r.fault,
         r.host_has,
         record {
           reply_is = is ∙ ap in_writing (sym told.1);
-          fits = go (same.fits outset history old.greatest fits) changes r.follow r.right r.alone (rw same.host r.hooks);
+          fits = go (same.fits outset history old.greatest fits) changes r.follow r.right (rw same.host r.hooks);
           hosts =
               subst (λ (h : H). HostRun hosting h (with_changes [] old.greatest o.changes) new.host) same.host
-              (runs history old.greatest o.changes r.alone (rw same.host r.hooks) changes);
+              (runs history old.greatest o.changes (rw same.host r.hooks) changes);
           noted = λ kept before.
               let now : new.unkept ≡ with_notes old.unkept old.greatest ruling.decision.changes =
               noted ∙ ap (λ u. with_notes u mid.greatest ruling.decision.changes) same.unkept ∙ ap (λ n. with_notes old.unkept n ruling.decision.changes) same.greatest in

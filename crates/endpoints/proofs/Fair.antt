@@ -1,97 +1,83 @@
--- What the endpoints do but the token endpoint may come next and is right.
-use Rattle.std.proofs.Common.{◌≡◌, inl, inr, ℕ, List, [], ◌∷◌, true, Option, Some, refl, ap, ◌∙◌, arith}
-use Rattle.endpoints.proofs.Names.{is_some, option_map_or, result_ok, not-false, option_and_then_some, sha256, read_params, value_sent, ClientRecord, client_at, has_grant, AuthorizationCode}
-use Rattle.endpoints.proofs.Names.{AllFollow, is_taken-parts, Grant, IsHistory, is_within, is_code, consented_scope, grant_at, live_grant, has_consent_room, grant_at-placed, Asked, query_of}
-use Rattle.endpoints.proofs.Names.{ErrorName, InvalidRequest, InvalidGrant, InvalidScope, UnauthorizedClient, UnsupportedResponseType, AccessDenied, plain, Empty, Inactive, Told, Outcome}
-use Rattle.endpoints.proofs.Names.{bare, only, refuse, unavailable, Parameters, KnownClient, client_named, form_of, owner_of_key, scope_asked, scope_within, Setting, digest_told}
-use Rattle.endpoints.proofs.Names.{live_token, authorize, challenge_sent, code_sent_back, redirect_sent, turned_back, MayHave, allowed_to, give_consent, introspect, revoke_token}
-use Rattle.endpoints.proofs.Names.{revoked}
-use Rattle.std.specs.Prelude.{◌==◌, not, codes, bytes_eq, option_and_then, Result, Ok, Err}
-use Rattle.consent.specs.History.Change.{FamilyEnded}
-use Rattle.consent.specs.Facts.{GivenCode}
-use Rattle.messages.specs.Members.{Member}
-use Rattle.endpoints.specs.Documents.{document_outcome}
-use Rattle.endpoints.proofs.Points.{unavailable_all, point_all, need_all, unless_all, authenticated_all}
-use Rattle.endpoints.proofs.Sound.{IsFair, still, error_fair, passes, scope_is_within}
+-- What comes of a request may come next and is right, whichever way the request goes.
+use Rattle.std.proofs.Common.{◌≡◌, inl, inr, sym, subst, refl, ap, ℕ, List, [], ◌∷◌, Option, true, Some, arith}
+use Rattle.endpoints.proofs.Names.{is_some, option_map_or, ClientRecord, client_at, is_taken-parts, IsHistory, is_within, is_within-self, is_within-trans, grant_at, grant_at-placed}
+use Rattle.endpoints.proofs.Names.{code_terms-of_code, opener-fresh, sha256, plain, Setting, KnownClient, Asked, own_ask, is_of_code, allowed_to, MayHave, AllRight}
+use Rattle.consent.specs.History.{Change}
+use Rattle.consent.specs.History.Change.{HookSet, HookGone}
 use Rattle.endpoints.proofs.Telling.{good}
+use Rattle.endpoints.proofs.Sound.{IsFair, IsRightToken, still, access_fair, both_fair, ends_fair, left_within, refresh_no_code, right_may, right_token, scope_is_within}
+use Rattle.endpoints.proofs.Ways.{Proven, TokenWay, Refused, Wanting, Again, InVain, Once, Twice, Refreshed, Own, Way, Quiet, ByToken, Turned, Coded, Consents, Revokes, Tells, Installs, Removes}
+use Rattle.endpoints.proofs.Ways.{IsHookless, code_ask, refresh_ask, token_outcome, outcome_by}
 
-module _ (s : Setting) (is : IsHistory s.history s.moment) where
-  abbrev Fair : Outcome → Type 0
-  Fair o = IsFair s o
+-- the change is not of the hooks
+abbrev pub IsUnhooked : Change → Type 0
+IsUnhooked (HookSet name version code) = ⊥
+IsUnhooked (HookGone name) = ⊥
+IsUnhooked _ = Unit {0}
 
-  -- CONSENTS
+abbrev pub AllUnhooked : List Change → Type 0
+AllUnhooked [] = Unit {0}
+AllUnhooked (c ∷ cs) = IsUnhooked c × AllUnhooked cs
 
-  pub consent_fair : (asked : Asked) → Fair (give_consent s asked)
-  consent_fair asked =
-      need_all Fair (still s) {A = Parameters} (form_of asked) (refuse InvalidRequest) _ (error_fair s InvalidRequest) (λ params _.
-      need_all Fair (still s) {A = ℕ} (owner_of_key s.rules asked) (refuse AccessDenied) _ (error_fair s AccessDenied) (λ owner _.
-      need_all Fair (still s) {A = KnownClient} (client_named s.rules params) (refuse InvalidRequest) _ (error_fair s InvalidRequest) (λ known _.
-      need_all Fair (still s) {A = ℕ} (scope_asked s.rules 0 params) (refuse InvalidScope) _ (error_fair s InvalidScope) (λ mask _.
-      point_all Fair (still s) (not (has_consent_room s.history owner known.number mask)) unavailable _ (λ _. unavailable_all Fair (still s))
-      (λ _. record { follow = (tt, tt); right = (tt, tt); tame = inr tt })))))
-
-  -- DOCUMENTS
-
-  pub document_fair : (told : Result (List Member) ErrorName) → Fair (document_outcome told)
-  document_fair (Ok members) = still s (plain 200 (Told members))
-  document_fair (Err name) = error_fair s name
-
-  -- REVOCATION
-
-  -- the live token of the text is named by the text's digest
-  ended : (text : List ℕ) (token : Grant) → live_token s.history s.moment text ≡ Some token → AllFollow s.history s.moment (FamilyEnded token.family ∷ [])
-  ended text token live =
-      option_and_then_some (λ digest. live_grant s.history digest s.moment) (digest_told text) token
-      (passes (λ (g : Grant). not (is_code g.kind)) (option_and_then (λ digest. live_grant s.history digest s.moment) (digest_told text)) token live).0
-      (λ digest _ live. (grant_at-placed s.history digest s.moment token is.placed (good s.history digest s.moment (grant_at s.history digest s.moment) token live), tt))
-
-  pub revoke_fair : (asked : Asked) → Fair (revoke_token s asked)
-  revoke_fair asked =
-      authenticated_all Fair (still s) s.rules asked _ (λ params known at.
-      need_all Fair (still s) {A = List ℕ} (value_sent (codes "token") params) (refuse InvalidRequest) _ (error_fair s InvalidRequest) (λ text _.
-      need_all Fair (still s) {A = Grant} (live_token s.history s.moment text) (bare 200) _ (still s (plain 200 Empty)) (λ token live.
-      point_all Fair (still s) (not (token.client == known.number)) (refuse InvalidGrant) (revoked token)
-      (λ _. error_fair s InvalidGrant) (λ _. record { follow = ended text token live; right = (tt, tt); tame = inl (tt, tt) }))))
-
-  -- INTROSPECTION
-
-  pub introspect_fair : (asked : Asked) → Fair (introspect s asked)
-  introspect_fair asked =
-      authenticated_all Fair (still s) s.rules asked _ (λ params known at.
-      need_all Fair (still s) {A = List ℕ} (value_sent (codes "token") params) (refuse InvalidRequest) _ (error_fair s InvalidRequest) (λ text _.
-      need_all Fair (still s) {A = Grant} (live_token s.history s.moment text) (only (plain 200 Inactive)) _ (still s (plain 200 Inactive)) (λ token _. still s _)))
-
-  -- AUTHORIZATION
-
-  code_fair : (params : Parameters) (new : GivenCode) → MayHave s.rules new.client new.scope →
-      is_within new.scope (consented_scope s.history new.owner new.client) ≡ true → Fair (code_sent_back s params new)
-  code_fair params new allowed consented =
-      let digest = sha256 s.draws.first in
-      unless_all Fair (still s) s (digest ∷ []) _ (λ free. record {
-        follow = ((refl, (is_taken-parts s.history s.moment digest [] free).0), tt);
-        right = ((allowed, consented), tt);
-        tame = inl (tt, tt);
-      })
-
-  -- a client that is named is one of the registry's
-  named_at : (params : Parameters) (known : KnownClient) → client_named s.rules params ≡ Some known → client_at known.number s.rules.clients ≡ Some known.client
-  named_at params known named = grind (arith, named)
-
-  pub authorize_fair : (asked : Asked) → Fair (authorize s asked)
-  authorize_fair asked =
-      need_all Fair (still s) {A = Parameters} (result_ok (read_params (query_of asked.target))) (refuse InvalidRequest) _ (error_fair s InvalidRequest) (λ params _.
-      need_all Fair (still s) {A = KnownClient} (client_named s.rules params) (refuse InvalidRequest) _ (error_fair s InvalidRequest) (λ known named.
-      need_all Fair (still s) {A = List ℕ} (redirect_sent params known.client) (refuse InvalidRequest) _ (error_fair s InvalidRequest) (λ uri _.
-      let turned : ErrorName → Outcome = turned_back uri params in
-      let at = named_at params known named in
+module _ (s : Setting) (is : IsHistory s.history s.moment) (all : AllRight s.rules [] s.history) (asked : Asked) where
+  may : (known : KnownClient) (scope : ℕ) → client_at known.number s.rules.clients ≡ Some known.client → is_within scope known.client.allowed ≡ true →
+      MayHave s.rules known.number scope
+  may known scope at within =
       let allowed : allowed_to s.rules known.number ≡ known.client.allowed = ap (λ (o : Option ClientRecord). option_map_or (λ c. c.allowed) o 0) at in
-      need_all Fair (still s) {A = List ℕ} (value_sent (codes "response_type") params) (turned InvalidRequest) _ (still s _) (λ type _.
-      point_all Fair (still s) (not (bytes_eq type (codes "code"))) (turned UnsupportedResponseType) _ (λ _. still s _) (λ _.
-      point_all Fair (still s) (not (has_grant AuthorizationCode known.client.grants)) (turned UnauthorizedClient) _ (λ _. still s _) (λ _.
-      need_all Fair (still s) {A = List ℕ} (challenge_sent params) (turned InvalidRequest) _ (still s _) (λ challenge _.
-      need_all Fair (still s) {A = ℕ} (scope_within s.rules known.client.allowed params) (turned InvalidScope) _ (still s _) (λ scope within.
-      need_all Fair (still s) {A = ℕ} (owner_of_key s.rules asked) (turned AccessDenied) _ (still s _) (λ owner _.
-      point_all Fair (still s) (not (is_within scope (consented_scope s.history owner known.number))) (turned AccessDenied) _ (λ _. still s _) (λ consented.
-      code_fair params (record { client = known.number; owner = owner; scope = scope; redirect = uri; challenge = challenge })
-      (record { is_client = ap is_some at; within = ap (is_within scope) allowed ∙ scope_is_within s.rules known.client.allowed params scope within })
-      (not-false _ consented)))))))))))
+      record { is_client = ap is_some at; within = rw allowed within }
+
+  of_code : (x : Proven s asked) → IsRightToken s.rules s.history x.code.grant
+  of_code x =
+      let g = x.code.grant in (
+        right_may s.rules s.history x.code.digest s.moment g all x.code.named,
+        inr (g.scope, code_terms-of_code s.history x.code.digest s.moment s.moment g is x.code.named x.code.kind_is, is_within-self g.scope),
+      )
+
+  pub token_fair : (way : TokenWay s asked) → IsFair s (token_outcome way)
+  token_fair (Refused error) = still s _
+  token_fair Wanting = still s _
+  token_fair (Again type name test x spent) = ends_fair s is x.digest x.grant x.named
+  token_fair (InVain x error) = record { follow = (tt, tt); right = (tt, tt) }
+  token_fair (Once x left e free) =
+      let less = left_within s (code_ask x) left.scope left.life e in
+      access_fair s is x.code.digest x.code.grant x.code.named left (of_code x) x.alive less.0 less.1 free
+  token_fair (Twice x left e free) =
+      let less = left_within s (code_ask x) left.scope left.life e in
+      both_fair s is x.code.digest x.code.grant x.code.named left left.scope (of_code x) x.alive less.0 less.0 less.1 free
+  token_fair (Refreshed x left e free) =
+      let g = x.token.grant in
+      let less = left_within s (refresh_ask x) left.scope left.life e in
+      let right = right_token s.rules s.history x.token.digest s.moment g all x.token.named (refresh_no_code g.kind x.token.kind_is) in
+      let within = is_within-trans left.scope x.scope g.scope less.0 (scope_is_within s.rules g.scope x.token.sender.params x.scope x.asks) in
+      both_fair s is x.token.digest g x.token.named left g.scope right x.alive within (is_within-self g.scope) less.1 free
+  token_fair (Own sender typed scope left e free) =
+      let known = sender.known in
+      let less = left_within s (own_ask s known scope) left.scope left.life e in
+      let own = inl (record { no_owner = refl; no_code = ap is_of_code (opener-fresh s.history is.placed) }) in
+      record {
+        follow = ((inl refl, (is_taken-parts s.history s.moment (sha256 s.draws.first) [] free.0).0), tt);
+        right = ((may known left.scope sender.known_is (is_within-trans left.scope scope known.client.allowed less.0 free.1), less.1, own), tt);
+      }
+
+  pub way_fair : (way : Way s asked) → IsFair s (outcome_by way)
+  way_fair (Quiet status body moves active) = still s (plain status body)
+  way_fair (ByToken way) = token_fair way
+  way_fair (Turned x error) = still s _
+  way_fair (Coded x code key of) =
+      let names = x.names in
+      let at : client_at x.known.number s.rules.clients ≡ Some x.known.client = grind (arith, names) in
+      record {
+        follow = ((refl, (is_taken-parts s.history s.moment (sha256 s.draws.first) [] of.4).0), tt);
+        right = ((subst (λ n. MayHave s.rules n code.scope) (sym of.0) (may x.known code.scope at of.2), of.3), tt);
+      }
+  way_fair (Consents owner client mask key) = record { follow = (tt, tt); right = (tt, tt) }
+  way_fair (Revokes x own) =
+      let named = good s.history x.digest s.moment (grant_at s.history x.digest s.moment) x.token x.live in
+      record { follow = (grant_at-placed s.history x.digest s.moment x.token is.placed named, tt); right = (tt, tt) }
+  way_fair (Tells x) = still s _
+  way_fair (Installs name version code operator) = record { follow = (tt, tt); right = (tt, tt) }
+  way_fair (Removes name operator) = record { follow = (tt, tt); right = (tt, tt) }
+
+-- and changes no hook, unless it is the operator's to do so
+pub way_unhooked : (s : Setting) (asked : Asked) (way : Way s asked) → IsHookless way → AllUnhooked (outcome_by way).changes
+way_unhooked s asked way free = grind (arith, free)

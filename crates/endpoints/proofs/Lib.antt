@@ -1,10 +1,9 @@
 pub mod Telling
 pub mod Refusing
 pub mod Stepping
-pub mod Points
+pub mod Walking
+pub mod Ways
 pub mod Sound
-pub mod SoundGrants
-pub mod SoundToken
 pub mod Fair
 pub mod ReadingOn
 pub mod Ruled

@@ -28,14 +28,14 @@ pub use Rattle.consent.specs.History.{where_good, Change as told}
 pub use Rattle.consent.specs.HistoryLaws.{grant_at-placed, code_terms-kin, grant_at-kin, opener-fresh, code_terms-of_code, grant_at-given}
 pub use Rattle.consent.specs.declared.change.Change.TheVariants.{Spent}
 pub use Rattle.consent.specs.declared.change.Changes.TheVariants.{Nothing, One, Used}
-pub use Rattle.endpoints.specs.Authorize.{authorize, challenge_sent, code_sent_back, redirect_sent, turned_back, HasShortState}
+pub use Rattle.endpoints.specs.Authorize.{HasShortState}
 pub use Rattle.endpoints.specs.Bounded.{AllRightAfter, MayHave, allowed_to, IsOfCode, IsOwn, IsRightChange, is_of_code, token_life_limit, AllRight}
 pub use Rattle.endpoints.specs.BoundedLaws.{own-later, all_right-at}
-pub use Rattle.endpoints.specs.ConsentPath.{give_consent, consent_given}
-pub use Rattle.endpoints.specs.HookPaths.{hook_change_at, by_fault, hook_gone, hook_set, hook_set_by, is_operator, version_asked, with_operator}
+pub use Rattle.endpoints.specs.ConsentPath.{consent_given}
+pub use Rattle.endpoints.specs.HookPaths.{hook_change_at, by_fault, hook_gone, hook_set_by, is_operator, with_operator}
 pub use Rattle.endpoints.specs.Hosts.{HostRun, IsHostFault, says_with, HostStep}
 pub use Rattle.endpoints.specs.Introspect.{introspect, told_of}
-pub use Rattle.endpoints.specs.Making.{IsSame, Makes, MakesHost, StandsAlone, AllPlain, IsPlain, HasRooms}
+pub use Rattle.endpoints.specs.Making.{IsSame, Makes, MakesHost, HasRooms}
 pub use Rattle.endpoints.specs.Noting.{with_notes, noted_in, prepared_in}
 pub use Rattle.endpoints.specs.Parts.{hook_points, live_of, with_presented, authorize_known, query_points}
 pub use Rattle.endpoints.specs.Redo.{RedoesChange, RefusesRedo, history_refusal, or_not_right, unless_known, wanting}
@@ -58,13 +58,13 @@ pub use Rattle.messages.specs.Reply.Body.{Failure}
 pub use Rattle.messages.specs.declared.error.ErrorName.TheVariants.{InvalidClient}
 pub use Rattle.messages.specs.declared.error.ErrorName.TheVariants.{UnsupportedGrantType}
 pub use Rattle.sha2.specs.Sha256.{sha256}
-pub use Rattle.std.proofs.lemmas.Bool.{not-false, and_parts, eqb-true, leb-true, not-true, and_from, cases_Bool, false≢true, eq-eqb, cond_both, eqb-false, ne_eqb}
+pub use Rattle.std.proofs.lemmas.Bool.{not-false, and_parts, eqb-true, leb-true, not-true, and_from, cases_Bool, false≢true, eq-eqb, eqb-false, ne_eqb}
 pub use Rattle.std.proofs.lemmas.Bool.Decides.{nat_tests}
-pub use Rattle.std.proofs.lemmas.Option.{same_Some, option_and_then_some, slice_get_cases}
+pub use Rattle.std.proofs.lemmas.Option.{same_Some, slice_get_cases}
 pub use Rattle.std.specs.List.{position_or_len}
 pub use Rattle.std.specs.Prelude.{option_map, is_some, ◌<◌, ◌↔◌, find, nat_le, OnOk, ◌≢◌, ◌||◌, IfOk, option_copied, slice_get}
-pub use Rattle.token_endpoint.specs.ClientCredentials.{granted, client_credentials, own_ask}
-pub use Rattle.token_endpoint.specs.Exchange.{ends_family, exchanged, exchange, spent_in_vain}
+pub use Rattle.token_endpoint.specs.ClientCredentials.{client_credentials, own_ask}
+pub use Rattle.token_endpoint.specs.Exchange.{ends_family}
 pub use Rattle.token_endpoint.specs.Grants.{access_for, access_issued, both_digests, both_for, left_by_host, new_token, ask_for}
 pub use Rattle.token_store.specs.Fits.{to_keep}
 pub use Rattle.token_store.specs.FitsLaws.{fits_later, store_history}

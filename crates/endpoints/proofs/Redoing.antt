@@ -181,7 +181,7 @@ module _ {H : Type 0} (hosting : Hosting H) where
       let n = next_of outset.rules history moment change (store_history mid.store history moment now.store) (follows outset history m fits) in
       let meant : changes_of history moment (change ∷ []) ≡ Some (n.next ∷ []) =
       ap (λ o. option_and_then (λ (c : Happening). option_map (λ later. c ∷ later) (changes_of (with_change history moment c) moment [])) o) n.meant in
-      let done = makes outset history (n.next ∷ []) now meant (n.can, tt) (n.right, tt) tt (rw same.host can) in (
+      let done = makes outset history (n.next ∷ []) now meant (n.can, tt) (n.right, tt) (rw same.host can) in (
         n.next,
         n.meant,
         n.can,

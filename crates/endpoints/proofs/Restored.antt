@@ -11,9 +11,8 @@ use Rattle.consent.specs.ListLaws.{find-map, find-one, find-passes}
 use Rattle.consent.specs.declared.kept_consent.KeptConsent.{KeptConsent}
 use Rattle.token_store.specs.Image.{as_kept, kept_record}
 use Rattle.consent.specs.declared.kept_record.KeptRecord.{KeptRecord}
-use Rattle.endpoints.proofs.Points.{option_map_some}
-use Rattle.endpoints.proofs.Sound.{right_token}
-use Rattle.endpoints.proofs.SoundGrants.{right_code}
+use Rattle.endpoints.proofs.Sound.{right_may, right_token}
+use Rattle.endpoints.proofs.Walking.{option_map_some}
 
 may_back : (rules : RegistryRecord) (client scope : ℕ) → MayHave rules client scope → may_have rules client scope ≡ true
 may_back rules client scope may = let is = may.is_client in let within = may.within in grind (arith, is, within)
@@ -37,7 +36,7 @@ module _ (rules : RegistryRecord) (history : List Event) (m : ℕ) (is : IsHisto
   keeps Code kind =
       let terms = code_terms-of_code history digest m m g is at (ap is_code kind) in
       let within = is_within-self g.scope in
-      (right_code rules history digest m g all at kind, grind (arith, nat_tests, terms, within))
+      (right_may rules history digest m g all at, grind (arith, nat_tests, terms, within))
   keeps (Token t) kind = let right = right_token rules history digest m g all at (ap is_code kind) in (
     right.0,
     elim right.1 [

@@ -1,41 +1,46 @@
--- What comes of codes and tokens may come next and is right, and changes no consent and no hook.
-use Rattle.std.proofs.Common.{◌≡◌, ◌≤◌, ℕ, List, [], ◌∷◌, ◌++◌, Bool, true, false, Option, Some, bit_and, refl, sym, ap, ◌∙◌, arith, subst, inl, inr}
+-- What comes of codes and tokens may come next and is right.
+use Rattle.std.proofs.Common.{◌≡◌, ◌≤◌, ℕ, List, [], ◌∷◌, ◌++◌, true, false, Some, bit_and, refl, sym, ap, ◌∙◌, arith, subst, inl, inr}
 use Rattle.endpoints.proofs.Names.{eq-eqb, false≢true, same_Some, sha256, RegistryRecord, is_within-trans, code_terms-keep, has_ended-push_other}
-use Rattle.endpoints.proofs.Names.{Event, Grant, event_at, grant_by, grant_at, is_code, is_within, code_terms, has_ended, grant_at-given, Kind, Allowed, Reply, ErrorName, Extent}
-use Rattle.endpoints.proofs.Names.{Outcome, only, refuse, Parameters, scope_within, Setting, where_passes, is_refresh, ends_family, access_for, access_issued, both_digests, both_for}
-use Rattle.endpoints.proofs.Names.{all_right-at, AllFollow, IsHistory, CanFollow, with_change, is_taken, is_taken-parts, grant_at-placed, grant_at-kin, left_by_host, new_token, AllRight, AllRightAfter, IsRightChange, IsOfCode, IsOwn, MayHave, allowed_to, own-later}
+use Rattle.endpoints.proofs.Names.{Event, Grant, event_at, grant_by, grant_at, is_code, is_within, code_terms, has_ended, grant_at-given, Kind, Allowed, Reply, Extent}
+use Rattle.endpoints.proofs.Names.{Outcome, only, Parameters, scope_within, Setting, is_refresh, ends_family, access_issued, both_digests}
+use Rattle.endpoints.proofs.Names.{all_right-at, AllFollow, IsHistory, CanFollow, with_change, is_taken, is_taken-parts, grant_at-placed, grant_at-kin, left_by_host, new_token, AllRight}
+use Rattle.endpoints.proofs.Names.{AllRightAfter, IsRightChange, IsOfCode, IsOwn, MayHave, allowed_to, own-later}
 use Rattle.std.specs.Prelude.{◌⊎◌}
 use Rattle.consent.specs.History.{Change}
-use Rattle.consent.specs.History.Change.{Consented, CodeGiven, Issued, Spent}
+use Rattle.consent.specs.History.Change.{CodeGiven, Issued, Spent}
 use Rattle.consent.specs.HistoryLaws.{is_history-push}
 use Rattle.consent.specs.GrowthLaws.{grant_at-keep, is_taken-push}
 use Rattle.token_endpoint.specs.Grants.{refresh_issued}
 use Rattle.consent.specs.declared.grant.TokenKind.TheVariants.{Access}
 use Rattle.hook_record.specs.declared.Ask.{Ask}
 use Rattle.hook_host.specs.DecisionLaws.{met_with_narrows}
-use Rattle.endpoints.proofs.Points.{error_all, unless_all}
-use Rattle.endpoints.proofs.Stepping.{AllQuiet}
+use Rattle.endpoints.proofs.Ways.{both_issued, one_issued}
 
-abbrev pub IsConsent : Change → Type 0
-IsConsent (Consented owner client mask) = Unit {0}
-IsConsent _ = ⊥
-
--- it is one consent
-abbrev pub IsOneConsent : List Change → Type 0
-IsOneConsent [] = ⊥
-IsOneConsent (c ∷ []) = IsConsent c
-IsOneConsent (c ∷ _ ∷ _) = ⊥
-
--- the changes may come next, each is right, and none is of the hooks; a consent stands alone
+-- the changes may come next, and each is right
 pub record IsFair (s : Setting) (o : Outcome) : Type 0 where
   pub follow : AllFollow s.history s.moment o.changes
   pub right : AllRightAfter s.rules s.history s.moment o.changes
-  pub tame : AllQuiet o.changes ⊎ IsOneConsent o.changes
 
 -- a client that may have a scope may have less
 pub may_have-less : (rules : RegistryRecord) (client scope less : ℕ) → MayHave rules client scope → is_within less scope ≡ true → MayHave rules client less
 may_have-less rules client scope less may within =
     record { is_client = may.is_client; within = is_within-trans less scope (allowed_to rules client) within may.within }
+
+may_by : (rules : RegistryRecord) (before : List Event) (moment : ℕ) (c : Change) (g : Grant) →
+    grant_by moment c ≡ Some g → IsRightChange rules before c → MayHave rules g.client g.scope
+may_by rules before moment (CodeGiven family facts digest) g at right =
+    subst (λ (x : Grant). MayHave rules x.client x.scope) (same_Some _ g at) right.0
+may_by rules before moment (Issued family parties token) g at right =
+    subst (λ (x : Grant). MayHave rules x.client x.scope) (same_Some _ g at) right.0
+may_by rules before moment _ g at right = cc
+
+-- what is named is of a client that may have its scope
+pub right_may : (rules : RegistryRecord) (history : List Event) (digest : List ℕ) (m : ℕ) (g : Grant) → AllRight rules [] history →
+    grant_at history digest m ≡ Some g → MayHave rules g.client g.scope
+right_may rules history digest m g all at =
+    let given = grant_at-given history digest m g at in
+    let right = all_right-at rules [] given.before given.later given.event (subst (λ h. AllRight rules [] h) given.whole all) in
+    may_by rules given.before given.event.moment given.event.change g given.gives_it right
 
 -- it is a client's own, or comes of a code
 abbrev pub Comes : List Event → Grant → Type 0
@@ -70,9 +75,6 @@ right_token rules history digest m g all at token =
     subst (λ h. IsRightToken rules h g) (sym given.whole)
     (right_change rules given.before given.later given.event given.event.moment given.event.change g refl given.gives_it right token)
 
-pub passes : {A : Type 0} (test : A → Bool) (o : Option A) (x : A) → where_passes test o ≡ Some x → (o ≡ Some x) × (test x ≡ true)
-passes test o x e = (grind (arith, e), grind (arith, e))
-
 pub refresh_no_code : (k : Kind) → is_refresh k ≡ true → is_code k ≡ false
 refresh_no_code k h = grind (arith, h)
 
@@ -83,10 +85,7 @@ scope_is_within rules limit params scope is = grind (arith, is)
 module _ (s : Setting) where
   -- nothing happens
   pub still : (reply : Reply) → IsFair s (only reply)
-  still reply = record { follow = tt; right = tt; tame = inl tt }
-
-  pub error_fair : (error : ErrorName) → IsFair s (refuse error)
-  error_fair error = error_all (IsFair s) still error
+  still reply = record { follow = tt; right = tt }
 
   -- what a host leaves is within what it was asked
   pub left_within : (ask : Ask) (scope life : ℕ) → left_by_host s ask ≡ Allowed scope life → (is_within scope ask.scope ≡ true) × (life ≤ ask.life)
@@ -115,7 +114,7 @@ module _ (s : Setting) where
 -- what comes of a right grant that is in the history
 module _ (s : Setting) (is : IsHistory s.history s.moment) (digest : List ℕ) (g : Grant) (at : grant_at s.history digest s.moment ≡ Some g) where
   pub ends_fair : IsFair s (ends_family g)
-  ends_fair = record { follow = (grant_at-placed s.history digest s.moment g is.placed at, tt); right = (tt, tt); tame = inl (tt, tt) }
+  ends_fair = record { follow = (grant_at-placed s.history digest s.moment g is.placed at, tt); right = (tt, tt) }
 
   -- tokens of both draws in its family
   both_follow : (left kept : Extent) → is_taken s.history s.moment (both_digests s.draws) ≡ false →
@@ -132,28 +131,26 @@ module _ (s : Setting) (is : IsHistory s.history s.moment) (digest : List ℕ) (
       (can, ((inr (grant_at-kin (with_change s.history m change) digest m g next.kin still_there), untaken), (tt, tt)))
 
   pub access_fair : (left : Extent) → IsRightToken s.rules s.history g → has_ended s.history g.family ≡ false →
-      is_within left.scope g.scope ≡ true → left.life ≤ s.rules.access_life → IsFair s (access_for s g left)
-  access_fair left right alive within short =
-      unless_all (IsFair s) (still s) s (sha256 s.draws.first ∷ []) _ (λ free. record {
-        follow = ((inr (grant_at-kin s.history digest s.moment g is.kin at), (is_taken-parts s.history s.moment (sha256 s.draws.first) [] free).0), (tt, tt));
-        right = (
-          (may_have-less s.rules g.client g.scope left.scope right.0 within, short, first s g left.scope alive within right.1),
-          (tt, tt),
-        );
-        tame = inl (tt, (tt, tt));
-      })
+      is_within left.scope g.scope ≡ true → left.life ≤ s.rules.access_life →
+      is_taken s.history s.moment (sha256 s.draws.first ∷ []) ≡ false → IsFair s (one_issued s g left)
+  access_fair left right alive within short free = record {
+    follow = ((inr (grant_at-kin s.history digest s.moment g is.kin at), (is_taken-parts s.history s.moment (sha256 s.draws.first) [] free).0), (tt, tt));
+    right = (
+      (may_have-less s.rules g.client g.scope left.scope right.0 within, short, first s g left.scope alive within right.1),
+      (tt, tt),
+    );
+  }
 
   pub both_fair : (left : Extent) (kept : ℕ) → IsRightToken s.rules s.history g → has_ended s.history g.family ≡ false →
-      is_within left.scope g.scope ≡ true → is_within kept g.scope ≡ true → left.life ≤ s.rules.access_life → IsFair s (both_for s g left kept)
-  both_fair left kept right alive within more short =
-      unless_all (IsFair s) (still s) s (both_digests s.draws) _ (λ free. record {
-        follow = both_follow left (record { scope = kept; life = s.rules.refresh_life }) free;
-        right = (
-          (may_have-less s.rules g.client g.scope left.scope right.0 within, short, first s g left.scope alive within right.1),
-          (
-            (may_have-less s.rules g.client g.scope kept right.0 more, omega arith, second s g left kept alive more right.1),
-            (tt, tt),
-          ),
-        );
-        tame = inl (tt, (tt, (tt, tt)));
-      })
+      is_within left.scope g.scope ≡ true → is_within kept g.scope ≡ true → left.life ≤ s.rules.access_life →
+      is_taken s.history s.moment (both_digests s.draws) ≡ false → IsFair s (both_issued s g left kept)
+  both_fair left kept right alive within more short free = record {
+    follow = both_follow left (record { scope = kept; life = s.rules.refresh_life }) free;
+    right = (
+      (may_have-less s.rules g.client g.scope left.scope right.0 within, short, first s g left.scope alive within right.1),
+      (
+        (may_have-less s.rules g.client g.scope kept right.0 more, omega arith, second s g left kept alive more right.1),
+        (tt, tt),
+      ),
+    );
+  }

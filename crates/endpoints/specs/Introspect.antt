@@ -11,6 +11,11 @@ told_of rules token Code = Inactive
 told_of rules token (Token kind) =
     Active (id_of rules token.client) (token.moment + token.life) token.moment (scope_text rules.scopes token.scope) (sub_of token.owner rules.owners) kind
 
+-- something is told of a token
+abbrev pub IsActive : Body → Type 0
+IsActive (Active id expires issued scope sub kind) = Unit {0}
+IsActive body = ⊥
+
 abbrev pub introspect : Setting → Asked → Outcome
 introspect setting asked =
     -- any client may ask of any token

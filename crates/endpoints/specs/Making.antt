@@ -2,29 +2,13 @@
 use Rattle.std.specs.Prelude.{◌≡◌, ◌≤◌, ℕ, List, [], ◌∷◌, Some}
 use Rattle.endpoints.specs.Names.{changes_of, as_list, AllFollow, KeptConsents, Event, Happening, with_changes, Changes, Hosting, Checked}
 use Rattle.consent.specs.declared.change.Change.{Change}
-use Rattle.consent.specs.declared.change.Change.TheVariants.{Consented, HookSet, HookGone}
+use Rattle.consent.specs.declared.change.Change.TheVariants.{Consented}
 use Rattle.token_store.specs.Room.{HasRoom}
 use Rattle.endpoints.specs.Bounded.{AllRightAfter}
 use Rattle.endpoints.specs.Hosts.{HostRun}
 use Rattle.endpoints.specs.Noting.{ArePrepared}
 use Rattle.endpoints.specs.Ruling.{CanMakeAll, CanTake}
 use Rattle.endpoints.specs.Server.{SeenServer, Outset, FitsServer}
-
--- the change is no consent and no hook's
-abbrev pub IsPlain : Change → Type 0
-IsPlain (Consented owner client mask) = ⊥
-IsPlain (HookSet name version code) = ⊥
-IsPlain (HookGone name) = ⊥
-IsPlain _ = Unit {0}
-
-abbrev pub AllPlain : List Change → Type 0
-AllPlain [] = Unit {0}
-AllPlain (c ∷ cs) = IsPlain c × AllPlain cs
-
--- a consent and a change of the hooks stand alone
-abbrev pub StandsAlone : List Change → Type 0
-StandsAlone (a ∷ b ∷ cs) = AllPlain (a ∷ b ∷ cs)
-StandsAlone cs = Unit {0}
 
 -- there is room for the consent, if it is one
 abbrev pub HasConsentRoom : KeptConsents → List Change → Type 0
@@ -53,14 +37,14 @@ pub record IsReadyToMake {H : Type 0} (hosting : Hosting H) (server : SeenServer
 -- Whatever the changes mean, the host comes by them from the one before, where it can make its own.
 abbrev pub MakesHost : {H : Type 0} → Hosting H → H → List Change → Checked H → H → Type 0
 MakesHost hosting old changes checked new =
-    (history : List Event) (m : ℕ) (next : List Happening) → StandsAlone changes → CanMakeAll hosting old changes checked →
-    changes_of history m changes ≡ Some next → HostRun hosting old (with_changes [] m next) new
+    (history : List Event) (m : ℕ) (next : List Happening) → CanMakeAll hosting old changes checked → changes_of history m changes ≡ Some next →
+    HostRun hosting old (with_changes [] m next) new
 
--- Whatever history the server fitted, it then fits that history with the changes, where they may come next and are right,
--- stand alone if they have to, and the host can make its own.
+-- Whatever history the server fitted, it then fits that history with the changes, where they may come next and are right, and
+-- the host can make its own.
 abbrev pub Makes : {H : Type 0} → Hosting H → SeenServer H → List Change → Checked H → SeenServer H → Type 0
 Makes {H = H} hosting old changes checked new =
     (outset : Outset H) (history : List Event) (next : List Happening) → FitsServer hosting old outset history old.greatest →
     changes_of history old.greatest changes ≡ Some next → AllFollow history old.greatest next → AllRightAfter outset.rules history old.greatest next →
-    StandsAlone changes → CanMakeAll hosting old.host changes checked →
+    CanMakeAll hosting old.host changes checked →
     FitsServer hosting new outset (with_changes history old.greatest next) old.greatest

@@ -2,10 +2,9 @@
 use Rattle.std.specs.Prelude.{◌≡◌, ℕ, List, Some}
 use Rattle.endpoints.specs.Names.{changes_of, KeptConsents, FitsConsents, Event, Happening, with_changes}
 use Rattle.consent.specs.declared.change.Change.{Change}
-use Rattle.endpoints.specs.Making.{StandsAlone}
 
 -- whatever the changes mean, the consents that are kept are then those with them
 abbrev pub MakesConsents : KeptConsents → List Change → KeptConsents → Type 0
 MakesConsents old changes new =
-    (history : List Event) (m : ℕ) (next : List Happening) → StandsAlone changes → changes_of history m changes ≡ Some next →
+    (history : List Event) (m : ℕ) (next : List Happening) → changes_of history m changes ≡ Some next →
     FitsConsents old history → FitsConsents new (with_changes history m next)

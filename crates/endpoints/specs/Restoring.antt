@@ -7,7 +7,7 @@ use Rattle.consent.specs.Limits.{code_life, consent_limit, record_limit}
 use Rattle.consent.specs.declared.kept_consent.KeptConsent.{KeptConsent}
 use Rattle.consent.specs.declared.kept_consent.ListFault.{ListFault}
 use Rattle.consent.specs.declared.kept_consent.ListFault.TheVariants as list
-use Rattle.token_store.specs.Image.{HasDigestTwice, as_kept, kept_record}
+use Rattle.token_store.specs.Image.{HasDigestTwice, HasFamilyDiffering, as_kept, kept_record}
 use Rattle.consent.specs.declared.kept_record.KeptRecord.{KeptRecord}
 use Rattle.token_store.specs.declared.restoring.RestoreFault.{RestoreFault as StoreFault}
 use Rattle.token_store.specs.declared.restoring.RestoreFault.TheVariants as store
@@ -70,7 +70,7 @@ are_allowed rules moment records = list_all (λ r. is_allowed rules moment (kept
 abbrev pub RefusesRestore : RegistryRecord → Remains → RestoreFault → Type 0
 RefusesRestore rules left Full = record_limit < kept_unexpired (as_kept left.records) left.moment
 RefusesRestore rules left DigestTwice = HasDigestTwice (as_kept left.records) left.moment
-RefusesRestore rules left FamilyDiffers = Unit {0}
+RefusesRestore rules left FamilyDiffers = HasFamilyDiffering left.records left.moment
 RefusesRestore rules left ConsentsFull = consent_limit < length left.consents
 RefusesRestore rules left ConsentTwice = consents.HasTwo left.consents
 RefusesRestore rules left NotRight =

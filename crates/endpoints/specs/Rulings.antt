@@ -5,7 +5,6 @@ use Rattle.endpoints.specs.declared.ruling.Ruling.{Ruling}
 use Rattle.endpoints.specs.Bounded.{AllRightAfter}
 use Rattle.endpoints.specs.HookPaths.{hook_change_at}
 use Rattle.endpoints.specs.Hosts.{IsHostFault, says_with}
-use Rattle.endpoints.specs.Making.{StandsAlone}
 use Rattle.endpoints.specs.Reading.{IsRequestRead, endpoint_of}
 use Rattle.endpoints.specs.Replies.{outcome_at}
 use Rattle.endpoints.specs.Ruling.{CanMakeAll}
@@ -47,7 +46,6 @@ pub record IsRuling {H : Type 0} (hosting : Hosting H) (server : SeenServer H) (
   pub told_is : outcome_told (setting_now hosting server history asking.draws fault) ruling.decision ≡ Some (comes_to hosting server history asking fault)
   pub follow : AllFollow history server.greatest (comes_to hosting server history asking fault).changes
   pub right : AllRightAfter server.rules history server.greatest (comes_to hosting server history asking fault).changes
-  pub alone : StandsAlone (as_list ruling.decision.changes)
   pub hooks : CanMakeAll hosting server.host (as_list ruling.decision.changes) ruling.checked
 
 -- or the request ends with an error, or for want of memory

@@ -10,7 +10,8 @@ use Rattle.consent.specs.History.{Event}
 use Rattle.consent.specs.ListLaws.{find-passes}
 use Rattle.headline.proofs.Bounding.{live_keeps, of_client, there, IsShort}
 use Rattle.headline.proofs.Exchanged.{at_path}
-use Rattle.headline.proofs.Ways.{Way, Quiet, ByToken, Tells, Wanting, at_each, outcome_by}
+use Rattle.endpoints.proofs.Ways.{Way, Quiet, ByToken, Tells, Wanting, outcome_by}
+use Rattle.headline.proofs.Ways.{at_each}
 use Rattle.headline.proofs.Spending.{live_good}
 
 -- a live token, at a moment that is not before the history's

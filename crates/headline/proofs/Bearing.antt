@@ -13,8 +13,10 @@ use Rattle.consent.specs.History.{Event}
 use Rattle.consent.specs.Growth.{may_end}
 use Rattle.headline.specs.Authority.{IsAuthorized, IsAllAuthorized, LeavesAlone, IsIsolated, EndsWithAuthority}
 use Rattle.headline.proofs.Spending.{live_is}
-use Rattle.headline.proofs.Walking.{same_some, through}
-use Rattle.headline.proofs.Ways.{Sender, Way, ByToken, Coded, Consents, Revokes, Installs, Removes, Again, InVain, Once, Twice, Refreshed, Own, at_each, both_issued, number_in, one_issued, outcome_by, Wanting}
+use Rattle.endpoints.proofs.Walking.{same_some, through}
+use Rattle.endpoints.proofs.Ways.{Sender, Way, ByToken, Coded, Consents, Revokes, Installs, Removes, Again, InVain, Once, Twice, Refreshed, Own, both_issued, number_in, one_issued, outcome_by}
+use Rattle.endpoints.proofs.Ways.{Wanting}
+use Rattle.headline.proofs.Ways.{at_each}
 
 -- what is found is in the list
 pub find_contains : {X : Type 0} (p : X → Bool) (xs : List X) (x : X) → find p xs ≡ Some x → Contains xs x

@@ -6,8 +6,8 @@ use Rattle.std.specs.Prelude.{bytes_eq}
 use Rattle.consent.specs.History.{Event}
 use Rattle.headline.specs.Codes.{IsBound, BindsCodes}
 use Rattle.headline.proofs.Exchanged.{granted_there}
-use Rattle.headline.proofs.Walking.{same_some}
-use Rattle.headline.proofs.Ways.{Sender, Proven, TokenWay, Once, Twice, Refreshed, Own, at_token, token_outcome}
+use Rattle.endpoints.proofs.Walking.{same_some}
+use Rattle.endpoints.proofs.Ways.{Sender, Proven, TokenWay, Once, Twice, Refreshed, Own, at_token, token_outcome}
 
 module _ (rules : RegistryRecord) (history : List Event) (occasion : Occasion) (params : Parameters) where
   bound : (x : Proven (setting_on rules history occasion) occasion.arrival.asked) → x.code.sender.params ≡ params → IsBound rules history occasion params

@@ -10,7 +10,8 @@ use Rattle.consent.specs.declared.change.NewToken.{NewToken}
 use Rattle.hook_chain.specs.Exits.{narrowed_further}
 use Rattle.headline.specs.Decided.{AllowInTurn, IsOfLeft, IsDecided}
 use Rattle.headline.proofs.Bearing.{find_contains}
-use Rattle.headline.proofs.Ways.{IsLeft, Refreshing, Way, ByToken, Once, Twice, Refreshed, Own, at_each, both_issued, code_ask, one_issued, outcome_by, refresh_ask}
+use Rattle.endpoints.proofs.Ways.{IsLeft, Refreshing, Way, ByToken, Once, Twice, Refreshed, Own, both_issued, code_ask, one_issued, outcome_by, refresh_ask}
+use Rattle.headline.proofs.Ways.{at_each}
 
 -- what no hook changes stays
 stays : (left : Narrowed) (ask : Ask) (hooks : List Checked) → ((hook : Checked) → narrowed_further ask left hook ≡ left) →

@@ -6,7 +6,8 @@ use Rattle.headline.proofs.Names.{outcome_of, setting_on}
 use Rattle.consent.specs.History.{Event}
 use Rattle.messages.specs.declared.request.Draws.{Draws}
 use Rattle.headline.specs.Drawn.{AreAmong, AreDrawn, digests_by}
-use Rattle.headline.proofs.Ways.{Way, ByToken, Wanting, at_each, outcome_by}
+use Rattle.endpoints.proofs.Ways.{Way, ByToken, Wanting, outcome_by}
+use Rattle.headline.proofs.Ways.{at_each}
 
 -- the digests of two draws
 abbrev digests_of : Draws → List (List ℕ)

@@ -7,8 +7,8 @@ use Rattle.headline.proofs.Names.{UsesUp, Occasion, GoesTo, outcome_of, history_
 use Rattle.std.specs.Prelude.{bytes_eq}
 use Rattle.consent.specs.History.{Event}
 use Rattle.headline.specs.Uses.{Revokes}
-use Rattle.headline.proofs.Walking.{same_some, other, granted_at}
-use Rattle.headline.proofs.Ways.{CodeUse, RefreshUse, Sender, TokenWay, Once, Twice, Refreshed, Own, at_token, both_issued, one_issued, token_outcome, at_sender}
+use Rattle.endpoints.proofs.Walking.{same_some, other, granted_at}
+use Rattle.endpoints.proofs.Ways.{CodeUse, RefreshUse, Sender, TokenWay, Once, Twice, Refreshed, Own, at_token, both_issued, one_issued, token_outcome, at_sender}
 use Rattle.headline.proofs.Spending.{has_digest, grant_at-still, is_spent-by, ended_by, ended_stays, live_is}
 
 -- what the digest names is unspent, and is then spent, and nothing else is given under the digest

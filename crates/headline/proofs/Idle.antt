@@ -2,7 +2,8 @@
 use Rattle.std.proofs.Common.{◌≡◌, List, [], arith, refl}
 use Rattle.headline.proofs.Names.{RegistryRecord, Occasion, outcome_of, reply_on, setting_on}
 use Rattle.consent.specs.History.{Event}
-use Rattle.headline.proofs.Ways.{Way, ByToken, Wanting, at_each, outcome_by}
+use Rattle.endpoints.proofs.Ways.{Way, ByToken, Wanting, outcome_by}
+use Rattle.headline.proofs.Ways.{at_each}
 
 pub nothing_of_503 : (rules : RegistryRecord) (history : List Event) (occasion : Occasion) → (reply_on rules history occasion).status ≡ 503 →
     (outcome_of rules history occasion).changes ≡ []

@@ -1,7 +1,6 @@
 pub mod Talking
 pub mod Leading
 pub mod Chaining
-pub mod Walking
 pub mod Spending
 pub mod Exchanged
 pub mod Bounding

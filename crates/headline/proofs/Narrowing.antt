@@ -4,9 +4,9 @@ use Rattle.headline.proofs.Names.{codes, not, bit_and, eq-eqb, RegistryRecord, G
 use Rattle.headline.proofs.Names.{issue_token, Occasion, outcome_of, setting_on, without_hooks, IsNarrowed, WidensNothing}
 use Rattle.std.specs.Prelude.{bytes_eq}
 use Rattle.consent.specs.History.{Event}
-use Rattle.headline.proofs.Walking.{both_chosen, both_point, other}
+use Rattle.endpoints.proofs.Walking.{both_chosen, both_point, other}
 use Rattle.headline.proofs.Exchanged.{at_path}
-use Rattle.headline.proofs.Ways.{IsLeft, TokenWay, Once, Twice, Refreshed, Own, at_token, beside, both_issued, code_ask, one_issued, open_to_all, own_issued, refresh_ask, token_outcome, whole}
+use Rattle.endpoints.proofs.Ways.{IsLeft, TokenWay, Once, Twice, Refreshed, Own, at_token, beside, both_issued, code_ask, one_issued, open_to_all, own_issued, refresh_ask, token_outcome, whole}
 
 module _ (s : Setting) where
   module _ (ask : Ask) (left : Extent) (is : IsLeft s ask left) where

@@ -3,7 +3,8 @@ use Rattle.std.proofs.Common.{◌≡◌, ◌⊎◌, inl, inr, List, true, Some, 
 use Rattle.headline.proofs.Names.{is_some, result_ok, read_params, RegistryRecord, Redirection, query_of, Outcome, Occasion, setting_on}
 use Rattle.consent.specs.History.{Event}
 use Rattle.headline.specs.Redirects.{SendsHome, IsNoOpenRedirector}
-use Rattle.headline.proofs.Ways.{Way, Quiet, ByToken, Turned, Coded, Wanting, at_each, outcome_by}
+use Rattle.endpoints.proofs.Ways.{Way, Quiet, ByToken, Turned, Coded, Wanting, outcome_by}
+use Rattle.headline.proofs.Ways.{at_each}
 
 result_is : {A E : Type 0} (r : Result A E) (x : A) → result_ok r ≡ Some x → r ≡ Ok x
 result_is r x e = grind (arith, e)

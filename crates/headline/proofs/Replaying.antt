@@ -5,7 +5,7 @@ use Rattle.headline.proofs.Names.{InvalidGrant, Failure, Outcome, bare, chosen, 
 use Rattle.std.specs.Prelude.{bytes_eq}
 use Rattle.consent.specs.History.{Event}
 use Rattle.headline.proofs.Exchanged.{at_path}
-use Rattle.headline.proofs.Walking.{at_chosen, at_point}
+use Rattle.endpoints.proofs.Walking.{at_chosen, at_point}
 
 module _ (rules : RegistryRecord) (history : List Event) (occasion : Occasion) (text : List ℕ) (g : Grant) (it : Replays rules history occasion text g) where
   abbrev s : Setting

@@ -3,6 +3,7 @@ use Rattle.std.specs.Prelude.{◌≡◌, ◌≤◌, ◌<◌, ◌+◌, ℕ, List,
 use Rattle.headline.specs.Names.{value_sent, scope_text, RegistryRecord, client_at, sub_of, Grant, grant_at, has_ended, is_code, is_single_use, is_spent, Token, TokenKind, Body, Active, Parameters}
 use Rattle.headline.specs.Names.{digest_told, token_life_limit}
 use Rattle.consent.specs.History.{Event}
+use Rattle.endpoints.specs.Introspect.{IsActive}
 use Rattle.headline.specs.Bearers.{BearsWith}
 use Rattle.headline.specs.Grants.{KeepsScope}
 use Rattle.headline.specs.Occasions.{Occasion, GoesTo, reply_on}
@@ -26,11 +27,6 @@ TellsOf rules token (Active id expires issued scope sub kind) =
     (token.kind ≡ Token kind) × (option_map (λ c. c.id) (client_at token.client rules.clients) ≡ Some id)
     × (issued ≡ token.moment) × (expires ≡ token.moment + token.life) × (scope ≡ scope_text rules.scopes token.scope) × (sub ≡ sub_of token.owner rules.owners)
 TellsOf rules token body = ⊥
-
--- it tells of an active token
-abbrev pub IsActive : Body → Type 0
-IsActive (Active id expires issued scope sub kind) = Unit {0}
-IsActive body = ⊥
 
 -- the reply tells of the live token that the request presents
 pub record TellsLive (rules : RegistryRecord) (history : List Event) (occasion : Occasion) : Type 0 where

@@ -1,6 +1,6 @@
 use Rattle.std.proofs.Common.{[], ◌∷◌, ap, refl}
-use Rattle.endpoints.proofs.Names.{change_of, told, AllPlain}
-use Rattle.endpoints.proofs.Besides.{plain_of, plain_consents, plain_host, step_host, hook_consents, unset_host, kept_host}
+use Rattle.endpoints.proofs.Names.{change_of, told}
+use Rattle.endpoints.proofs.Besides.{one_quiet, quiet_made, quiet_run, step_host, hook_consents, unset_host, kept_host}
 use Rattle.endpoints.proofs.beside.make_one.Goals as goal
 use Rattle.endpoints.proofs.beside.make_one.Goals.{in-Removes, in_default-checked-2}
 
@@ -39,6 +39,5 @@ returns-after-checked-3-clause-hosts g c = elim c.match-checked-3.branch [
 
 pub returns-in_default : goal.returns-in_default
 returns-in_default g c =
-    let are : AllPlain (c.args.change.now ∷ []) =
-    (plain_of _ c.in_default.not-Consented c.in_default.not-HookSet c.in_default.not-HookGone, tt) in
-    record { consents = plain_consents _ (c.args.change.now ∷ []) are; hosts = plain_host g.H.HookHost _ (c.args.change.now ∷ []) c.args.checked are }
+    let are = one_quiet c.args.change.now c.in_default.not-Consented c.in_default.not-HookSet c.in_default.not-HookGone in
+    record { consents = quiet_made _ (c.args.change.now ∷ []) are; hosts = quiet_run g.H.HookHost _ (c.args.change.now ∷ []) c.args.checked are }

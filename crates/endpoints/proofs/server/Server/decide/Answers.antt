@@ -5,16 +5,16 @@ use Rattle.endpoints.proofs.server.Server.decide.Goals as goal
 
 pub returns-in-InstallHook-clause-rules : goal.returns-in-InstallHook-clause-rules
 returns-in-InstallHook-clause-rules g c =
-    rw (← c.self.view_is, c.in-InstallHook.is) (λ read first history fits. install_ruled g.H.HookHost _ history _ _ _ c.install.result read (c.install.ensures.rules (setting_now g.H.HookHost (record { rules = c.self.inside.rules; host = c.self.inside.host; store = c.self.inside.store; consents = c.self.inside.consents; greatest = c.self.inside.greatest; unkept = noted_in c.self.inside.unkept; prepared = prepared_in c.self.inside.unkept }) history c.args.draws.now None)))
+    rw (← c.self.view_is, c.in-InstallHook.is) (λ read first history fits. install_ruled g.H.HookHost _ history _ _ _ first fits c.install.result read (c.install.ensures.rules (setting_now g.H.HookHost (record { rules = c.self.inside.rules; host = c.self.inside.host; store = c.self.inside.store; consents = c.self.inside.consents; greatest = c.self.inside.greatest; unkept = noted_in c.self.inside.unkept; prepared = prepared_in c.self.inside.unkept }) history c.args.draws.now None)))
 
 pub returns-in-RemoveHook-clause-rules : goal.returns-in-RemoveHook-clause-rules
 returns-in-RemoveHook-clause-rules g c =
-    rw (← c.self.view_is, c.in-RemoveHook.is) (λ read first history fits. remove_ruled g.H.HookHost _ history _ _ _ c.remove.result read (c.remove.ensures.rules (setting_now g.H.HookHost (record { rules = c.self.inside.rules; host = c.self.inside.host; store = c.self.inside.store; consents = c.self.inside.consents; greatest = c.self.inside.greatest; unkept = noted_in c.self.inside.unkept; prepared = prepared_in c.self.inside.unkept }) history c.args.draws.now None)))
+    rw (← c.self.view_is, c.in-RemoveHook.is) (λ read first history fits. remove_ruled g.H.HookHost _ history _ _ _ first fits c.remove.result read (c.remove.ensures.rules (setting_now g.H.HookHost (record { rules = c.self.inside.rules; host = c.self.inside.host; store = c.self.inside.store; consents = c.self.inside.consents; greatest = c.self.inside.greatest; unkept = noted_in c.self.inside.unkept; prepared = prepared_in c.self.inside.unkept }) history c.args.draws.now None)))
 
 pub returns-in-Ok-clause-rules : goal.returns-in-Ok-clause-rules
 returns-in-Ok-clause-rules g c = λ read first history fits.
     let alone = alone_of _ c.in_default.not-InstallHook c.in_default.not-RemoveHook in
-    alone_ruling g.H.HookHost _ history _ c.in-Ok.decision (alone_fair g.H.HookHost _ first history _ _ _ alone fits) (c.in-Ok.ensures.decides alone read first history fits)
+    alone_ruling g.H.HookHost _ history _ c.in-Ok.decision (alone_fair g.H.HookHost _ first history _ _ fits _ alone) (c.in-Ok.ensures.decides alone read first history fits)
 
 pub returns-in-InstallHook-clause-hook : goal.returns-in-InstallHook-clause-hook
 returns-in-InstallHook-clause-hook g c =

@@ -1,6 +1,8 @@
 -- What holds at each point of an outcome holds of the outcome.
 use Rattle.std.proofs.Common.{◌≡◌, ℕ, List, Bool, true, false, Option, Some, None, eqb, refl, sym, ◌∙◌, arith}
-use Rattle.headline.proofs.Names.{not, option_and_then, eq-eqb, false≢true, has_room, is_taken, Setting, Outcome, point, need, unavailable, unless_taken, bare, chosen}
+use Rattle.endpoints.proofs.Names.{option_map, same_Some, eq-eqb, false≢true, has_room, is_taken, Setting, Outcome, point, need, unavailable, unless_taken, bare}
+use Rattle.std.specs.Prelude.{not, option_and_then}
+use Rattle.answers.specs.Outcomes.{chosen}
 
 -- so it is of two outcomes that have their points in common
 module _ (P : Outcome → Outcome → Type 0) where
@@ -42,6 +44,11 @@ module _ (P : Outcome → Type 0) where
 
   pub at_chosen : (refused : Bool) (o : Outcome) → P unavailable → P o → P (chosen refused o)
   at_chosen refused o = both_chosen (λ p _. P p) refused o o
+
+-- what is mapped to something is something
+pub option_map_some : {A B P : Type 0} (f : A → B) (o : Option A) (y : B) → option_map f o ≡ Some y → ((x : A) → o ≡ Some x → f x ≡ y → P) → P
+option_map_some f None y e k = absurd (cc)
+option_map_some f (Some x) y e k = k x refl (same_Some (f x) y e)
 
 -- what is found through what is there
 pub through : {A B : Type 0} (f : A → Option B) (o : Option A) (y : B) → option_and_then f o ≡ Some y → (x : A) × (o ≡ Some x) × (f x ≡ Some y)
