@@ -5,6 +5,7 @@ use Rattle.event_loop.proofs.Names.{IsDone, done_since, Served, Past, LeavesOthe
 use Rattle.event_loop.proofs.Names.{LeadsWriting, AreAllSettled, DoneAfter, GoesSettled, StaysIdle, ActsAt, SettlesAt, TidiesAt, IsHeardAt, IsRestedAt, IsRested, IsSettledAt, running, standing, state_of, to_write}
 use Rattle.std.specs.Prelude.{⊤}
 use Rattle.event_loop.proofs.Others.{forgets_other}
+use Rattle.event_loop.proofs.Answering.{served_answered}
 use Rattle.event_loop.proofs.Doing.{none_more, done_then, done_some, on_then}
 use Rattle.event_loop.proofs.Kept.{all_kept_still}
 use Rattle.event_loop.proofs.Resting.{none_left, still_holds, others_then, heard_other, rested_other, others_kept, rests_turned, settled_then}
@@ -48,10 +49,10 @@ module _ {N C J K H : Type 0} (p : Promises N C J K H) where
       }
     where
       y : ActsAt p first (to_write k) (standing (running b u) found past) (running c v)
-      y = one first found past unwritten kept served
+      y = one first found past unwritten kept served (served_answered p first _ served).reached
 
       z : TidiesAt p first k (standing (running c v) found y.goes.on.next) (running d w)
-      z = two first found y.goes.on.next y.goes.on.served
+      z = two first found y.goes.on.next y.goes.on.served (served_answered p first _ y.goes.on.served).reached
 
       tended_or_still : (IsDone (Reading k) y.goes.on.next.calls ⊎ IsDone (Writing k) y.goes.on.next.calls) ⊎ (HoldsAt k b past.journey.world NeedsNoRead × StaysIdle (to_write k) b past.journey.world c y.goes.on.next.journey.world)
       tended_or_still = elim heard [
@@ -90,7 +91,7 @@ module _ {N C J K H : Type 0} (p : Promises N C J K H) where
   }
     where
       y : GoesKept p first (standing (running b u) found read.on.next) v
-      y = keep first found b read.on.next read.not_kept read.on.served
+      y = keep first found b read.on.next read.not_kept read.on.served (served_answered p first _ read.on.served).reached
 
       z : GoesWriting p first 64 (standing (running b v) found y.next) (running c w)
       z = write first found y.next

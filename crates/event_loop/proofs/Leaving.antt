@@ -58,7 +58,7 @@ pub may_wait : {N C J K H : Type 0} (p : Promises N C J K H) (a b : Service) (s 
     LeadsToShort p (running a s) (running b t) → (first : LoopState N C J K H) (past : Past H) → Served p first (state_of (running a s) [] past) → IsReadyToWait a past →
     Served p first (state_of (running b t) [] past) × (IsReadyToWait b past × MayWait p (state_of (running b t) [] past) limit room)
 may_wait p a b s t limit room before same is_limit roomy put first past begun was =
-    let now = put first [] past begun in
+    let now = put first [] past begun (served_answered p first _ begun).reached in
     let ready = ready_still a past b same was in
     let size : length b.places ≡ 64 = ap (λ (s : Service). length s.places) same ∙ before in (
       now.0,

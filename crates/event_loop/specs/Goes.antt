@@ -249,7 +249,7 @@ module _ {N C J K H : Type 0} (p : Promises N C J K H) where
   abbrev pub LeadsToActs : Duty → Running N C J K H → Running N C J K H → Type 0
   LeadsToActs duty before after =
       (first : LoopState N C J K H) (found : List Ready) (past : Past H) → ¬ (IsDone duty.kind past.calls) → IsReadyFor duty.kind past.journey.world →
-      Served p first (state_of before found past) → ActsAt first duty (standing before found past) after
+      Served p first (state_of before found past) → Reached p.hosting before.tools.edge past.journey → ActsAt first duty (standing before found past) after
 
   -- steps lead on, which touch one place alone, and it is settled
   pub record SettlesAt (first : LoopState N C J K H) (k : ℕ) (before : Standing N C J K H) (after : Running N C J K H) : Type 0 where
@@ -268,7 +268,7 @@ module _ {N C J K H : Type 0} (p : Promises N C J K H) where
 
   abbrev pub LeadsToTidy : ℕ → Running N C J K H → Running N C J K H → Type 0
   LeadsToTidy k before after =
-      (first : LoopState N C J K H) (found : List Ready) (past : Past H) → Served p first (state_of before found past) →
+      (first : LoopState N C J K H) (found : List Ready) (past : Past H) → Served p first (state_of before found past) → Reached p.hosting before.tools.edge past.journey →
       TidiesAt first k (standing before found past) after
 
   -- a connection is closed, wherever the edge was reached
@@ -342,13 +342,13 @@ module _ {N C J K H : Type 0} (p : Promises N C J K H) where
   abbrev pub LeadsToKept : Tools N C J K H → Tools N C J K H → Type 0
   LeadsToKept tools tools' =
       (first : LoopState N C J K H) (found : List Ready) (service : Service) (past : Past H) → ¬ (IsDone Keeping past.calls) →
-      Served p first (state_of (running service tools) found past) → GoesKept first (standing (running service tools) found past) tools'
+      Served p first (state_of (running service tools) found past) → Reached p.hosting tools.edge past.journey → GoesKept first (standing (running service tools) found past) tools'
 
   -- or keeping failed
   abbrev pub LeadsToLoss : Tools N C J K H → LoopFault → Tools N C J K H → Type 0
   LeadsToLoss tools fault tools' =
       (first : LoopState N C J K H) (found : List Ready) (service : Service) (past : Past H) → ¬ (IsDone Keeping past.calls) →
-      Served p first (state_of (running service tools) found past) →
+      Served p first (state_of (running service tools) found past) → Reached p.hosting tools.edge past.journey →
       CannotGoOn p (state_of (running service tools) found past) fault (state_of (running service tools') found past)
 
   -- where nothing is unkept, no more is kept than may be beside an image, or an image was refused less than a minute ago
@@ -358,13 +358,13 @@ module _ {N C J K H : Type 0} (p : Promises N C J K H) where
   -- wherever steps lead to, they lead on, and it is so
   abbrev pub LeadsToShort : Running N C J K H → Running N C J K H → Type 0
   LeadsToShort before after =
-      (first : LoopState N C J K H) (found : List Ready) (past : Past H) → Served p first (state_of before found past) →
+      (first : LoopState N C J K H) (found : List Ready) (past : Past H) → Served p first (state_of before found past) → Reached p.hosting before.tools.edge past.journey →
       Served p first (state_of after found past) × IsKeptShort after past.journey.world
 
   -- or the image could not be put
   abbrev pub LeadsToNoImage : Running N C J K H → LoopFault → Running N C J K H → Type 0
   LeadsToNoImage before fault after =
-      (first : LoopState N C J K H) (found : List Ready) (past : Past H) → Served p first (state_of before found past) →
+      (first : LoopState N C J K H) (found : List Ready) (past : Past H) → Served p first (state_of before found past) → Reached p.hosting before.tools.edge past.journey →
       CannotGoOn p (state_of before found past) fault (state_of after found past)
 
   -- each place below i is settled; those from i on were heard, and not written to; and nothing is unkept

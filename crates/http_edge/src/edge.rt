@@ -200,6 +200,13 @@ impl<H: HookHost> Edge<H> {
         &self.server
     }
 
+    /// The connections, in the order of their opening.
+    pub fn lanes(&self) -> &[Lane]
+        ensures { result.now ≡ self.now.lanes }
+    {
+        self.lanes.as_slice()
+    }
+
     /// Whether the connection was answered the 400 of a faulty head, also after its stream has ended.
     pub fn closing(&self, c: ConnectionNo) -> bool
         ensures { InEach H.HookHost self.now (λ world. result ≡ is_closing (connection_at world.connections c)) }

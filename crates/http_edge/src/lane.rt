@@ -68,3 +68,19 @@ impl Model for Lane {
 
     ghost view = { λ l. record { number = l.number; phase = l.phase; rest = l.rest.bytes; output = l.output.items } };
 }
+
+impl Lane {
+    /// The number of the connection.
+    pub fn number(&self) -> ConnectionNo
+        ensures { result ≡ self.now.number }
+    {
+        self.number
+    }
+
+    /// The bytes to it that were not taken yet.
+    pub fn output(&self) -> &[u8]
+        ensures { result.now ≡ self.now.output }
+    {
+        self.output.as_slice()
+    }
+}

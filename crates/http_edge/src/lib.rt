@@ -20,6 +20,7 @@ pub use connection::ConnectionNo;
 pub use edge::Edge;
 pub use event::Event;
 pub use fault::EdgeFault;
+pub use lane::Lane;
 pub use limits::{
     CONNECTION_LIMIT, PIECE_LIMIT, REPLY_LIMIT, REQUEST_LIMIT, limits_are_the_defined_ones,
 };

@@ -1,11 +1,10 @@
 -- Lines that lead from one edge to another.
-use Rattle.std.proofs.Common.{◌≡◌, ◌<◌, ◌≤◌, ◌+◌, ℕ, List, [], ◌∷◌, ◌++◌, Bool, false, Bor, map, take, drop, get_or, length, flat_map, Result, Err, IfErr, refl, sym, ap, ◌∙◌, subst, append-nil, arith}
-use Rattle.std.proofs.lemmas.Grind.{flat_map-append}
+use Rattle.std.proofs.Common.{◌≡◌, ◌<◌, ◌≤◌, ◌+◌, ℕ, List, [], ◌∷◌, ◌++◌, Bool, false, Bor, map, take, drop, get_or, length, Result, Err, IfErr, refl, sym, ap, ◌∙◌, subst, arith}
 use Rattle.std.proofs.lemmas.List.{take_more, drop_more, take-append-drop, length-take-le, length-map, map-append, map_push}
 use Rattle.http_edge.specs.Answers.{Mishap}
 use Rattle.http_edge.specs.Reached.{GoesOn, Journey}
 use Rattle.transcript.proofs.Names.{take_all, Hosting, Happening, happening, Reached, SeenEdge, Statement, Opens, Brings, Ends, LineStandsFor, StandFor, StatementLeads}
-use Rattle.transcript.proofs.Names.{LineLeads, LineFails, RunsLines, LinesFail, edge_with, opened_at, opened_by, ReplayFault}
+use Rattle.transcript.proofs.Names.{LineLeads, LineFails, RunsLines, LinesFail, ReplayFault}
 use Rattle.transcript.specs.Faults.{IsLineFault}
 
 abbrev pub texts : List (Bor (List ℕ)) → List (List ℕ)
@@ -32,14 +31,14 @@ stand_on _ _ line e h one = absurd h
 
 -- what a statement leads to
 leads_on : {H : Type 0} (hosting : Hosting H) (middle new : SeenEdge H) (journey : Journey H) (statement : Statement) → StatementLeads hosting middle new statement → Reached hosting middle journey
-    → (mishaps : List Mishap) × (closes : Bool) × GoesOn hosting new journey (happening statement mishaps closes) × (opened_at (happening statement mishaps closes) ≡ opened_by statement)
-leads_on hosting middle new journey (Opens c) leads reached = ([], false, leads journey reached, refl)
-leads_on hosting middle new journey (Brings c moment draws piece) leads reached = let on = leads journey reached in (on.mishaps, on.closes, on.on, refl)
-leads_on hosting middle new journey (Ends c) leads reached = ([], false, leads journey reached, refl)
+    → (mishaps : List Mishap) × (closes : Bool) × GoesOn hosting new journey (happening statement mishaps closes)
+leads_on hosting middle new journey (Opens c) leads reached = ([], false, leads journey reached)
+leads_on hosting middle new journey (Brings c moment draws piece) leads reached = let on = leads journey reached in (on.mishaps, on.closes, on.on)
+leads_on hosting middle new journey (Ends c) leads reached = ([], false, leads journey reached)
 
-pub run_on : {H : Type 0} (hosting : Hosting H) (old middle new : SeenEdge H) (lines : List (List ℕ)) (line opened opened' : List ℕ)
-    → RunsLines hosting old middle lines opened → LineLeads hosting (edge_with middle opened) line (edge_with new opened') → RunsLines hosting old new (lines ++ line ∷ []) opened'
-run_on hosting old middle new lines line opened opened' before step = λ outset reached.
+pub run_on : {H : Type 0} (hosting : Hosting H) (old middle new : SeenEdge H) (lines : List (List ℕ)) (line : List ℕ)
+    → RunsLines hosting old middle lines → LineLeads hosting middle line new → RunsLines hosting old new (lines ++ line ∷ [])
+run_on hosting old middle new lines line before step = λ outset reached.
     let run = before outset reached in
     let on = leads_on hosting middle new (record { outset = outset; schedule = run.schedule; world = run.world }) step.statement step.leads run.reached in
     let e = happening step.statement on.0 on.1 in
@@ -48,20 +47,18 @@ run_on hosting old middle new lines line opened opened' before step = λ outset 
       stand_for = stand_on lines run.schedule line e run.stand_for (record { statement = step.statement; states = step.states; mishaps = on.0; closes = on.1; event_is = refl });
       world = on.2.world;
       reached = on.2.reached;
-      opened_are = step.opened_are ∙ ap (λ (o : List ℕ). o ++ opened_by step.statement) run.opened_are
-          ∙ sym (flat_map-append opened_at run.schedule (e ∷ []) ∙ ap (λ (o : List ℕ). flat_map opened_at run.schedule ++ o) (append-nil (opened_at e) ∙ on.3));
     }
 
 -- one line more was run
-pub run_line_on : {H : Type 0} (hosting : Hosting H) (old middle new : SeenEdge H) (lines : List (Bor (List ℕ))) (i : ℕ) (d : Bor (List ℕ)) (opened opened' : List ℕ) → i < length lines
-    → RunsLines hosting old middle (texts (take i lines)) opened → LineLeads hosting (edge_with middle opened) (get_or lines i d).now (edge_with new opened') → RunsLines hosting old new (texts (take (i + 1) lines)) opened'
-run_line_on hosting old middle new lines i d opened opened' below before step =
-    rw (texts_to lines i d below) (run_on hosting old middle new (texts (take i lines)) (get_or lines i d).now opened opened' before step)
+pub run_line_on : {H : Type 0} (hosting : Hosting H) (old middle new : SeenEdge H) (lines : List (Bor (List ℕ))) (i : ℕ) (d : Bor (List ℕ)) → i < length lines
+    → RunsLines hosting old middle (texts (take i lines)) → LineLeads hosting middle (get_or lines i d).now new → RunsLines hosting old new (texts (take (i + 1) lines))
+run_line_on hosting old middle new lines i d below before step =
+    rw (texts_to lines i d below) (run_on hosting old middle new (texts (take i lines)) (get_or lines i d).now before step)
 
 -- a line has a fault behind those that were run
-pub stops_at : {H : Type 0} (hosting : Hosting H) (old middle : SeenEdge H) (lines : List (Bor (List ℕ))) (i : ℕ) (d : Bor (List ℕ)) (opened : List ℕ) (number : ℕ) (fault : ReplayFault) → i < length lines
-    → number ≡ i + 2 → RunsLines hosting old middle (texts (take i lines)) opened → LineFails hosting middle number (get_or lines i d).now fault → LinesFail hosting old (texts lines) fault
-stops_at hosting old middle lines i d opened number fault below number_is before fails = λ not_memory outset reached.
+pub stops_at : {H : Type 0} (hosting : Hosting H) (old middle : SeenEdge H) (lines : List (Bor (List ℕ))) (i : ℕ) (d : Bor (List ℕ)) (number : ℕ) (fault : ReplayFault) → i < length lines
+    → number ≡ i + 2 → RunsLines hosting old middle (texts (take i lines)) → LineFails hosting middle number (get_or lines i d).now fault → LinesFail hosting old (texts lines) fault
+stops_at hosting old middle lines i d number fault below number_is before fails = λ not_memory outset reached.
     let run = before outset reached in
     let count : number ≡ length (texts (take i lines)) + 2 = let l = length-take-le i lines (omega arith) in rw length-map (omega arith) in
     record {
@@ -75,9 +72,9 @@ stops_at hosting old middle lines i d opened number fault below number_is before
     }
 
 -- all lines were run
-pub run_all : {H : Type 0} (hosting : Hosting H) (old new : SeenEdge H) (lines : List (Bor (List ℕ))) (i : ℕ) (opened : List ℕ) → length lines ≤ i
-    → RunsLines hosting old new (texts (take i lines)) opened → RunsLines hosting old new (texts lines) opened
-run_all hosting old new lines i opened past runs = subst (λ (front : List (Bor (List ℕ))). RunsLines hosting old new (texts front) opened) (take_all i lines past) runs
+pub run_all : {H : Type 0} (hosting : Hosting H) (old new : SeenEdge H) (lines : List (Bor (List ℕ))) (i : ℕ) → length lines ≤ i
+    → RunsLines hosting old new (texts (take i lines)) → RunsLines hosting old new (texts lines)
+run_all hosting old new lines i past runs = subst (λ (front : List (Bor (List ℕ))). RunsLines hosting old new (texts front)) (take_all i lines past) runs
 
 pub if_err : {T E : Type 0} (r : Result T E) (P : E → Type 0) (fault : E) → r ≡ Err fault → P fault → IfErr r P
 if_err r P fault same p = rw same p

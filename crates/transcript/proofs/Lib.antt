@@ -3,6 +3,5 @@ pub mod Stating
 pub mod Feeds
 pub mod Leading
 pub mod Printing
-pub mod Appending
 pub mod Failing
 pub mod Names

@@ -4,8 +4,8 @@ pub use Rattle.endpoints.specs.Server.{outset_of, Outset}
 pub use Rattle.hook_host.specs.declared.host.HookHost.{Ghosts as Hosting}
 pub use Rattle.http_edge.specs.Edges.{SeenEdge}
 pub use Rattle.http_edge.specs.Reached.{Reached, new_journey}
-pub use Rattle.http_edge.specs.Schedule.{Happening, ended, World, Connection, Happens, Run, first_world}
-pub use Rattle.http_edge.specs.Schedule.{fresh, heard, connection_at, with_connection}
+pub use Rattle.http_edge.specs.Schedule.{Happening, World, Connection, Happens, Run, first_world}
+pub use Rattle.http_edge.specs.Schedule.{fresh, connection_at, with_connection}
 pub use Rattle.messages.specs.declared.request.Draws.{Draws}
 pub use Rattle.std.proofs.lemmas.Bool.Decides.{nat_tests}
 pub use Rattle.std.proofs.lemmas.Iterator.Consumers.{map_from_collect}
@@ -17,6 +17,6 @@ pub use Rattle.std.specs.Option.{unwrap_or, option_map}
 pub use Rattle.transcript.specs.Events.{LineStandsFor, StandFor, happening}
 pub use Rattle.transcript.specs.Lines.{Statement, Opens, Brings, Ends, WordsState}
 pub use Rattle.transcript.specs.Pieces.{draws_in, AllDraw, SpellsDraws, SpellsPiece}
-pub use Rattle.transcript.specs.Replays.{Configures, Stops, IsReplayFault, printed, IsReplay}
-pub use Rattle.transcript.specs.Running.{LinesFail, StatementLeads, LineLeads, LineFails, RunsLines, edge_with, opened_at, opened_by, AnswersLines, printed_from}
+pub use Rattle.transcript.specs.Replays.{Configures, Stops, IsReplayFault, printed}
+pub use Rattle.transcript.specs.Running.{LinesFail, StatementLeads, LineLeads, LineFails, RunsLines, printed_lanes}
 pub use Rattle.transcript.specs.declared.fault.ReplayFault.{ReplayFault}

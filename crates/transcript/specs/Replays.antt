@@ -15,11 +15,8 @@ use Rattle.transcript.specs.declared.fault.ReplayFault.{ReplayFault}
 use Rattle.transcript.specs.declared.fault.ReplayFault.TheVariants.{Config, BadLine, Refused, Memory}
 
 -- how the output of a connection is printed: the connection's number and how many bytes there are, and then the bytes
-abbrev pub printed_head : ℕ → ℕ → List ℕ
-printed_head c count = codes "connection " ++ decimal c ++ codes " " ++ decimal count ++ codes "\n"
-
 abbrev pub printed : ℕ → List ℕ → List ℕ
-printed c output = printed_head c (length output) ++ output ++ codes "\n"
+printed c output = codes "connection " ++ decimal c ++ codes " " ++ decimal (length output) ++ codes "\n" ++ output ++ codes "\n"
 
 -- all that went to all connections, in the order of their opening
 abbrev pub printed_all : World → List ℕ

@@ -1,16 +1,17 @@
 -- Lines that are run over an edge.
-use Rattle.std.specs.Prelude.{◌≡◌, ◌≢◌, ◌++◌, ℕ, List, [], ◌∷◌}
+use Rattle.std.specs.Prelude.{◌≢◌, ℕ, List}
 use Rattle.std.specs.List.{flat_map}
 use Rattle.hook_host.specs.declared.host.HookHost.{Ghosts as Hosting}
 use Rattle.endpoints.specs.Server.{Outset}
 use Rattle.http_edge.specs.Schedule.{World, Happening, Opened, HasEnded, piece_of}
-use Rattle.http_edge.specs.Edges.{SeenEdge, output_of}
+use Rattle.http_edge.specs.Edges.{SeenEdge}
+use Rattle.http_edge.specs.Lanes.{SeenLane}
 use Rattle.http_edge.specs.Reached.{Reached, InEach, HappeningLeads, PieceLeads, new_journey}
 use Rattle.http_edge.specs.declared.fault.EdgeFault.{EdgeFault}
 use Rattle.transcript.specs.Lines.{Statement, Opens, Brings, Ends, States}
 use Rattle.transcript.specs.Events.{StandFor, IsStatementRefusal}
 use Rattle.transcript.specs.Faults.{IsLineFault}
-use Rattle.transcript.specs.Replays.{printed, IsOutputOfLines, Stops}
+use Rattle.transcript.specs.Replays.{printed, Stops}
 use Rattle.transcript.specs.declared.fault.ReplayFault.{ReplayFault}
 use Rattle.transcript.specs.declared.fault.ReplayFault.TheVariants.{Memory}
 
@@ -24,52 +25,27 @@ StatementLeads hosting old new (Ends c) = HappeningLeads hosting old new (HasEnd
 abbrev pub StatementRefuses : {H : Type 0} → Hosting H → SeenEdge H → Statement → EdgeFault → Type 0
 StatementRefuses hosting edge statement fault = InEach hosting edge (λ world. IsStatementRefusal fault world.connections statement)
 
--- the connection that a statement opens
-abbrev pub opened_by : Statement → List ℕ
-opened_by (Opens c) = c ∷ []
-opened_by statement = []
-
--- an edge, and the connections that lines opened on it, in their order
-pub record EdgeOpened (H : Type 0) : Type 0 where
-  pub edge : SeenEdge H
-  pub opened : List ℕ
-
-abbrev pub edge_with : {H : Type 0} → SeenEdge H → List ℕ → EdgeOpened H
-edge_with edge opened = record { edge = edge; opened = opened }
-
--- what a line states leads from the one edge to the other, and a connection that it opens comes behind the others
-pub record LineLeads {H : Type 0} (hosting : Hosting H) (old : EdgeOpened H) (line : List ℕ) (new : EdgeOpened H) : Type 0 where
+-- what a line states leads from the one edge to the other
+pub record LineLeads {H : Type 0} (hosting : Hosting H) (old : SeenEdge H) (line : List ℕ) (new : SeenEdge H) : Type 0 where
   pub statement : Statement
   pub states : States line statement
-  pub leads : StatementLeads hosting old.edge new.edge statement
-  pub opened_are : new.opened ≡ old.opened ++ opened_by statement
+  pub leads : StatementLeads hosting old new statement
 
 -- the fault is that of the line, wherever the edge was reached
 abbrev pub LineFails : {H : Type 0} → Hosting H → SeenEdge H → ℕ → List ℕ → ReplayFault → Type 0
 LineFails hosting edge number line fault = InEach hosting edge (λ world. IsLineFault world.connections number line fault)
 
--- the connection that an event opens
-abbrev pub opened_at : Happening → List ℕ
-opened_at (Opened c) = c ∷ []
-opened_at event = []
-
--- lines were run: their events lead to the edge, and these connections were opened
-pub record RunTo {H : Type 0} (hosting : Hosting H) (outset : Outset H) (lines : List (List ℕ)) (edge : SeenEdge H) (opened : List ℕ) : Type 0 where
+-- lines were run: their events lead to the edge
+pub record RunTo {H : Type 0} (hosting : Hosting H) (outset : Outset H) (lines : List (List ℕ)) (edge : SeenEdge H) : Type 0 where
   pub schedule : List Happening
   pub stand_for : StandFor lines schedule
   pub world : World
   pub reached : Reached hosting edge (record { outset = outset; schedule = schedule; world = world })
-  pub opened_are : opened ≡ flat_map opened_at schedule
 
 -- from a new edge on the lines were run
-abbrev pub RunsLines : {H : Type 0} → Hosting H → SeenEdge H → SeenEdge H → List (List ℕ) → List ℕ → Type 0
-RunsLines hosting old new lines opened =
-    (outset : Outset _) → Reached hosting old (new_journey outset) → RunTo hosting outset lines new opened
-
--- from a new edge on the lines have this answer
-abbrev pub AnswersLines : {H : Type 0} → Hosting H → SeenEdge H → List (List ℕ) → List ℕ → Type 0
-AnswersLines hosting edge lines output =
-    (outset : Outset _) → Reached hosting edge (new_journey outset) → IsOutputOfLines hosting outset lines output
+abbrev pub RunsLines : {H : Type 0} → Hosting H → SeenEdge H → SeenEdge H → List (List ℕ) → Type 0
+RunsLines hosting old new lines =
+    (outset : Outset _) → Reached hosting old (new_journey outset) → RunTo hosting outset lines new
 
 -- from a new edge on one of the lines has this fault, unless memory was refused
 abbrev pub LinesFail : {H : Type 0} → Hosting H → SeenEdge H → List (List ℕ) → ReplayFault → Type 0
@@ -77,5 +53,5 @@ LinesFail hosting edge lines fault =
     fault ≢ Memory → (outset : Outset _) → Reached hosting edge (new_journey outset) → Stops hosting outset lines fault
 
 -- the output of all these connections
-abbrev pub printed_from : {H : Type 0} → SeenEdge H → List ℕ → List ℕ
-printed_from edge opened = flat_map (λ c. printed c (output_of edge c)) opened
+abbrev pub printed_lanes : List SeenLane → List ℕ
+printed_lanes lanes = flat_map (λ lane. printed lane.number lane.output) lanes

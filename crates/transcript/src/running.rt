@@ -1,10 +1,9 @@
 //! A transcript's lines, run over an edge.
 
 ghost use Rattle.std.specs.Prelude.{◌≡◌, ◌++◌, [], map, IfOk, IfErr, OnOk};
-ghost use Rattle.std.specs.Fmt.{decimal};
 ghost use Rattle.transcript.specs.Seen.{stated};
-ghost use Rattle.transcript.specs.Replays.{printed, printed_head, IsReplay, IsReplayFault};
-ghost use Rattle.transcript.specs.Running.{edge_with, opened_by, printed_from, AnswersLines, LinesFail, LineFails, LineLeads, RunsLines, StatementLeads, StatementRefuses};
+ghost use Rattle.transcript.specs.Replays.{printed, IsReplay, IsReplayFault};
+ghost use Rattle.transcript.specs.Running.{printed_lanes, LinesFail, LineFails, LineLeads, RunsLines, StatementLeads, StatementRefuses};
 
 use crate::fault::ReplayFault;
 use crate::line::{Line, json, lines, statement};
@@ -12,8 +11,7 @@ use clients::Registry;
 use endpoints::Server;
 use hook_chain::Chain;
 use hook_host::HookHost;
-use http_edge::{ConnectionNo, Edge, EdgeFault, Event};
-use itoa::Buffer;
+use http_edge::{ConnectionNo, Edge, EdgeFault, Event, Lane};
 use std::alloc::{AllocError, Global};
 
 /// What a line states happens, or is refused and changes nothing.
@@ -38,26 +36,14 @@ fn happen<H: HookHost>(edge: &mut Edge<H>, line: &Line) -> Result<(), EdgeFault>
     }
 }
 
-/// The connection that a line opens is put behind the others.
-fn note_opened(opened: &mut Vec<ConnectionNo>, line: &Line) -> Result<(), AllocError>
-    ensures { OnOk result (opened.new.items ≡ opened.old.items ++ opened_by (stated line.now)) }
-{
-    if let Line::Open(connection) = line {
-        opened.push(*connection)?;
-    }
-    Ok(())
-}
-
 /// A line is read, and what it states happens.
 fn run_line<H: HookHost>(
     alloc: Global,
     edge: &mut Edge<H>,
-    opened: &mut Vec<ConnectionNo>,
     number: usize,
     text: &str,
 ) -> Result<(), ReplayFault>
-    ensures done { OnOk result (LineLeads H.HookHost (edge_with edge.old opened.old.items) text.now
-        (edge_with edge.new opened.new.items)) }
+    ensures done { OnOk result (LineLeads H.HookHost edge.old text.now edge.new) }
     ensures fault { IfErr result (LineFails H.HookHost edge.old number text.now) }
 {
     let Some(line) = statement(alloc, text)? else {
@@ -66,85 +52,50 @@ fn run_line<H: HookHost>(
     if let Err(fault) = happen(edge, &line) {
         return Err(ReplayFault::of_event(number, fault));
     }
-    note_opened(opened, &line)?;
     Ok(())
 }
 
-/// Lines behind the first are run in order: the connections that they open.
+/// Lines behind the first are run in order.
 fn run_lines<H: HookHost>(
     alloc: Global,
     edge: &mut Edge<H>,
     lines: &[&str],
-) -> Result<Vec<ConnectionNo>, ReplayFault>
-    ensures done { IfOk result (λ opened. RunsLines H.HookHost edge.old edge.new (map (λ line. line.now) lines.now) opened.items) }
+) -> Result<(), ReplayFault>
+    ensures done { OnOk result (RunsLines H.HookHost edge.old edge.new (map (λ line. line.now) lines.now)) }
     ensures fault { IfErr result (LinesFail H.HookHost edge.old (map (λ line. line.now) lines.now)) }
 {
-    let mut opened = Vec::new(alloc);
     let mut number = 1;
     for line in lines {
         number += 1;
-        run_line(alloc, edge, &mut opened, number, line)?;
+        run_line(alloc, edge, number, line)?;
     }
-    Ok(opened)
-}
-
-/// A number is printed in decimal.
-fn print_number(out: &mut Vec<u8>, number: usize) -> Result<(), AllocError>
-    ensures { OnOk result (out.new.items ≡ out.old.items ++ decimal number) }
-{
-    let mut buffer = Buffer::new();
-    out.extend_from_slice(buffer.format(number).as_bytes())?;
-    Ok(())
-}
-
-/// The line before a connection's output is printed.
-fn print_head(out: &mut Vec<u8>, c: ConnectionNo, count: usize) -> Result<(), AllocError>
-    ensures { OnOk result (out.new.items ≡ out.old.items ++ printed_head c count) }
-{
-    out.extend_from_slice(b"connection ")?;
-    print_number(out, c.get() as usize)?;
-    out.extend_from_slice(b" ")?;
-    print_number(out, count)?;
-    out.extend_from_slice(b"\n")?;
     Ok(())
 }
 
 /// The output of a connection is printed.
-fn print_output(out: &mut Vec<u8>, c: ConnectionNo, output: &[u8]) -> Result<(), AllocError>
+fn print_output(
+    alloc: Global,
+    out: &mut Vec<u8>,
+    c: ConnectionNo,
+    output: &[u8],
+) -> Result<(), AllocError>
     ensures { OnOk result (out.new.items ≡ out.old.items ++ printed c output.now) }
 {
-    print_head(out, c, output.len())?;
+    let head = format!(in alloc; "connection {} {}\n", c.get(), output.len())?;
+    out.extend_from_slice(head.as_bytes())?;
     out.extend_from_slice(output)?;
     out.extend_from_slice(b"\n")?;
     Ok(())
 }
 
 /// The output of connections, in their order.
-fn print_outputs<H: HookHost>(
-    alloc: Global,
-    edge: &Edge<H>,
-    opened: &[ConnectionNo],
-) -> Result<Vec<u8>, AllocError>
-    ensures { IfOk result (λ out. out.items ≡ printed_from edge.now opened.now) }
+fn print_outputs(alloc: Global, lanes: &[Lane]) -> Result<Vec<u8>, AllocError>
+    ensures { IfOk result (λ out. out.items ≡ printed_lanes lanes.now) }
 {
     let mut out = Vec::new(alloc);
-    for c in opened {
-        print_output(&mut out, *c, edge.output(*c))?;
+    for lane in lanes {
+        print_output(alloc, &mut out, lane.number(), lane.output())?;
     }
-    Ok(out)
-}
-
-/// What lines behind the first are answered, over a new edge.
-fn answer<H: HookHost + Drop>(
-    alloc: Global,
-    mut edge: Edge<H>,
-    lines: &[&str],
-) -> Result<Vec<u8>, ReplayFault>
-    ensures done { IfOk result (λ out. AnswersLines H.HookHost edge (map (λ line. line.now) lines.now) out.items) }
-    ensures fault { IfErr result (LinesFail H.HookHost edge (map (λ line. line.now) lines.now)) }
-{
-    let opened = run_lines(alloc, &mut edge, lines)?;
-    let out = print_outputs(alloc, &edge, &opened)?;
     Ok(out)
 }
 
@@ -174,6 +125,8 @@ pub fn replay_on<H: HookHost + Drop>(
         return Err(ReplayFault::BadLine(1));
     };
     let registry = Registry::read(alloc, json.as_bytes())?;
-    let server = Server::new(alloc, registry, host);
-    answer(alloc, Edge::new(alloc, server), later)
+    let mut edge = Edge::new(alloc, Server::new(alloc, registry, host));
+    run_lines(alloc, &mut edge, later)?;
+    let out = print_outputs(alloc, edge.lanes())?;
+    Ok(out)
 }

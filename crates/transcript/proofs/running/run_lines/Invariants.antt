@@ -5,4 +5,4 @@ use Rattle.transcript.proofs.running.run_lines.Given as goal
 
 -- the lines so far were run
 abbrev pub invariant-loop-line : goal.invariant-loop-line
-invariant-loop-line g l = RunsLines g.H.HookHost l.initial.edge l.edge (texts (take l.line-index l.lines)) l.opened.items × (l.number ≡ l.line-index + 1)
+invariant-loop-line g l = RunsLines g.H.HookHost l.initial.edge l.edge (texts (take l.line-index l.lines)) × (l.number ≡ l.line-index + 1)

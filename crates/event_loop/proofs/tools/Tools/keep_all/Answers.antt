@@ -1,14 +1,12 @@
 use Rattle.std.proofs.Common.{arith, inr, ◌∷◌, [], refl}
-use Rattle.event_loop.proofs.Names.{Kept, led_on, promises, goes, keeps, not_kept, keeping}
+use Rattle.event_loop.proofs.Names.{Kept, led_on, goes, keeps, not_kept}
 use Rattle.event_loop.specs.Calls as call
-use Rattle.event_loop.proofs.Answering.{served_answered}
 use Rattle.event_loop.proofs.Doing.{none_more, not_another}
 use Rattle.event_loop.proofs.Kept.{kept_connections, all_kept_now}
 use Rattle.event_loop.proofs.tools.Tools.keep_all.Goals as goal
 
 pub returns-in_default-clause-kept : goal.returns-in_default-clause-kept
-returns-in_default-clause-kept g c = λ first found service past undone h.
-    let reached = (served_answered (promises g.N.Sockets g.C.Clocks g.J.Journal (keeping g.K.Keeper g.K.ImageKeeper) g.H.HookHost) first _ h).reached in
+returns-in_default-clause-kept g c = λ first found service past undone h reached.
     record {
       next = past;
       served = h;
@@ -19,14 +17,12 @@ returns-in_default-clause-kept g c = λ first found service past undone h.
     }
 
 pub returns-in_default-keep-clause-lost : goal.returns-in_default-keep-clause-lost
-returns-in_default-keep-clause-lost g c = λ first found service past undone h.
-    let reached = (served_answered (promises g.N.Sockets g.C.Clocks g.J.Journal (keeping g.K.Keeper g.K.ImageKeeper) g.H.HookHost) first _ h).reached in
+returns-in_default-keep-clause-lost g c = λ first found service past undone h reached.
     let unkept = c.in-Some.ensures.some past.journey reached in
     not_kept c.keep.new.self unkept.0 undone (c.in_default-keep.ensures.lost unkept.0.kept past.journey.world.history unkept.1) c.keep.ensures.meanwhile
 
 pub returns-clause-kept : goal.returns-clause-kept
-returns-clause-kept g c = λ first found service past undone h.
-    let reached = (served_answered (promises g.N.Sockets g.C.Clocks g.J.Journal (keeping g.K.Keeper g.K.ImageKeeper) g.H.HookHost) first _ h).reached in
+returns-clause-kept g c = λ first found service past undone h reached.
     let unkept = c.in-Some.ensures.some past.journey reached in
     let on = c.forget_unkept.ensures.kept past.journey reached in
     record {

@@ -1,6 +1,7 @@
 use Rattle.std.proofs.Common.{arith, ◌≡◌, inl, inr, refl, Some, ap, subst, ◌∙◌, slice_get}
 use Rattle.event_loop.proofs.Names.{NeedsNoRead, cases_lt, promises, IsHeardAt, to_read, below_more, keeping}
 use Rattle.event_loop.proofs.Doing.{on_still, on_then}
+use Rattle.event_loop.proofs.Answering.{served_answered}
 use Rattle.event_loop.proofs.Leading.{rested_next, rested_heard, reading_other}
 use Rattle.event_loop.proofs.Resting.{heard_other, still_holds}
 use Rattle.event_loop.proofs.tools.Tools.read_all.Goals as goal
@@ -36,7 +37,7 @@ loop-k-preserved g c = record {
       let p = promises g.N.Sockets g.C.Clocks g.J.Journal (keeping g.K.Keeper g.K.ImageKeeper) g.H.HookHost in
       let k = c.loop-k.k in
       let before = c.loop-k.invariant.reads first found past undone rested h in
-      let x = c.read.ensures.acts first found before.on.next (before.unread k (omega arith)) tt before.on.served in
+      let x = c.read.ensures.acts first found before.on.next (before.unread k (omega arith)) tt before.on.served (served_answered p first _ before.on.served).reached in
       record {
         on = on_then p first _ _ _ before.on x.goes.on;
         rested = rested_next k c.loop-k.service before.on.next.journey.world c.read.new.service x.goes.on.next.journey.world x.goes.others (ap (λ l. slice_get l k) x.due ∙ subst (λ b. slice_get c.loop-k.service.due k ≡ Some b) c.if-not-is_at.false c.is_at.ensures) before.rested;

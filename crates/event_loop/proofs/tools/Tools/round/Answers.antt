@@ -2,6 +2,7 @@ use Rattle.std.proofs.Common.{rules, add-one, ap, ◌≤◌, ◌-◌, ◌∷◌,
 use Rattle.event_loop.proofs.Names.{eqb-true, promises, Service, Accepting, IsDone, goes, Past, running, state_of, no_wait, no_time, no_moment, keeping}
 use Rattle.event_loop.specs.Served.{waits}
 use Rattle.event_loop.specs.Calls as call
+use Rattle.event_loop.proofs.Answering.{served_answered}
 use Rattle.event_loop.proofs.Leading.{to_then, kept_then}
 use Rattle.event_loop.proofs.Leaving.{may_wait, calm_told, told_or_not}
 use Rattle.event_loop.proofs.tools.Tools.round.Goals as goal
@@ -62,7 +63,7 @@ returns-in-Err-keep_all-clause-wrong g c = λ first past begun was_ready.
       served = read.on.served;
       found = [];
       next = read.on.next;
-      fails = c.in-Err-keep_all.ensures.lost first [] c.read_all.new.service read.on.next read.not_kept read.on.served;
+      fails = c.in-Err-keep_all.ensures.lost first [] c.read_all.new.service read.on.next read.not_kept read.on.served (served_answered _ first _ read.on.served).reached;
     }
 
 pub returns-clause-goes : goal.returns-clause-goes
@@ -96,4 +97,4 @@ returns-clause-goes g c = λ first past begun was_ready.
 
 pub returns-in-Err-clause-wrong : goal.returns-in-Err-clause-wrong
 returns-in-Err-clause-wrong g c = λ first past h ready.
-    record { last = state_of (running c.args.service.now c.args.self.now) [] past; served = h; found = []; next = past; fails = c.in-Err.ensures.failed first [] past h }
+    record { last = state_of (running c.args.service.now c.args.self.now) [] past; served = h; found = []; next = past; fails = c.in-Err.ensures.failed first [] past h (served_answered _ first _ h).reached }
