@@ -1,6 +1,6 @@
 -- The names of other crates that more than one file of these proofs uses.
-pub use Rattle.lifetime.specs.Names.{IsFrontOf, RegistryRecord, Event, Outset, outset_of, SeenServer, Onward, HasServed, ServesNothing, LoopState, Served, Named, SeenEdge, Journey, Reached}
-pub use Rattle.lifetime.specs.Names.{resumed_journey, HookFact, SeenKeeper, WasLived, StandsFor, until_of, IsPutOn, IsOfDisk, IsOldOr, IsUntouched, Tell, TellsRules, rules_of, StateFault}
+pub use Rattle.lifetime.specs.Names.{IsFrontOf, RegistryRecord, Event, Outset, outset_of, SeenServer, Onward, HasServed, LoopState, Served, Named, SeenEdge, Journey, Reached}
+pub use Rattle.lifetime.specs.Names.{HookFact, SeenKeeper, WasLived, StandsFor, until_of, IsPutOn, IsOfDisk, IsOldOr, IsUntouched, Tell, TellsRules, rules_of, StateFault}
 pub use Rattle.batch_file.specs.Frames.{recovered, torn_of}
 pub use Rattle.change_codec.specs.Keeping.{HoldsBasis, Rules, TellsBasis}
 pub use Rattle.endpoints.specs.Bounded.{AllRight, IsBounded}
@@ -12,8 +12,7 @@ pub use Rattle.event_loop.specs.declared.tools.Tools.{Tools}
 pub use Rattle.image_codec.specs.Facts.{hook_fact}
 pub use Rattle.lifetime.specs.Found.{ComesOf, IsHeir, MayBeFound, at_first, ever, grows, is_it, narrows, once_settled, settled_at}
 pub use Rattle.lifetime.specs.Given.{Given, LifePromises, in_loop, life_promises, given}
-pub use Rattle.lifetime.specs.Lives.{HasLived, HasNotLived, IsLife, IsWhole, LosesNothing, is_ahead, is_refused, is_unopened, is_unsettled, Leaves, LeavesKept, loop_of, CannotSettle}
-pub use Rattle.lifetime.specs.LivesParts.{Begins, IsGoneOn, goes_not, goes_on, opened, opened_none, outlook_of}
+pub use Rattle.lifetime.specs.Lives.{HasLived, HasNotLived, IsLife, IsWhole, LosesNothing, is_ahead, is_refused, is_unopened, is_unsettled, Leaves, LeavesKept, loop_of}
 pub use Rattle.lifetime.specs.Plans.{IsPlanOf, begun_from, RefusesPlan, bytes_under, start_of}
 pub use Rattle.lifetime.specs.Starts.{Begun, Settles, LooksAt, Outlook, too_far_at}
 pub use Rattle.lifetime.specs.declared.life.Life.{Life}

@@ -8,7 +8,5 @@ pub mod Lives
 pub mod Openings
 pub mod Found
 pub mod Anew
--- What only the contracts of this crate's own parts and their proofs cite.
-pub mod LivesParts
 -- What these files import, passed on.
 pub mod Names

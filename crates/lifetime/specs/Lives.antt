@@ -1,17 +1,18 @@
 -- One life of a server on the file of its state.
 use Rattle.std.specs.Prelude.{◌≡◌, ◌⊎◌, ℕ, List, [], None, Some}
 use Rattle.lifetime.specs.Names.{LeavesOnly, RegistryRecord, Event, IsFrontOf, outset_of, Onward, Beginning, HasServed, ServesNothing, Served, Named, SeenEdge, Reached, resumed_journey, SeenKeeper}
-use Rattle.lifetime.specs.Names.{OfEachRun, StandsFor, IsOfDisk, IsUntouched, TellsRules, rules_of, StateFault}
+use Rattle.lifetime.specs.Names.{HookFact, OfEachRun, StandsFor, IsOfDisk, IsUntouched, TellsRules, rules_of, StateFault}
 use Rattle.endpoints.specs.Bounded.{AllRight, IsBounded}
 use Rattle.endpoints.specs.Hosts.{HostRun}
 use Rattle.hook_chain.specs.contracts.chain.ChainHookHost.TheImpl as chain
-use Rattle.lifetime.specs.Given.{Given, LifePromises, LifeState, in_loop, life_of}
-use Rattle.lifetime.specs.Plans.{RefusesPlan, begun_from}
+use Rattle.lifetime.specs.Given.{Given, LifePromises, LifeState, in_loop, life_of, given as handed}
+use Rattle.lifetime.specs.Plans.{IsPlanOf, RefusesPlan, begun_from}
 use Rattle.lifetime.specs.Serving.{tools_of}
 use Rattle.lifetime.specs.Starts.{Begun, LooksAt, MayReport, Outlook, Settles, too_far_at, torn_notices}
 use Rattle.lifetime.specs.declared.life.Life.{Life}
 use Rattle.lifetime.specs.declared.life.LifeEnd.TheVariants as ends
 use Rattle.lifetime.specs.declared.means.Means.{Means}
+use Rattle.lifetime.specs.declared.plan.Plan.{Plan}
 use Rattle.lifetime.specs.declared.going_on.Ending.{Ending}
 
 -- WHAT A CRASH LEAVES
@@ -112,3 +113,8 @@ pub data IsLife {D N C J : Type 0} (p : LifePromises D N C J) (given : Given D N
       (ending : Ending N C J (SeenKeeper D)) → OfEachRun given.bytes (λ history. let before = begun_from settles.looks.plan_is history in
       HasLived p given begun before ending ⊎ HasNotLived p given begun before ending) →
       IsLife p given (life_of (ends.Stopped ending.fault ending.tools.keeper.fault) ending.tools.keeper.file.device (means_left begun.means ending))
+
+-- whatever bytes it is the plan of: a life that had it, with this device and these means, went so
+abbrev pub LivesBy : {D N C J : Type 0} → LifePromises D N C J → D → Plan → Means N C J → Life D N C J → Type 0
+LivesBy p device plan means life =
+    (bytes : List ℕ) (registry : RegistryRecord) (hooks : List HookFact) → IsPlanOf registry hooks bytes plan → IsLife p (handed device bytes registry hooks means) life

@@ -4,7 +4,7 @@ pub use Rattle.change_codec.specs.Keeping.{IsFrontOf}
 pub use Rattle.clients.specs.RegistryRecord.{RegistryRecord}
 pub use Rattle.consent.specs.History.{Event}
 pub use Rattle.endpoints.specs.Keeping.{Keeping, keeping}
-pub use Rattle.endpoints.specs.Server.{Outset, outset_of, SeenServer, FitsServer, Notes}
+pub use Rattle.endpoints.specs.Server.{Outset, outset_of, SeenServer}
 pub use Rattle.event_loop.specs.Durable.{Onward}
 pub use Rattle.event_loop.specs.Ends.{Beginning, HasServed, ServesNothing}
 pub use Rattle.event_loop.specs.LoopStates.{Promises, LoopState, promises}

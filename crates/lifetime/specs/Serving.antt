@@ -1,6 +1,6 @@
 -- A server that serves its connections until it can't go on.
-use Rattle.std.specs.Prelude.{◌⊎◌, ℕ, List, Some}
-use Rattle.lifetime.specs.Names.{Event, SeenServer, Outset, FitsServer, Notes, HasServed, ServesNothing, Promises, Named, SeenEdge, Journey, Reached, resumed_journey}
+use Rattle.std.specs.Prelude.{◌⊎◌, List}
+use Rattle.lifetime.specs.Names.{HasServed, ServesNothing, Promises, Named, SeenEdge, Journey, Reached}
 use Rattle.event_loop.specs.declared.tools.Tools.{Tools}
 use Rattle.lifetime.specs.declared.means.Means.{Means}
 use Rattle.lifetime.specs.declared.going_on.Ending.{Ending}
@@ -24,9 +24,3 @@ pub record Serves {N C J K : Type 0} (p : Promises N C J K (List Named)) (journe
   pub begun : Reached p.hosting edge journey
   pub served : HasServed p (record { limits = means.limits; tools = tools_of means keeper edge; journey = journey }) ending.fault ending.tools
       ⊎ ServesNothing p (tools_of means keeper edge) ending.fault ending.tools
-
--- from whatever history on the server has noted what happens, it served from there
-abbrev pub ServesFrom : {N C J K : Type 0} → Promises N C J K (List Named) → SeenServer (List Named) → Means N C J → K → Ending N C J K → Type 0
-ServesFrom p server means keeper ending =
-    (outset : Outset _) (history : List Event) (m : ℕ) → FitsServer p.hosting server outset history m → Notes server (Some history) history →
-    Serves p (resumed_journey outset history m) means keeper ending

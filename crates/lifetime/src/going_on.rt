@@ -4,7 +4,7 @@ ghost use Rattle.endpoints.specs.Keeping.{keeping};
 ghost use Rattle.event_loop.specs.Ends.{RunEnds};
 ghost use Rattle.event_loop.specs.LoopStates.{promises};
 ghost use Rattle.lifetime.specs.Anew.{IsLifeAnew, keeping_nothing};
-ghost use Rattle.lifetime.specs.Serving.{ServesFrom, tools_of};
+ghost use Rattle.lifetime.specs.Serving.{tools_of};
 
 use crate::means::Means;
 use change_codec::NoKeeper;
@@ -26,7 +26,7 @@ pub(crate) struct Ending<N, C, J, K> {
 }
 
 /// Serves up to 64 connections at once, by an edge and with what it is handed, until it can't go on.
-fn serve_by<N: Sockets, C: Clocks, J: Journal, K: ImageKeeper>(
+pub(crate) fn serve_by<N: Sockets, C: Clocks, J: Journal, K: ImageKeeper>(
     edge: Edge<Chain>,
     keeper: K,
     means: Means<N, C, J>,
@@ -45,19 +45,6 @@ fn serve_by<N: Sockets, C: Clocks, J: Journal, K: ImageKeeper>(
     };
     let fault = serve_all(&mut tools, limits);
     Ending { fault, tools }
-}
-
-/// Serves by a server that was made before, and keeps what happens, from the history on from which the server notes it.
-pub(crate) fn go_on_with<N: Sockets, C: Clocks, J: Journal, K: ImageKeeper>(
-    alloc: Global,
-    server: Server<Chain>,
-    keeper: K,
-    means: Means<N, C, J>,
-) -> Ending<N, C, J, K>
-    ensures { ServesFrom (promises N.Sockets C.Clocks J.Journal (keeping K.Keeper K.ImageKeeper.own) ⟦<Chain as HookHost>⟧)
-        server means keeper result }
-{
-    serve_by(Edge::new(alloc, server), keeper, means)
 }
 
 /// What is left of a server that was started without a file of its state.

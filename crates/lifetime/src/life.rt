@@ -3,12 +3,11 @@
 ghost use Rattle.std.specs.Prelude.{◌≡◌, map};
 ghost use Rattle.image_codec.specs.Facts.{hook_fact};
 ghost use Rattle.lifetime.specs.Given.{given, life_promises};
-ghost use Rattle.lifetime.specs.Lives.{IsLife};
+ghost use Rattle.lifetime.specs.Lives.{IsLife, LivesBy};
 ghost use Rattle.lifetime.specs.Openings.{IsOpenedBy};
-ghost use Rattle.lifetime.specs.LivesParts.{Begins, IsGoneOn, LivesBy, outlook_of};
 
 use crate::clock::too_far;
-use crate::going_on::{Ending, go_on_with};
+use crate::going_on::{Ending, serve_by};
 use crate::means::Means;
 use crate::opening::Opening;
 use crate::plan::{Plan, plan_of};
@@ -16,8 +15,8 @@ use crate::settling::settle;
 use batch_file::appending::BatchFault;
 use batch_file::device::Device;
 use clients::Registry;
-use event_loop::{Clocks, Journal, LoopFault, Sockets, Times};
-use hook_chain::Chain;
+use event_loop::{Clocks, Journal, LoopFault, Sockets};
+use http_edge::Edge;
 use image_codec::KeptHook;
 use state_file::{NotStarted, Started, StateFault};
 use std::alloc::Global;
@@ -66,69 +65,9 @@ impl<D, N, C, J> Life<D, N, C, J> {
     }
 }
 
-/// Goes on from what a start has settled: tells clients where the sockets listen, and serves up to 64 connections at once until
-/// it can't go on.
-fn go_on<D: Device + Drop, N: Sockets, C: Clocks, J: Journal, O: Opening>(
-    alloc: Global,
-    started: Started<D, Chain>,
-    means: Means<N, C, J>,
-    opening: &mut O,
-) -> Life<D, N, C, J>
-    ensures gone_on { IsGoneOn (life_promises D.Device N.Sockets C.Clocks J.Journal) started.server started.keeper means result }
-    ensures opened { IsOpenedBy O.Opening.opens opening.old result.end opening.new }
-{
-    if opening.open().is_err() {
-        return Life::of(LifeEnd::Unopened, started.keeper.into_device(), means);
-    }
-    let Ending { fault, tools } = go_on_with(alloc, started.server, started.keeper, means);
-    let why = tools.keeper.fault();
-    Life {
-        end: LifeEnd::Stopped { fault, why },
-        device: tools.keeper.into_device(),
-        sockets: tools.sockets,
-        clocks: tools.clocks,
-        journal: tools.journal,
-    }
-}
-
-/// Settles what a plan has made, and goes on from there.
+/// Goes by a plan: reads the clocks, and unless they are too far ahead settles it, tells clients where the sockets listen, and
+/// serves up to 64 connections at once until it can't go on.
 fn begin<D: Device + Drop, N: Sockets, C: Clocks, J: Journal, O: Opening>(
-    alloc: Global,
-    device: D,
-    plan: Plan,
-    now: Option<Times>,
-    means: Means<N, C, J>,
-    opening: &mut O,
-) -> Life<D, N, C, J>
-    requires faultless { D.faults device ≡ 0 }
-    ensures begins { Begins (life_promises D.Device N.Sockets C.Clocks J.Journal) device (outlook_of plan now means.clocks) means result }
-    ensures opened { IsOpenedBy O.Opening.opens opening.old result.end opening.new }
-{
-    let Means {
-        sockets,
-        clocks,
-        mut journal,
-        generator,
-        limits,
-        ahead,
-    } = means;
-    let settled = settle(device, plan, now, &mut journal);
-    let means = Means {
-        sockets,
-        clocks,
-        journal,
-        generator,
-        limits,
-        ahead,
-    };
-    match settled {
-        Ok(started) => go_on(alloc, started, means, opening),
-        Err(NotStarted { fault, device }) => Life::of(LifeEnd::Refused(fault), device, means),
-    }
-}
-
-/// Reads the clocks, and begins by a plan unless they are too far ahead.
-fn look<D: Device + Drop, N: Sockets, C: Clocks, J: Journal, O: Opening>(
     alloc: Global,
     device: D,
     plan: Plan,
@@ -141,9 +80,27 @@ fn look<D: Device + Drop, N: Sockets, C: Clocks, J: Journal, O: Opening>(
 {
     let mut means = means;
     let now = means.clocks.read();
-    match too_far(means.ahead, &now, plan.prepared.moment()) {
-        Some(seconds) => Life::of(LifeEnd::ClockAhead(seconds), device, means),
-        None => begin(alloc, device, plan, now, means, opening),
+    if let Some(seconds) = too_far(means.ahead, &now, plan.prepared.moment()) {
+        return Life::of(LifeEnd::ClockAhead(seconds), device, means);
+    }
+    let started = match settle(device, plan, now, &mut means.journal) {
+        Ok(started) => started,
+        Err(NotStarted { fault, device }) => {
+            return Life::of(LifeEnd::Refused(fault), device, means);
+        }
+    };
+    if opening.open().is_err() {
+        return Life::of(LifeEnd::Unopened, started.keeper.into_device(), means);
+    }
+    let edge = Edge::new(alloc, started.server);
+    let Ending { fault, tools } = serve_by(edge, started.keeper, means);
+    let why = tools.keeper.fault();
+    Life {
+        end: LifeEnd::Stopped { fault, why },
+        device: tools.keeper.into_device(),
+        sockets: tools.sockets,
+        clocks: tools.clocks,
+        journal: tools.journal,
     }
 }
 
@@ -169,7 +126,7 @@ pub fn live<D: Device + Drop, N: Sockets, C: Clocks, J: Journal, O: Opening>(
     let planned = plan_of(alloc, &bytes, registry, hooks);
     drop(bytes);
     match planned {
-        Ok(plan) => look(alloc, device, plan, means, opening),
+        Ok(plan) => begin(alloc, device, plan, means, opening),
         Err(fault) => Life::of(LifeEnd::Refused(fault), device, means),
     }
 }

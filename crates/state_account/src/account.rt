@@ -1,11 +1,11 @@
 //! What a state file stands for, where no server is started on it and nothing is written.
 
-ghost use Rattle.std.specs.Prelude.{◌≡◌, ◌≤◌, IfOk, IfErr, OnOk};
+ghost use Rattle.std.specs.Prelude.{◌≡◌, ◌≤◌, IfOk, IfErr};
 ghost use Rattle.batch_file.specs.Frames.{lists, recovered, torn_of};
 ghost use Rattle.endpoints.specs.Server.{outset_of};
 ghost use Rattle.image_codec.specs.Facts.{image_fact};
 ghost use Rattle.state_account.specs.Accounts.{IsAccountOf, IsImageOfAccount, IsOfBatches, RefusesAccount, fault_in};
-ghost use Rattle.state_file.specs.Resuming.{AnswersForBatches, RedoesBatches};
+ghost use Rattle.state_file.specs.Resuming.{AnswersForBatches};
 ghost use Rattle.state_file.specs.Standing.{IsMomentTold, until_of};
 ghost use Rattle.state_account.specs.declared.account.AccountFault.TheVariants.{Memory};
 
@@ -69,27 +69,8 @@ fn rules_number(batches: &[Vec<u8>]) -> usize {
     number
 }
 
-/// Makes the changes of the batches again, before which so many others stand.
-#[tactic(auto, using(crate::proofs::Accounted::of_changes))]
-fn redo_each<H: HookHost>(
-    alloc: Global,
-    restored: &mut Restored<H>,
-    batches: &[Vec<u8>],
-    before: usize,
-) -> Result<(), AccountFault>
-    ensures redone { OnOk result (RedoesBatches H.HookHost restored.old (lists batches.now) restored.new) }
-    ensures refused { IfErr result IsOfBatches }
-{
-    for i in 0..batches.len() {
-        if let Err(fault) = redo_all(alloc, restored, &batches[i..i + 1]) {
-            return Err(fault_in(before.saturating_add(i + 1), fault));
-        }
-    }
-    Ok(())
-}
-
 /// A server of what the batches tell.
-#[tactic(auto, using(crate::proofs::Accounted::of_image))]
+#[tactic(auto, using(crate::proofs::Accounted::of_image, crate::proofs::Accounted::of_changes))]
 fn restored_of<H: HookHost>(
     alloc: Global,
     registry: Registry,
@@ -111,7 +92,10 @@ fn restored_of<H: HookHost>(
         image: _,
     } = begun;
     let before = batches.len().saturating_sub(later.len());
-    redo_each(alloc, &mut restored, later, before)?;
+    if let Err((behind, fault)) = redo_all(alloc, &mut restored, later) {
+        let number = before.saturating_add(behind).saturating_add(1);
+        return Err(fault_in(number, fault));
+    }
     restored.reach(until_of(batches));
     Ok(restored)
 }

@@ -1,8 +1,7 @@
 -- Rules that are as wide as those told are wider.
-use Rattle.std.proofs.Common.{◌≡◌, ◌≤◌, ◌<◌, ◌+◌, ℕ, zero, suc, List, [], ◌∷◌, ◌++◌, Bool, true, false, Option, None, Some, map, length, drop, get_or, refl, sym, ap, subst, arith}
-use Rattle.state_file.proofs.Names.{if◌then◌else◌, bytes_eq, drop_all, drop_more, bytes_eq-Decides, ClientRecord, RegistryRecord, is_within, token_life_limit, ClientFact, AreAsWide, client_names}
+use Rattle.std.proofs.Common.{◌≡◌, ◌≤◌, ◌+◌, ℕ, List, [], ◌∷◌, ◌++◌, Bool, true, false, Option, None, Some, map, refl, sym, ap, subst}
+use Rattle.state_file.proofs.Names.{if◌then◌else◌, bytes_eq, bytes_eq-Decides, ClientRecord, RegistryRecord, is_within, token_life_limit, AreAsWide, client_names}
 use Rattle.state_file.proofs.Names.{first_moved, first_narrowed, client_told, rules_of}
-use Rattle.std.specs.Prelude.{not}
 use Rattle.consent.specs.declared.grant.TokenKind.{TokenKind}
 use Rattle.consent.specs.declared.grant.TokenKind.TheVariants.{Access, Refresh}
 use Rattle.endpoints.specs.Widening.{AreWider, IsWider}
@@ -41,32 +40,3 @@ wider old new wide = record {
   clients = clients_wider old.clients new.clients wide.0.0.1 wide.0.1;
   lives = lives_longer old new wide.1 wide.2;
 }
-
--- THE STEPS OF A COMPARISON
-
-pub none_beside : (a : List ClientFact) → first_narrowed a [] ≡ None
-none_beside [] = refl
-none_beside (c ∷ cs) = refl
-
-pub same_if : (differ same : Bool) → differ ≡ not same → differ ≡ false → same ≡ true
-same_if differ true is fails = refl
-same_if differ false is fails = absurd cc
-
-pub other_if : (differ same : Bool) → differ ≡ not same → differ ≡ true → same ≡ false
-other_if differ true is holds = absurd cc
-other_if differ false is holds = refl
-
--- an item that is there is the same, whatever would stand for one that is not
-pub get_or_any : {X : Type 0} (xs : List X) (i : ℕ) (d e : X) → i < length xs → get_or xs i d ≡ get_or xs i e
-get_or_any [] i d e lt = absurd (omega arith)
-get_or_any (x ∷ xs) zero d e lt = refl
-get_or_any (x ∷ xs) (suc i) d e lt = get_or_any xs i d e (omega (arith, lt))
-
-module _ {X : Type 0} (told now : List X) (i : ℕ) (d e : X) (within : i < length told) where
-  -- both go on behind the items at the place
-  pub both_on : {Y : Type 0} (F : List X → List X → Y) → i < length now → F (drop i told) (drop i now) ≡ F (get_or told i d ∷ drop (i + 1) told) (get_or now i e ∷ drop (i + 1) now)
-  both_on F beside = rw (drop_more told i d within, drop_more now i e beside) refl
-
-  -- or one alone does
-  pub one_on : {Y : Type 0} (F : List X → List X → Y) → length now ≤ i → F (drop i told) (drop i now) ≡ F (get_or told i d ∷ drop (i + 1) told) []
-  one_on F past = rw (drop_more told i d within, drop_all i now past) refl

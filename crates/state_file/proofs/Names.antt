@@ -46,7 +46,7 @@ pub use Rattle.state_file.specs.declared.restored.Restored.{Restored}
 pub use Rattle.std.proofs.lemmas.Bool.{eqb-true, lt-ltb, ne_eqb, iff_false}
 pub use Rattle.std.proofs.lemmas.Bool.Decides.{nat_tests}
 pub use Rattle.std.proofs.lemmas.Grind.{common_steps}
-pub use Rattle.std.proofs.lemmas.List.{drop_all, drop_more, map_push, append-nil, map-append, take-append-drop, take_all, take_more}
+pub use Rattle.std.proofs.lemmas.List.{drop_more, map_push, append-nil, map-append, take-append-drop, take_all, take_more}
 pub use Rattle.std.proofs.lemmas.Slice.Eq.{bytes_eq-Decides}
 pub use Rattle.std.specs.List.{slice_get}
 pub use Rattle.std.specs.Option.{option_copied}

@@ -32,20 +32,13 @@ fn image_first(batches: &[Vec<u8>]) -> Option<(&[u8], &[Vec<u8>])>
 {
     match batches {
         [first, later @ ..] => {
-            if is_image(first) {
+            if let [2, ..] = first.as_slice() {
                 return Some((first.as_slice(), later));
             }
             None
         }
         [] => None,
     }
-}
-
-/// Whether a batch is an image.
-fn is_image(batch: &[u8]) -> bool
-    ensures { result ≡ begins_image batch.now }
-{
-    matches!(batch, [2, ..])
 }
 
 /// Makes a server of the first batch, where that is an image, and else one to which nothing has happened.

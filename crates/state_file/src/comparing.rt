@@ -12,9 +12,15 @@ use std::alloc::Global;
 fn moved_scope<'b>(told: &[&'b str], now: &[&str]) -> Option<&'b str>
     ensures { option_copied result ≡ first_moved (map (λ s. s.now) told.now) (map (λ s. s.now) now.now) }
 {
-    for i in 0..told.len() {
-        if i >= now.len() || told[i] != now[i] {
-            return Some(told[i]);
+    let mut rest = told;
+    let mut beside = now;
+    while let [name, names @ ..] = rest {
+        match beside {
+            [other, others @ ..] if name == other => {
+                rest = names;
+                beside = others;
+            }
+            _ => return Some(name),
         }
     }
     None
@@ -24,9 +30,15 @@ fn moved_scope<'b>(told: &[&'b str], now: &[&str]) -> Option<&'b str>
 fn moved_client<'b>(told: &[ClientRules<'b>], now: &[ClientRules]) -> Option<&'b str>
     ensures { option_copied result ≡ first_moved (client_names (map client_fact told.now)) (client_names (map client_fact now.now)) }
 {
-    for i in 0..told.len() {
-        if i >= now.len() || told[i].name != now[i].name {
-            return Some(told[i].name);
+    let mut rest = told;
+    let mut beside = now;
+    while let [client, clients @ ..] = rest {
+        match beside {
+            [other, others @ ..] if client.name == other.name => {
+                rest = clients;
+                beside = others;
+            }
+            _ => return Some(client.name),
         }
     }
     None
@@ -36,10 +48,17 @@ fn moved_client<'b>(told: &[ClientRules<'b>], now: &[ClientRules]) -> Option<&'b
 fn narrowed_client<'b>(told: &[ClientRules<'b>], now: &[ClientRules]) -> Option<&'b str>
     ensures { option_copied result ≡ first_narrowed (map client_fact told.now) (map client_fact now.now) }
 {
-    for i in 0..told.len() {
-        if i < now.len() && !told[i].allowed.is_within(now[i].allowed) {
-            return Some(told[i].name);
+    let mut rest = told;
+    let mut beside = now;
+    while let [client, clients @ ..] = rest {
+        let [other, others @ ..] = beside else {
+            return None;
+        };
+        if !client.allowed.is_within(other.allowed) {
+            return Some(client.name);
         }
+        rest = clients;
+        beside = others;
     }
     None
 }

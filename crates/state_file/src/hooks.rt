@@ -126,8 +126,10 @@ impl SetHooks {
     fn follow_each(&mut self, changes: &[DatedChange<'_>]) -> Result<(), AllocError>
         ensures { OnOk result (self.new ≡ hooks_behind self.old (dated_facts changes.now)) }
     {
-        for dated in changes {
+        let mut rest = changes;
+        while let [dated, later @ ..] = rest {
             self.follow(&dated.change)?;
+            rest = later;
         }
         Ok(())
     }

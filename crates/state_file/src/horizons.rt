@@ -43,8 +43,10 @@ pub fn until_of(batches: &[Vec<u8>]) -> Moment
     ensures { result ≡ until_of (lists batches.now) }
 {
     let mut until = Moment::new(0);
-    for batch in batches {
+    let mut rest = batches;
+    while let [batch, behind @ ..] = rest {
         until = later(until, horizon_in(batch).unwrap_or(Moment::new(0)));
+        rest = behind;
     }
     until
 }

@@ -66,25 +66,7 @@ fn horizon_at(now: Moment) -> Moment
 }
 
 impl<D: Device> StateKeeper<D> {
-    ghost use Rattle.std.specs.Prelude.{◌≡◌, None, OnOk, OnErr};
-    ghost use Rattle.batch_file.specs.Frames.{IsOnDisk, recovered};
-    ghost use Rattle.change_codec.specs.Keeping.{Until, HeldMeanwhile, HoldsBasis, HoldsStill, KeepsBasis, KeepsEach, KeepsNone, TellsBasis};
-    ghost use Rattle.state_file.specs.Knowing.{IsKnown, file_crashes};
-
-    /// One over a file of which all is on the disk, and of which this is known.
-    pub(crate) fn new(alloc: Global, file: BatchFile<D>, known: Known) -> StateKeeper<D>
-        requires settled { IsOnDisk D.seen D.may_leave D.faults file }
-        requires known { IsKnown (recovered (D.seen file.device)) known }
-        ensures file { result.file ≡ file }
-        ensures unfailed { result.fault ≡ None }
-    {
-        StateKeeper {
-            file,
-            fault: None,
-            known,
-            alloc,
-        }
-    }
+    ghost use Rattle.std.specs.Prelude.{◌≡◌};
 
     /// Why it keeps nothing more, if it does not.
     pub fn fault(&self) -> Option<BatchFault>
@@ -98,53 +80,6 @@ impl<D: Device> StateKeeper<D> {
         ensures { result ≡ self.file.device }
     {
         self.file.device
-    }
-
-    /// Keeps dated changes, all of them or none.
-    pub fn keep_all(&mut self, batch: &Batch) -> Result<(), KeepFault>
-        ensures kept { OnOk result (KeepsEach (file_crashes D.Device) batch.now.facts self.old self.new) }
-        ensures lost { OnErr result (KeepsNone (file_crashes D.Device) batch.now.facts self.old self.new) }
-        ensures basis { OnOk result (KeepsBasis (file_crashes D.Device) self.old self.new) }
-        ensures meanwhile { TellsBasis (file_crashes D.Device) self.old self.new }
-    {
-        if self.fault.is_some() {
-            return Err(KeepFault::Failed);
-        }
-        self.known.hooks = SetHooks::behind(self.known.hooks.take(), batch.bytes());
-        match self.file.append(batch.bytes()) {
-            Ok(()) => Ok(()),
-            Err(fault) => {
-                self.fault = Some(fault);
-                Err(KeepFault::Failed)
-            }
-        }
-    }
-
-    /// Keeps a moment: where it is beyond the greatest horizon, another horizon is written.
-    pub(crate) fn keep_horizon(&mut self, now: Moment) -> Result<(), KeepFault>
-        ensures kept { OnOk result (HoldsStill (file_crashes D.Device) self.old self.new) }
-        ensures lost { OnErr result (HeldMeanwhile (file_crashes D.Device) self.old self.new) }
-        ensures told { OnOk result (HoldsBasis (file_crashes D.Device) self.new (Until now)) }
-        ensures basis { OnOk result (KeepsBasis (file_crashes D.Device) self.old self.new) }
-        ensures meanwhile { TellsBasis (file_crashes D.Device) self.old self.new }
-    {
-        if self.fault.is_some() {
-            return Err(KeepFault::Failed);
-        }
-        if now.get() <= self.known.until.get() {
-            return Ok(());
-        }
-        let until = horizon_at(now);
-        match self.file.append(&horizon(until)) {
-            Ok(()) => {
-                self.known.until = until;
-                Ok(())
-            }
-            Err(refused) => {
-                self.fault = Some(refused);
-                Err(KeepFault::Failed)
-            }
-        }
     }
 }
 
@@ -170,11 +105,38 @@ impl<D: Device> Keeper for StateKeeper<D> {
     ghost only_now = { λ k c left. inl (D.only_now k.file.device c left) };
 
     fn keep(&mut self, batch: &Batch) -> Result<(), KeepFault> {
-        self.keep_all(batch)
+        if self.fault.is_some() {
+            return Err(KeepFault::Failed);
+        }
+        self.known.hooks = SetHooks::behind(self.known.hooks.take(), batch.bytes());
+        match self.file.append(batch.bytes()) {
+            Ok(()) => Ok(()),
+            Err(fault) => {
+                self.fault = Some(fault);
+                Err(KeepFault::Failed)
+            }
+        }
     }
 
+    // Where the moment is beyond the greatest horizon, another horizon is written.
     fn keep_moment(&mut self, now: Moment) -> Result<(), KeepFault> {
-        self.keep_horizon(now)
+        if self.fault.is_some() {
+            return Err(KeepFault::Failed);
+        }
+        if now.get() <= self.known.until.get() {
+            return Ok(());
+        }
+        let until = horizon_at(now);
+        match self.file.append(&horizon(until)) {
+            Ok(()) => {
+                self.known.until = until;
+                Ok(())
+            }
+            Err(refused) => {
+                self.fault = Some(refused);
+                Err(KeepFault::Failed)
+            }
+        }
     }
 
     fn size(&self) -> Option<u64> {

@@ -55,18 +55,22 @@ fn redo_batch<H: HookHost>(
     Ok(())
 }
 
-/// Makes the changes of the batches again.
+/// Makes the changes of the batches again. A fault is given with how many batches are before the one at fault.
 #[tactic(auto, using(crate::proofs::Redone::redoes_no_batch))]
 pub fn redo_all<H: HookHost>(
     alloc: Global,
     restored: &mut Restored<H>,
     batches: &[Vec<u8>],
-) -> Result<(), StateFault>
+) -> Result<(), (usize, StateFault)>
     ensures redone { OnOk result (RedoesBatches H.HookHost restored.old (lists batches.now) restored.new) }
-    ensures refused { IfErr result IsOfChanges }
+    ensures refused { IfErr result (λ fault. IsOfChanges fault.1) }
 {
+    let mut before: usize = 0;
     for batch in batches {
-        redo_batch(alloc, restored, batch)?;
+        if let Err(fault) = redo_batch(alloc, restored, batch) {
+            return Err((before, fault));
+        }
+        before = before.saturating_add(1);
     }
     Ok(())
 }

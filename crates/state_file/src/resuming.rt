@@ -67,7 +67,9 @@ pub(crate) fn resume<H: HookHost>(
         later,
         image,
     } = begin(alloc, registry, host, batches)?;
-    redo_all(alloc, &mut restored, later)?;
+    if let Err((_, fault)) = redo_all(alloc, &mut restored, later) {
+        return Err(fault);
+    }
     let until = until_of(batches);
     restored.reach(until);
     tell(&mut frames, &rules)?;

@@ -9,16 +9,14 @@ use crate::keeper::StateKeeper;
 use crate::preparing::Prepared;
 use batch_file::appending::{BatchFile, NotPlaced};
 use batch_file::device::Device;
-use consent::Moment;
 use endpoints::Server;
 use hook_host::HookHost;
 
-/// A server that goes on from a state file, and notes what happens; what keeps that; and the moment from which it goes on.
+/// A server that goes on from a state file, and notes what happens; and what keeps that.
 #[derive(Drop)]
 pub struct Started<D: Device, H> {
     pub server: Server<H>,
     pub keeper: StateKeeper<D>,
-    pub moment: Moment,
 }
 
 /// Why a server is not started on a state file, and the file's device.
@@ -34,7 +32,6 @@ impl<H: HookHost> Prepared<H> {
     pub fn settle<D: Device + Drop>(self, device: D) -> Result<Started<D, H>, NotStarted<D>>
         requires faultless { D.faults device ≡ 0 }
         ensures server { IfOk result (λ started. started.server ≡ self.server) }
-        ensures moment { IfOk result (λ started. started.moment ≡ self.moment) }
         ensures put { IfOk result (λ started. IsPutOn D.Device self.batches device started.keeper) }
         ensures lost { IfErr result (λ not. LeavesOnly D.moment D.left_since device not.device (IsOldOr D.Device device self.batches)) }
         ensures untouched { IfErr result (λ not. IsUntouched not.fault → not.device ≡ device) }
@@ -44,15 +41,19 @@ impl<H: HookHost> Prepared<H> {
             server,
             frames,
             known,
-            moment,
+            moment: _moment,
             torn: _torn,
             alloc,
         } = self;
         match BatchFile::place(device, frames) {
             Ok(file) => Ok(Started {
                 server,
-                keeper: StateKeeper::new(alloc, file, known),
-                moment,
+                keeper: StateKeeper {
+                    file,
+                    fault: None,
+                    known,
+                    alloc,
+                },
             }),
             Err(NotPlaced { fault, device }) => Err(NotStarted {
                 fault: StateFault::from(fault),

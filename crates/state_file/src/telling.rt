@@ -112,29 +112,6 @@ fn tells_as(alloc: Global, batch: &[u8], now: &Rules<'_>, bytes: &[u8]) -> Resul
     Ok(same)
 }
 
-/// Tests whether rules are as wide as those that the batches told last, and says whether they told just these.
-fn compare_behind(
-    alloc: Global,
-    batches: &[Vec<u8>],
-    now: &Rules<'_>,
-    bytes: &[u8],
-) -> Result<bool, StateFault>
-    requires spelled { bytes.now ≡ rules_spelling (rules_fact now.now) }
-    requires fit { RulesFit (rules_fact now.now) }
-    ensures taken { OnOk result (TakesRules (lists batches.now) (rules_fact now.now)) }
-    ensures told { IfOk result (λ told. IsTrue told ↔ Tell (lists batches.now) (rules_fact now.now)) }
-    ensures refused { IfErr result (RefuseRules (lists batches.now) (rules_fact now.now)) }
-{
-    if !begin_with_rules(batches) {
-        return Err(StateFault::NoRules);
-    }
-    let Some(batch) = last_rules(batches) else {
-        return Ok(false);
-    };
-    let told = tells_as(alloc, batch, now, bytes)?;
-    Ok(told)
-}
-
 /// The spelling of the registry's rules, which are as wide as those that the batches told last.
 pub fn rules_behind(
     alloc: Global,
@@ -149,7 +126,14 @@ pub fn rules_behind(
 {
     let rules = registry_rules(alloc, registry)?;
     let bytes = encode_rules(alloc, &rules)?;
-    let told = compare_behind(alloc, batches, &rules, bytes.as_slice())?;
+    if !begin_with_rules(batches) {
+        return Err(StateFault::NoRules);
+    }
+    let Some(batch) = last_rules(batches) else {
+        let told = false;
+        return Ok(Spelled { bytes, told });
+    };
+    let told = tells_as(alloc, batch, &rules, bytes.as_slice())?;
     Ok(Spelled { bytes, told })
 }
 

@@ -1,8 +1,8 @@
 -- The families of records, each told once.
-use Rattle.std.proofs.Common.{◌≡◌, ℕ, List, [], ◌∷◌, ◌++◌, Bool, true, false, ◌||◌, ◌==◌, sym, ap, ◌∙◌, map, arith, if◌then◌else◌}
+use Rattle.std.proofs.Common.{◌≡◌, ◌≤◌, ◌-◌, ◌+◌, ℕ, List, [], ◌∷◌, ◌++◌, Bool, true, false, ◌||◌, ◌==◌, refl, sym, ap, ◌∙◌, subst, map, length, take, drop, get_or, append_assoc, arith}
 use Rattle.std.proofs.lemmas.Bool.{eqb-true}
 use Rattle.std.proofs.lemmas.Bool.Decides.{nat_tests}
-use Rattle.std.proofs.lemmas.List.{append-nil, flat_map_more}
+use Rattle.std.proofs.lemmas.List.{take_all}
 use Rattle.std.specs.List.{flat_map, list_any}
 use Rattle.consent.specs.RecordFacts.{RecordFact}
 use Rattle.state_listing.specs.Lines.{firsts}
@@ -11,36 +11,36 @@ use Rattle.state_listing.specs.Lines.{firsts}
 abbrev pub is_seen : ℕ → List ℕ → Bool
 is_seen family seen = list_any (λ f. f == family) seen
 
-abbrev pub families : List RecordFact → List ℕ
-families records = map (λ r. r.family) records
+pub or_flip : (a b : Bool) → (a || b) ≡ (b || a)
+or_flip true true = refl
+or_flip true false = refl
+or_flip false b = grind (arith, nat_tests)
 
--- the families that are told of one record more
-abbrev pub one_first : Bool → RecordFact → List RecordFact
-one_first seen r = if seen then [] else r ∷ []
+-- one that was seen is seen no better
+pub seen_again : (family q : ℕ) (seen : List ℕ) → is_seen family seen ≡ true → (is_seen q seen || (family == q)) ≡ is_seen q seen
+seen_again family q seen is =
+    let same : (family == q) ≡ true → is_seen q seen ≡ true = λ e. subst (λ f. is_seen f seen ≡ true) (eqb-true family q e) is in
+    grind (arith, nat_tests, same)
 
-pub firsts_more : (seen : List ℕ) (records : List RecordFact) (r : RecordFact) →
-    firsts seen (records ++ r ∷ []) ≡ firsts seen records ++ one_first (is_seen r.family seen || is_seen r.family (families records)) r
-firsts_more seen [] r = grind (arith, nat_tests)
-firsts_more seen (x ∷ records) r =
-    let more = firsts_more seen records r in
-    let with_it = firsts_more (x.family ∷ seen) records r in
-    let held : (x.family == r.family) ≡ true → is_seen x.family seen ≡ is_seen r.family seen = λ e. ap (λ f. is_seen f seen) (eqb-true x.family r.family e) in
-    grind (arith, nat_tests, more, with_it, held)
+module _ {K : Type 0} (fact : K → RecordFact) (f : RecordFact → List ℕ) (lines whole seen : List ℕ) (rest : List K) (k d : K) (some : 1 ≤ length rest) (is : k ≡ get_or rest 0 d)
+    (so_far : lines ++ flat_map f (firsts seen (map fact rest)) ≡ whole) where
+  abbrev later : List RecordFact
+  later = map fact (take (length rest - 1) (drop 1 rest))
 
--- and those that are seen then
-pub seen_more : (q : ℕ) (records : List RecordFact) (r : RecordFact) → is_seen q (families (records ++ r ∷ [])) ≡ (is_seen q (families records) || (r.family == q))
-seen_more q [] r = grind (arith, nat_tests)
-seen_more q (x ∷ records) r = let more = seen_more q records r in grind (arith, nat_tests, more)
+  parted : (xs : List K) → 1 ≤ length xs → xs ≡ get_or xs 0 d ∷ take (length xs - 1) (drop 1 xs)
+  parted [] none = absurd (omega (arith, none))
+  parted (x ∷ xs) there =
+      let less : length (x ∷ xs) - 1 ≡ length xs = omega arith in
+      ap (λ (ys : List K). x ∷ ys) (sym (ap (λ (n : ℕ). take n xs) less ∙ take_all (length xs) xs (omega arith)))
 
--- a family that is told, and one that is not told again
-pub told_first : (f : RecordFact → List ℕ) (old before now : List ℕ) (records : List RecordFact) (r : RecordFact) → is_seen r.family (families records) ≡ false →
-    before ≡ old ++ flat_map f (firsts [] records) → now ≡ before ++ f r → now ≡ old ++ flat_map f (firsts [] (records ++ r ∷ []))
-told_first f old before now records r unseen told line =
-    let here : firsts [] (records ++ r ∷ []) ≡ firsts [] records ++ r ∷ [] = rw unseen at (firsts_more [] records r) in
-    line ∙ ap (λ l. l ++ f r) told ∙ flat_map_more f old (firsts [] records) r ∙ ap (λ rs. old ++ flat_map f rs) (sym here)
+  here : map fact rest ≡ fact k ∷ later
+  here = ap (map fact) (parted rest some) ∙ ap (λ (x : K). fact x ∷ later) (sym is)
 
-pub told_again : (f : RecordFact → List ℕ) (old now : List ℕ) (records : List RecordFact) (r : RecordFact) → is_seen r.family (families records) ≡ true →
-    now ≡ old ++ flat_map f (firsts [] records) → now ≡ old ++ flat_map f (firsts [] (records ++ r ∷ []))
-told_again f old now records r seen told =
-    let here : firsts [] (records ++ r ∷ []) ≡ firsts [] records ++ [] = rw seen at (firsts_more [] records r) in
-    told ∙ ap (λ rs. old ++ flat_map f rs) (sym (here ∙ append-nil (firsts [] records)))
+  -- a family that is told, and one that is not told again
+  pub told_first : is_seen (fact k).family seen ≡ false → (now : List ℕ) → now ≡ lines ++ f (fact k) → now ++ flat_map f (firsts ((fact k).family ∷ seen) later) ≡ whole
+  told_first unseen now line =
+      let step : lines ++ (f (fact k) ++ flat_map f (firsts ((fact k).family ∷ seen) later)) ≡ whole = rw (here, unseen) at so_far in
+      ap (λ (l : List ℕ). l ++ flat_map f (firsts ((fact k).family ∷ seen) later)) line ∙ append_assoc lines (f (fact k)) _ ∙ step
+
+  pub told_again : is_seen (fact k).family seen ≡ true → lines ++ flat_map f (firsts seen later) ≡ whole
+  told_again again = rw (here, again) at so_far

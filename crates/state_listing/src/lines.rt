@@ -38,10 +38,12 @@ fn push_families(
         ++ flat_map (family_line (rules_fact rules.now)) (firsts [] (map record_fact records.now))) }
 {
     let mut families = BTreeSet::new(alloc);
-    for kept in records {
+    let mut rest = records;
+    while let [kept, later @ ..] = rest {
         if families.insert(kept.family)? {
             push_family(alloc, lines, rules, kept)?;
         }
+        rest = later;
     }
     Ok(())
 }

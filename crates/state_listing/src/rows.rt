@@ -36,11 +36,13 @@ fn names_of<'a>(
 {
     let mut names = Vec::new(alloc);
     let mut left = scope.bits();
-    for name in rules.scopes.as_slice() {
+    let mut rest = rules.scopes.as_slice();
+    while let [name, others @ ..] = rest {
         if left % 2 == 1 {
             names.extend_from_slice(&[*name])?;
         }
         left /= 2;
+        rest = others;
     }
     Ok(names)
 }

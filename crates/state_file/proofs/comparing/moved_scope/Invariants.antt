@@ -1,6 +1,9 @@
-use Rattle.std.proofs.Common.{◌≡◌, map, drop}
-use Rattle.state_file.specs.Comparing.{first_moved}
+use Rattle.std.proofs.Common.{◌≡◌, length, map}
+use Rattle.state_file.proofs.Names.{first_moved}
 use Rattle.state_file.proofs.comparing.moved_scope.Given as goal
 
-abbrev pub invariant-loop-i : goal.invariant-loop-i
-invariant-loop-i l = first_moved (map (λ s. s.now) l.told) (map (λ s. s.now) l.now) ≡ first_moved (map (λ s. s.now) (drop l.i l.told)) (map (λ s. s.now) (drop l.i l.now))
+abbrev pub decreases-loop-rest : goal.decreases-loop-rest
+decreases-loop-rest l = length l.rest
+
+abbrev pub invariant-loop-rest : goal.invariant-loop-rest
+invariant-loop-rest l = first_moved (map (λ s. s.now) l.told) (map (λ s. s.now) l.now) ≡ first_moved (map (λ s. s.now) l.rest) (map (λ s. s.now) l.beside)

@@ -11,7 +11,7 @@ loop-batch-preserved g c =
     let more : lists (take (c.loop-batch.batch-index + 1) c.args.batches.now) ≡ lists before ++ item.items ∷ [] = grind (arith, common_steps) in
     subst (λ (bs : List (List ℕ)). RedoesBatches g.H.HookHost c.args.restored.now bs c.redo_batch.new.restored) (sym more)
     (redoes_batches g.H.HookHost c.args.restored.now c.loop-batch.restored c.redo_batch.new.restored (lists before) (item.items ∷ []) c.loop-batch.invariant
-    (subst (λ (b : List ℕ). RedoesBatches g.H.HookHost c.loop-batch.restored (b ∷ []) c.redo_batch.new.restored) c.deref.ensures.value c.in_ok-redo_batch.ensures.redone))
+    (subst (λ (b : List ℕ). RedoesBatches g.H.HookHost c.loop-batch.restored (b ∷ []) c.redo_batch.new.restored) c.deref.ensures.value c.in_default.ensures.redone))
 
 pub returns-clause-redone : goal.returns-clause-redone
 returns-clause-redone g c =

@@ -19,11 +19,10 @@ returns-in_err-restored-clause-refused g c =
     let is : c.from_residual-in_err-restored.result ≡ Err c.in_err-restored.field-0.0 = search rules in
     rw is (no_server c.args.bytes.now (rules_of c.args.registry) c.in_err-restored.field-0.0 (rw (← are) c.in_ok-rules.ensures.taken) (rw (← are) c.in_err-restored.ensures.refused))
 
-pub returns-in_err-redo_all-clause-refused : goal.returns-in_err-redo_all-clause-refused
-returns-in_err-redo_all-clause-refused g c =
+pub returns-in-Err-clause-refused : goal.returns-in-Err-clause-refused
+returns-in-Err-clause-refused g c =
     let are : lists c.as_slice-batches.result.now ≡ recovered c.args.bytes.now = ap lists c.as_slice-batches.ensures.value ∙ c.in_ok-list.ensures.batches in
-    let is : c.from_residual-in_err-redo_all.result ≡ Err c.in_err-redo_all.field-0.0 = search rules in
-    rw is (not_redone c.args.bytes.now (rules_of c.args.registry) c.in_err-redo_all.field-0.0 (rw (← are) c.in_ok-rules.ensures.taken) c.in_err-redo_all.ensures.refused)
+    not_redone c.args.bytes.now (rules_of c.args.registry) c.in-Err.fault (rw (← are) c.in_ok-rules.ensures.taken) c.in-Err.ensures.refused
 
 pub returns : goal.returns
 returns g c =
@@ -46,15 +45,15 @@ returns g c =
     let known : Known = record { rules = spelled; hooks = Some c.in_ok-copy.field-0; image = c.in_ok-restored.field-0.image; until = c.until_of-until.result } in
     record {
       answers = answers_reached hosting outset c.args.bytes.now redone c.reach.new.self c.reach.ensures.reached
-          (answers_for hosting outset batches later begun redone c.in_ok-restored.ensures.begins c.in_ok-redo_all.ensures.redone c.args.bytes.now (sym are));
-      unnoted = c.reach.ensures.unkept ∙ c.in_ok-redo_all.ensures.redone.0 c.in_ok-restored.ensures.begins.unnoted;
+          (answers_for hosting outset batches later begun redone c.in_ok-restored.ensures.begins c.in_default.ensures.redone c.args.bytes.now (sym are));
+      unnoted = c.reach.ensures.unkept ∙ c.in_default.ensures.redone.0 c.in_ok-restored.ensures.begins.unnoted;
       later = (let reached = c.reach.ensures.moment in omega (arith, reached, until));
-      moment = moment_reached hosting outset old batches later begun redone c.until_of-until.result c.reach.new.self.moment c.in_ok-restored.ensures.begins c.in_ok-redo_all.ensures.redone c.until_of-until.ensures
+      moment = moment_reached hosting outset old batches later begun redone c.until_of-until.result c.reach.new.self.moment c.in_ok-restored.ensures.begins c.in_default.ensures.redone c.until_of-until.ensures
           c.reach.ensures.moment are;
       wider = λ registry tells. wider registry c.args.registry (c.in_ok-rules.ensures.taken.1 (rules_of registry) (rw are tells));
       told = behind;
       known = known_begun old c.tell.new.frames known now c.in_ok-rules.ensures.spelled behind
-          (λ history stands. c.in_ok-copy.ensures ∙ c.reach.ensures.hooks ∙ (led_on hosting outset batches later begun redone c.in_ok-restored.ensures.begins c.in_ok-redo_all.ensures.redone history (rw are stands)).0)
+          (λ history stands. c.in_ok-copy.ensures ∙ c.reach.ensures.hooks ∙ (led_on hosting outset batches later begun redone c.in_ok-restored.ensures.begins c.in_default.ensures.redone history (rw are stands)).0)
           (c.in_ok-restored.ensures.image ∙ ap image_size are) until;
       torn = c.in_ok-list.ensures.torn;
       refused = tt;

@@ -1,6 +1,10 @@
-use Rattle.std.proofs.Common.{◌≡◌, ◌++◌, drop, map}
+use Rattle.std.proofs.Common.{◌≡◌, ◌++◌, length, map}
+use Rattle.image_codec.specs.Facts.{rules_fact}
 use Rattle.params.specs.Scope.{names_in_mask}
 use Rattle.state_listing.proofs.rows.names_of.Given as goal
 
-abbrev pub invariant-loop-name : goal.invariant-loop-name
-invariant-loop-name l = map (λ s. s.now) l.names.items ++ names_in_mask (drop l.name-index (map (λ s. s.now) l.name-items)) l.left ≡ names_in_mask (map (λ s. s.now) l.name-items) l.fn.scope
+abbrev pub decreases-loop-rest : goal.decreases-loop-rest
+decreases-loop-rest l = length l.rest
+
+abbrev pub invariant-loop-rest : goal.invariant-loop-rest
+invariant-loop-rest l = map (λ s. s.now) l.names.items ++ names_in_mask (map (λ s. s.now) l.rest) l.left ≡ names_in_mask (rules_fact l.rules).scopes l.fn.scope

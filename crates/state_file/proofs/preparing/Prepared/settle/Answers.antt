@@ -1,5 +1,5 @@
-use Rattle.std.proofs.Common.{◌≡◌, sym, subst, arith}
-use Rattle.state_file.proofs.Names.{LeavesOnly, BatchFile, Made, end_of, IsOldOr, IsPutOn}
+use Rattle.std.proofs.Common.{◌≡◌, None, refl, subst, arith}
+use Rattle.state_file.proofs.Names.{LeavesOnly, Made, end_of, IsOldOr, IsPutOn}
 use Rattle.state_file.proofs.Kept.{keeper_of}
 use Rattle.state_file.proofs.Put.{old_or, put_on}
 use Rattle.state_file.proofs.preparing.Prepared.settle.Goals as goal
@@ -8,10 +8,9 @@ pub returns-in-Ok-clause-put : goal.returns-in-Ok-clause-put
 returns-in-Ok-clause-put g c =
     let frames = c.self.inside.frames in
     let end : c.in-Ok.file.end ≡ end_of frames = (let e = c.in-Ok.ensures.end in omega (arith, e)) in
-    let P : Made g.row.H.Denot → Type 0 = λ made. IsPutOn g.D.Device made.batches c.args.device c.new.result in
+    let P : Made g.row.H.Denot → Type 0 = λ made. IsPutOn g.D.Device made.batches c.args.device (keeper_of c.in-Ok.file None) in
     subst P c.self.view_is
-    (subst (λ (f : BatchFile g.row.D.Denot). IsPutOn g.D.Device frames c.args.device (keeper_of f c.new.result.fault)) (sym c.new.ensures.file)
-    (put_on g.D.Device c.args.device (keeper_of c.in-Ok.file c.new.result.fault) frames c.in-Ok.ensures.placed c.in-Ok.ensures.settled.durable end c.new.ensures.unfailed c.in-Ok.ensures.any_moment))
+    (put_on g.D.Device c.args.device (keeper_of c.in-Ok.file None) frames c.in-Ok.ensures.placed c.in-Ok.ensures.settled.durable end refl c.in-Ok.ensures.any_moment)
 
 pub returns-in-Err-clause-lost : goal.returns-in-Err-clause-lost
 returns-in-Err-clause-lost g c =

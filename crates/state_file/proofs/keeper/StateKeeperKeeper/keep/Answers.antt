@@ -2,7 +2,7 @@ use Rattle.std.proofs.Common.{[], ◌∷◌, ◌++◌, refl}
 use Rattle.state_file.proofs.Names.{recovered, Known}
 use Rattle.state_file.proofs.Kept.{HasNow, changes_stand, changes_tell, keeper_of, keeps, keeps_basis, keeps_not, tells_basis}
 use Rattle.state_file.proofs.Known.{known_changes}
-use Rattle.state_file.proofs.keeper.StateKeeper.keep_all.Goals as goal
+use Rattle.state_file.proofs.keeper.StateKeeperKeeper.keep.Goals as goal
 
 pub invariant_of-self : goal.invariant_of-self
 invariant_of-self g c = λ none.

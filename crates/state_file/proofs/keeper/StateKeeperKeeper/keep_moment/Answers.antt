@@ -3,7 +3,7 @@ use Rattle.state_file.proofs.Names.{recovered, Until, Known}
 use Rattle.state_file.proofs.Kept.{HasNow, holds_basis, keeper_of, keeps, keeps_basis, keeps_not, tells_basis}
 use Rattle.state_file.proofs.Known.{known_horizon}
 use Rattle.state_file.proofs.Lasting.{horizon_stands, horizon_tells, horizon_until}
-use Rattle.state_file.proofs.keeper.StateKeeper.keep_horizon.Goals as goal
+use Rattle.state_file.proofs.keeper.StateKeeperKeeper.keep_moment.Goals as goal
 
 pub invariant_of-self : goal.invariant_of-self
 invariant_of-self g c = λ none.
