@@ -147,31 +147,10 @@ def tries_draws(trials, content, chance, draws):
 
 
 def tries_the_first_kind(trials, content):
-    """A file of the first version is told as that and left; what is made of it stands for the same."""
-    room = trials.room
-    old, new = trials.file_of(first_kind_of(batches_of(content)), f"{room}/old"), f"{room}/new"
+    """A file of the first version is told as that and left."""
+    old = trials.file_of(first_kind_of(batches_of(content)))
     trials.refused("a file of the first version", bytes_of(old), "Version 1")
     trials.refused("one that is cut off in its first batch", bytes_of(old)[:40], "NotState")
-    before = bytes_of(old)
-    done = trials.run("state", "--upgrade", old, new)
-    if done.returncode or bytes_of(old) != before or os.stat(new).st_mode & 0o777 != 0o600:
-        return trials.wrong("an upgrade", f"status {done.returncode}, {done.stderr!r}, or the file was changed, or the new one's mode is wrong")
-    same = trials.listed("the file", trials.file_of(content))
-    if trials.listed("what was upgraded", new)[:-1] != same[:-1]:
-        trials.wrong("what was upgraded", "it stands for something else")
-    trials.served("what was upgraded", new)[0].end()
-    if trials.listed("what was upgraded and started", new)[:-1] != same[:-1]:
-        trials.wrong("what was upgraded and started", "it stands for something else")
-
-    done = trials.run("state", "--upgrade", trials.file_of(before + b"abcde"), f"{room}/whole")
-    if done.stderr != "oauthd: state: 5 bytes of an unfinished write are left out\n" or trials.listed("one that was torn", f"{room}/whole")[:-1] != same[:-1]:
-        trials.wrong("an upgrade of a torn file", f"status {done.returncode}, {done.stderr!r}")
-
-    made = bytes_of(new)
-    for what, file, to in [("a file of today's kind", trials.file_of(content), f"{room}/another"), ("where something is", old, new)]:
-        done = trials.run("state", "--upgrade", file, to)
-        if done.returncode != 2 or done.stderr.count("\n") != 1 or os.path.exists(f"{room}/another") or bytes_of(new) != made:
-            trials.wrong(f"an upgrade, {what}", f"status {done.returncode}, {done.stderr!r}")
 
 
 def tries_moments(trials, content, registry):

@@ -125,7 +125,7 @@ lists 'a torn state file' own.state 20 3
 printf '{}' >other.state
 ends 'a state file of another program' 2 '' 'oauthd: State NotState: other.state; oauthd state --new FILE makes one\n' state other.state
 printf '\1\0\0\0\1\7' >old.state
-ends 'one of the first kind' 2 '' 'oauthd: State Version 1: old.state; oauthd state --upgrade FILE NEW makes one of this version\n' state old.state
+ends 'one of the first kind' 2 '' 'oauthd: State Version 1: old.state; an older oauthd wrote it\n' state old.state
 if [ -w /dev/full ]; then
     "$program" list hook.hex >/dev/full 2>given.err
     given=$?

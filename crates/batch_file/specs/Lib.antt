@@ -4,7 +4,6 @@ pub mod Crashes
 pub mod Faults
 pub mod Frames
 pub mod Moments
-pub mod Version1
 -- What only the contracts of this crate's own parts and their proofs cite.
 pub mod CallsParts
 pub mod Folders

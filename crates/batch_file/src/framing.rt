@@ -7,11 +7,10 @@
 ghost use Rattle.std.specs.Prelude.{◌≡◌, ◌<◌, ◌≤◌, ◌^◌, ◌⊎◌, ◌+◌, ◌++◌, [], ◌∷◌, ℕ, List, length, take, drop, IfOk, IfErr, IfSome, IfNone, IsTrue, IsFalse, ◌↔◌};
 ghost use Rattle.std.specs.Int.{w32, to_be_bytes};
 ghost use Rattle.batch_file.specs.declared.framing.ReadFault.TheVariants.{Memory};
-ghost use Rattle.batch_file.specs.Frames.{digest, lists, recovered, seal, torn_of, HidesFrame, IsDamaged, IsFrame, IsNoEnd, IsNoFrame, IsReadable, IsRightFront, IsSealed, IsVersion, RefusesFile, RefusesHeader};
+ghost use Rattle.batch_file.specs.Frames.{digest, lists, recovered, seal, torn_of, HidesFrame, IsDamaged, IsFirstKind, IsFrame, IsNoEnd, IsNoFrame, IsReadable, IsRightFront, IsSealed, IsVersion, RefusesFile, RefusesHeader};
 ghost use Rattle.batch_file.specs.Reads.{IsFound, IsFront, IsOpenEnd};
 
 use crate::frames::Frames;
-use crate::version_1::is_first_kind;
 use sha2::{Digest, Sha256};
 use std::alloc::{AllocError, AllocFailed, Global};
 
@@ -135,6 +134,17 @@ fn find_front(alloc: Global, bytes: &[u8]) -> Result<Found, ReadFault>
         end += 21 + batch.len();
     }
     Ok(Found { batches, end, last })
+}
+
+/// Whether a file is of the first kind: it has no header, and begins with a latch of 1, a batch's length in four bytes, and the batch.
+fn is_first_kind(bytes: &[u8]) -> bool
+    ensures { IsTrue result ↔ IsFirstKind bytes.now }
+{
+    if bytes.len() < 5 || bytes[0] != 1 {
+        return false;
+    }
+    let size = u32::from_be_bytes([bytes[1], bytes[2], bytes[3], bytes[4]]) as usize;
+    size <= bytes.len() - 5
 }
 
 /// Of which version a state file is, if the bytes are of one.

@@ -2,7 +2,7 @@
 //!
 //! Read `device` first: what a file does, and what a crash may leave of it. `framing` reads a file's bytes, `frames` makes
 //! those of a new one, and `appending` has `BatchFile`, which adds a batch or puts another file in the place of all.
-//! `disk_file` is a device over a file of the system. `version_1` reads files of the first kind.
+//! `disk_file` is a device over a file of the system.
 #![tactic(auto)]
 
 pub mod appending;
@@ -13,4 +13,3 @@ pub mod frames;
 pub mod framing;
 pub mod laws;
 pub mod system;
-pub mod version_1;

@@ -3,5 +3,4 @@ mod Hooking
 mod Naming
 mod Serving
 mod Telling
-mod Upgrading
 pub mod Names

@@ -4,7 +4,7 @@ pub use Rattle.command_line.specs.declared.call.Call.{Call}
 pub use Rattle.command_line.specs.declared.call.Call.TheVariants.{Command, State}
 pub use Rattle.command_line.specs.declared.service.Service.TheVariants.{Serve, Start}
 pub use Rattle.command_line.specs.declared.state_command.StateCommand.{StateCommand}
-pub use Rattle.command_line.specs.declared.state_command.StateCommand.TheVariants.{New, Upgrade, Trial}
+pub use Rattle.command_line.specs.declared.state_command.StateCommand.TheVariants.{New, Trial}
 pub use Rattle.commands.specs.Config.{HoldsNoRegistry, HoldsRegistry}
 pub use Rattle.commands.specs.Outputs.{Outputs, IsUntouched, Output, Prints}
 pub use Rattle.commands.specs.Performed.{EndsCommand, TellsFault}

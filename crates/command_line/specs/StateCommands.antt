@@ -1,11 +1,10 @@
 -- The commands that make a state file, or say what a start on one would end: their words.
 use Rattle.std.specs.Prelude.{◌≡◌, ◌≢◌, ℕ, List, [], ◌∷◌, map, codes, Option, Some, None}
-use Rattle.command_line.specs.Names.{string_bytes, StateCommand, New, Upgrade, Trial, Arguments}
+use Rattle.command_line.specs.Names.{string_bytes, StateCommand, New, Trial, Arguments}
 
 -- the words that name one
 abbrev pub words_of_state_command : StateCommand → List (List ℕ)
 words_of_state_command (New path) = codes "state" ∷ codes "--new" ∷ path.now ∷ []
-words_of_state_command (Upgrade path new_path) = codes "state" ∷ codes "--upgrade" ∷ path.now ∷ new_path.now ∷ []
 words_of_state_command (Trial config path) = codes "registry" ∷ config.now ∷ codes "--state" ∷ path.now ∷ []
 
 abbrev pub IsStateCommand : Arguments → StateCommand → Type 0

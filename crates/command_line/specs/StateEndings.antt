@@ -1,13 +1,11 @@
 -- How the commands on a state file end.
 use Rattle.std.specs.Prelude.{◌≡◌, ◌⊎◌, ⊤, ℕ, List, [], unwrap_or}
-use Rattle.command_line.specs.Names.{RegistryRecord, HoldsNoRegistry, HoldsRegistry, IsUntouched, Output, Outputs, Prints, TellsFault, CommandFault, Status, Done, StateCommand, New, Upgrade, Trial}
+use Rattle.command_line.specs.Names.{RegistryRecord, HoldsNoRegistry, HoldsRegistry, IsUntouched, Output, Outputs, Prints, TellsFault, CommandFault, Status, Done, StateCommand, New, Trial}
 use Rattle.hook_commands.specs.File.{File}
 use Rattle.commands.specs.declared.fault.CommandFault.TheVariants as faults
-use Rattle.command_line.specs.Makings.{FailsMaking, FailsUpgrade, IsUpgrade}
-use Rattle.command_line.specs.declared.making.Upgraded.{Upgraded}
+use Rattle.command_line.specs.Makings.{FailsMaking}
 use Rattle.lifetime.specs.Plans.{IsPlanOf, RefusesPlan}
 use Rattle.lifetime.specs.declared.plan.Plan.{Plan}
-use Rattle.command_line.specs.declared.state_performing.LeftOut.{LeftOut}
 use Rattle.command_line.specs.declared.state_performing.WouldEnd.{WouldEnd}
 
 -- So many codes and tokens would end: those that the narrowing to the registry ends, of the bytes that stood in the state file, and
@@ -35,26 +33,15 @@ FailsTrial config file path fault =
 -- why a command does nothing
 abbrev pub FailsStateCommand : StateCommand → File → CommandFault → Type 0
 FailsStateCommand (New path) file fault = FailsMaking path.now fault
-FailsStateCommand (Upgrade path new_path) file fault = FailsUpgrade path.now new_path.now fault
 FailsStateCommand (Trial config path) file fault = FailsTrial config.now file path.now fault
-
--- how many bytes of an unfinished write are left out
-abbrev pub left_out : ℕ → LeftOut
-left_out torn = record { torn = torn }
 
 -- how many codes and tokens a start would end
 abbrev pub would_end : ℕ → WouldEnd
 would_end ended = record { ended = ended }
 
--- how many bytes of an unfinished write are left out is told, if there are any
-abbrev pub IsUpgradeTold : {E : Type 0} → ℕ → Output E → Type 0
-IsUpgradeTold torn err = ((torn ≡ 0) × IsUntouched err) ⊎ Prints err (left_out torn)
-
--- what is printed and told where it is done: nothing of a new file, what is left out of one that is upgraded, and what a start
--- would end
+-- what is printed and told where it is done: nothing of a new file, and what a start would end
 abbrev pub TellsDone : {W E : Type 0} → StateCommand → File → Outputs W E → Type 0
 TellsDone (New path) file to = IsUntouched to.out × IsUntouched to.err
-TellsDone (Upgrade path new_path) file to = IsUntouched to.out × (made : Upgraded) × IsUpgrade made × IsUpgradeTold made.torn to.err
 TellsDone (Trial config path) file to = IsUntouched to.err × (ended : ℕ) × IsTrial file ended × Prints to.out (would_end ended)
 
 -- a command on a state file ends, where this is the registry's file: it is done, or it is told why not, and nothing is printed

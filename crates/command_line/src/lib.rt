@@ -19,7 +19,6 @@ mod stopping;
 pub use call::Call;
 pub use call_files::{CallFiles, read_files};
 pub use hook_files::HookRead;
-pub use making::Upgraded;
 pub use performing::{perform, perform_service};
 pub use service::{ServeWords, Service};
 pub use state_command::StateCommand;

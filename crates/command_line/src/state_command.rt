@@ -9,8 +9,6 @@ ghost use Rattle.command_line.specs.StateCommands.{config_of_trial, words_of_sta
 pub enum StateCommand<'w> {
     /// `state --new FILE`: makes a state file of no batch.
     New { path: &'w str },
-    /// `state --upgrade FILE NEW`: makes one of what a file of the first kind stands for.
-    Upgrade { path: &'w str, new_path: &'w str },
     /// `registry CONFIG --state FILE`: what a start under that registry would end.
     Trial { config: &'w str, path: &'w str },
 }
@@ -37,10 +35,6 @@ fn with_paths<'w>(
     ensures none { IfNone result (NameNoStateCommand (name.now ∷ first.now ∷ second.now ∷ third.now ∷ [])) }
 {
     match (name, first, second) {
-        ("state", "--upgrade", path) => Some(StateCommand::Upgrade {
-            path,
-            new_path: third,
-        }),
         ("registry", config, "--state") => Some(StateCommand::Trial {
             config,
             path: third,
@@ -73,7 +67,7 @@ impl<'w> StateCommand<'w> {
     {
         match self {
             StateCommand::Trial { config, .. } => Some(config),
-            StateCommand::New { .. } | StateCommand::Upgrade { .. } => None,
+            StateCommand::New { .. } => None,
         }
     }
 }

@@ -3,32 +3,16 @@
 ghost use Rattle.std.specs.Prelude.{◌≡◌, ◌⊎◌, IfOk, IfErr};
 ghost use Rattle.commands.specs.NamedFiles.{bytes_in};
 ghost use Rattle.commands.specs.Outputs.{output, outputs, IsUntouched, Prints};
-ghost use Rattle.commands.specs.Performed.{IsUntold, IsUnwritten};
-ghost use Rattle.command_line.specs.StateEndings.{would_end, EndsStateCommand, FailsTrial, IsTrial, IsUpgradeTold};
+ghost use Rattle.commands.specs.Performed.{IsUnwritten};
+ghost use Rattle.command_line.specs.StateEndings.{would_end, EndsStateCommand, FailsTrial, IsTrial};
 
-use crate::making::{make_new, upgrade};
+use crate::making::make_new;
 use crate::state_command::StateCommand;
 use commands::{CommandFault, NamedFile, Printer, Status, bytes_at, registry_of, told};
 use lifetime::plan_of;
 use std::fmt::{self, Display, Formatter, Write};
 use std::fs::File;
 use std::rt::Files;
-
-/// How many bytes of an unfinished write are left out of a new file.
-#[derive(Clone, Copy)]
-pub struct LeftOut {
-    pub torn: usize,
-}
-
-impl Display for LeftOut {
-    fn fmt<W: Write>(&self, f: &mut Formatter<W>) -> fmt::Result {
-        let torn = self.torn;
-        write!(
-            f,
-            "oauthd: state: {torn} bytes of an unfinished write are left out\n"
-        )
-    }
-}
 
 /// How many codes and tokens a start would end.
 #[derive(Clone, Copy)]
@@ -67,21 +51,6 @@ fn ended_by<'w, R: Files<File = File> + AllocGlobal>(
     }
 }
 
-/// Tells how many bytes of an unfinished write are left out of a new file, where there are some, and says how the program then
-/// ends. A write that fails is bad use.
-fn told_upgrade<E: Printer>(torn: usize, err: &mut E) -> Status
-    ensures { let to = output E.contents E.writes err.old err.new in
-        IsUntold result to ⊎ ((result ≡ Status.Done) × IsUpgradeTold torn to) }
-{
-    if torn == 0 {
-        return Status::Done;
-    }
-    match err.print(&LeftOut { torn }) {
-        Ok(()) => Status::Done,
-        Err(_) => Status::BadUse,
-    }
-}
-
 /// Tells how many codes and tokens a start would end, and says how the program then ends. A write that fails is bad use.
 fn told_trial<W: Printer, E: Printer>(ended: usize, out: &mut W, err: &mut E) -> Status
     ensures { let to = outputs (output W.contents W.writes out.old out.new) (output E.contents E.writes err.old err.new) in
@@ -108,10 +77,6 @@ pub fn perform_state<R: Files<File = File> + AllocGlobal, W: Printer, E: Printer
     match command {
         StateCommand::New { path } => match make_new(rt, path) {
             Ok(_written) => Status::Done,
-            Err(fault) => told(fault, err),
-        },
-        StateCommand::Upgrade { path, new_path } => match upgrade(rt, path, new_path) {
-            Ok(made) => told_upgrade(made.torn, err),
             Err(fault) => told(fault, err),
         },
         StateCommand::Trial { config, path } => match ended_by(rt, config, file, path) {

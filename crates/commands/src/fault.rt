@@ -161,8 +161,8 @@ impl<'w> Display for CommandFault<'w> {
 fn advice_on(fault: &StateFault) -> &'static str {
     match fault {
         StateFault::NotState => "; oauthd state --new FILE makes one",
-        StateFault::Version(1) => "; oauthd state --upgrade FILE NEW makes one of this version",
         StateFault::Version(version) if *version > 2 => "; a newer oauthd wrote it",
+        StateFault::Version(_) => "; an older oauthd wrote it",
         _ => "",
     }
 }

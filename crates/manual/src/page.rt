@@ -40,9 +40,6 @@ oauthd state --front FILE  the same of a damaged one, up to the damage
     oauthd state --front damaged-state
 oauthd state --new FILE    makes an empty file for a server's state
     oauthd state --new /var/lib/oauthd/state
-oauthd state --upgrade FILE NEW
-                           makes such a file of one that an older oauthd wrote
-    oauthd state --upgrade old-state /var/lib/oauthd/state
 oauthd replay FILE         prints what the server of a transcript sends to each connection
     oauthd replay transcript.txt
 oauthd help NAME           says what a command or a fault means

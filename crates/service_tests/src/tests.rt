@@ -347,29 +347,6 @@ fn a_state_file_is_made_where_nothing_is(rt: HostRuntime) -> Result<(), Fail> {
     Ok(())
 }
 
-/// A file of the first kind: the rules of a registry, and behind them three bytes of a write that was not finished.
-const OLD_STATE: &str =
-    "01000000350000000002000000047265616400000005777269746500000001000000010000000361707000000000000000030000012c0001518000616263";
-
-/// What is made of it.
-const NEW_STATE: &str =
-    "6f61757468642073746174652076320aff00000035530b0f22d387cd5daacf4b7e1fee85c90000000002000000047265616400000005777269746500000001000000010000000361707000000000000000030000012c0001518000";
-
-#[test]
-fn an_old_state_file_is_brought_over(rt: HostRuntime) -> Result<(), Fail> {
-    let alloc = rt.alloc();
-    let old_bytes = hex::decode(alloc, OLD_STATE)?;
-    let old = path_of(&rt, &old_bytes)?;
-    let new = fresh_path(&rt)?;
-    let told = "oauthd: state: 3 bytes of an unfinished write are left out\n";
-    done(&rt, &["state", "--upgrade", &old, &new])?.assert_silent(&rt, 0, told);
-    assert!(rt; fs::read(&rt, &old)?.as_slice() == old_bytes.as_slice());
-    let new_hex = hex::encode(alloc, fs::read(&rt, &new)?)?;
-    assert_eq!(rt; new_hex.as_str(), NEW_STATE);
-    fs::remove_file(&rt, &new)?;
-    remove_state(&rt, &old)
-}
-
 #[test]
 fn what_an_unfinished_write_left_is_put_aside(rt: HostRuntime) -> Result<(), Fail> {
     let alloc = rt.alloc();

@@ -96,12 +96,10 @@ registry FILE: reads the registry in FILE as start does, and serves nothing. Whe
 state FILE: prints what the file of a server's state stands for: a line of JSON for each consent, for each family of codes and tokens, for each code and token that is unexpired, and for each hook, and one for the file. Of a digest there are the first 8 hex digits, so no line has a secret. The last line has how many bytes and whole batches the file has, how many bytes of an unfinished write stand behind them (torn), the moment of the last change in Unix seconds (last), and how many seconds ago that was (age). The file is read alone: nothing is written and no lock is wanted, so a running server's file can be listed. No registry is wanted either: the file has the names. The age is below 0 where that moment is ahead of the clock. What is wrong with a batch is told with its number, counted from 1; oauthd help State has the names.
 state --front FILE: prints the same of a file that is damaged (State Damaged N), up to the damage: what its first N batches stand for.
 state --new FILE: makes an empty state file, which its owner alone may read and write. It refuses a path where something is.
-state --upgrade FILE NEW: makes the state file NEW of FILE, which an older oauthd wrote (State Version 1). FILE stays as it is. Stop the server on FILE first, and start the next one on NEW.
 
   oauthd state /var/lib/oauthd/state
   oauthd state --front damaged-state
   oauthd state --new /var/lib/oauthd/state
-  oauthd state --upgrade old-state /var/lib/oauthd/state
 ",
     },
     Topic {

@@ -24,9 +24,10 @@ State NotState: FILE: the file is another program's, or was emptied. It was left
     Topic {
         name: "Version",
         text: "\
-State Version N: FILE: the file is of another version than this oauthd's, which is 2. It was left as it is. Version 1 is of an older oauthd: stop its server, make a new file of this one, and start on the new one. A number above 2 is of a newer oauthd: start that one.
+State Version N: FILE: the file is of another version than this oauthd's, which is 2. It was left as it is. A lower number is of an older oauthd, a higher one of a newer: start that one. This one cannot read it; to begin anew, move the file away and make an empty one.
 
-  oauthd state --upgrade old-state /var/lib/oauthd/state
+  mv state older-state
+  oauthd state --new state
 ",
     },
     Topic {
@@ -104,7 +105,7 @@ State ClockAhead N: FILE: the machine's clock is N seconds ahead of the last mom
     Topic {
         name: "Exists",
         text: "\
-State Exists: FILE: state --new or state --upgrade was to make the file, and something is there already. It was left as it is. Name another path, or move away what is there.
+State Exists: FILE: state --new was to make the file, and something is there already. It was left as it is. Name another path, or move away what is there.
 
   oauthd state --new /var/lib/oauthd/new-state
 ",
@@ -112,7 +113,7 @@ State Exists: FILE: state --new or state --upgrade was to make the file, and som
     Topic {
         name: "Make",
         text: "\
-State Make: WHY: FILE: state --new or state --upgrade was to make the file, and the system refuses it, for its reason WHY: not found (a folder of the path), permission denied, not a directory, read-only filesystem, no storage space, quota exceeded, and others. Nothing is left there.
+State Make: WHY: FILE: state --new was to make the file, and the system refuses it, for its reason WHY: not found (a folder of the path), permission denied, not a directory, read-only filesystem, no storage space, quota exceeded, and others. Nothing is left there.
 
   ls -ld /var/lib/oauthd
 ",
