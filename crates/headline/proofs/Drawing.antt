@@ -5,6 +5,7 @@ use Rattle.headline.proofs.Names.{IsOutcomeOfRequest, changes_made, draws_in, mi
 use Rattle.headline.proofs.Names.{outcome_of, setting_on}
 use Rattle.consent.specs.History.{Event}
 use Rattle.messages.specs.declared.request.Draws.{Draws}
+use Rattle.http_edge.specs.Answers.{answerer}
 use Rattle.headline.specs.Drawn.{AreAmong, AreDrawn, digests_by}
 use Rattle.endpoints.proofs.Ways.{Way, ByToken, Wanting, outcome_by}
 use Rattle.headline.proofs.Ways.{at_each}
@@ -56,26 +57,27 @@ module _ (rules : RegistryRecord) (history : List Event) (occasion : Occasion) (
 -- SCHEDULES
 
 module _ {H : Type 0} (hosting : Hosting H) (outset : Outset H) where
-  of_request : (m : ℕ) (history : List Event) (request : AnsweredRequest) → IsOutcomeOfRequest hosting outset m history request →
+  of_request : (m : ℕ) (history : List Event) (host after : H) (request : AnsweredRequest) → IsOutcomeOfRequest hosting (answerer outset history host m) request after →
       AreAmong (digests_given (map (event_at m) request.outcome.changes)) (digests_of request.draws)
-  of_request m history request is =
+  of_request m history host after request is =
       let occasion : Occasion = record {
         arrival = record { asked = request.asked; moment = m; draws = request.draws };
-        host = says_with hosting is.host request.mishap.fault;
+        host = says_with hosting host request.mishap.fault;
         refused = request.mishap.refused;
       } in
       rw is.outcome_is (drawn_once outset.rules history occasion m)
 
-  of_requests : (m : ℕ) (history : List Event) (requests : List AnsweredRequest) → AreAnswered hosting outset m history requests →
+  of_requests : (m : ℕ) (history : List Event) (host after : H) (requests : List AnsweredRequest) → AreAnswered hosting (answerer outset history host m) requests after →
       AreAmong (digests_given (map (event_at m) (changes_made requests))) (flat_map digests_of (draws_in requests))
-  of_requests m history [] answered = tt
-  of_requests m history (r ∷ requests) answered =
+  of_requests m history host after [] answered = tt
+  of_requests m history host after (r ∷ requests) answered =
       subst (λ ds. AreAmong ds (digests_of r.draws ++ flat_map digests_of (draws_in requests)))
       (sym (ap digests_given (map-append (event_at m) r.outcome.changes (changes_made requests))
       ∙ given_append (map (event_at m) r.outcome.changes) (map (event_at m) (changes_made requests))))
       (among_both (digests_given (map (event_at m) r.outcome.changes)) (digests_given (map (event_at m) (changes_made requests)))
       (digests_of r.draws) (flat_map digests_of (draws_in requests))
-      (of_request m history r answered.0) (of_requests m (with_changes history m r.outcome.changes) requests answered.1))
+      (of_request m history host answered.0 r answered.1)
+      (of_requests m (with_changes history m r.outcome.changes) answered.0 after requests answered.2))
 
   -- the draws of the requests come first
   their_draws : (requests : List AnsweredRequest) (left : List Draws) → take (length (mishaps_in requests)) (draws_in requests ++ left) ≡ draws_in requests
@@ -92,7 +94,7 @@ module _ {H : Type 0} (hosting : Hosting H) (outset : Outset H) where
       subst (λ ds. AreAmong ds (before ++ digests_by (Came came))) (sym (ap digests_given comes.history ∙ given_append old.history more))
       (among_both (digests_given old.history) (digests_given more) before (digests_by (Came came)) a
       (subst (λ ds. AreAmong (digests_given more) (flat_map digests_of ds)) (sym own)
-      (of_requests new.greatest old.history comes.requests comes.answered)))
+      (of_requests new.greatest old.history comes.host comes.after comes.requests comes.answered)))
 
   -- what happens without requests
   still : (old new : World) (before more : List (List ℕ)) → new.history ≡ old.history → AreAmong (digests_given old.history) before →

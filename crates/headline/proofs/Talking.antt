@@ -2,13 +2,15 @@
 use Rattle.std.proofs.Common.{◌≡◌, ◌≢◌, inl, inr, arith, ◌+◌, ℕ, List, [], ◌∷◌, ◌++◌, Bool, Some, None, cond, append_assoc, append-nil, refl, sym, ap, subst, ◌∙◌}
 use Rattle.headline.proofs.Names.{◌==◌, map-append, All-append, All-cons, All-nil, Hosting, with_changes, Asked, Outset, AnsweredRequest, AreAnswered, AreAskedBy, replies_of, World, Connection}
 use Rattle.headline.proofs.Names.{AnsweredPiece, Happening, Opened, Came, HasEnded, Taken, Forgotten, Kept, Resumed, Happens, Run, PieceComes, Opens, StreamEnds, TakesOutput, ForgetsConnection}
-use Rattle.headline.proofs.Names.{connection_at, with_connection, fresh, heard, is_closing_phase, faulty_if}
+use Rattle.headline.proofs.Names.{connection_at, with_connection, fresh, heard, is_closing_phase, faulty_if, HostRun}
 use Rattle.std.specs.Prelude.{All, map}
 use Rattle.std.proofs.lemmas.List.Concat.{flat_map-append}
 use Rattle.consent.specs.History.{Event}
+use Rattle.endpoints.proofs.Stepping.{host_join}
 use Rattle.messages.specs.Written.{in_writing, reply_bytes}
 use Rattle.heads.specs.Message.{Message, asked_of_message}
 use Rattle.heads.specs.ReadingLaws.{nothing_has_none}
+use Rattle.http_edge.specs.Answers.{answerer}
 use Rattle.http_edge.specs.Schedule.{ended}
 use Rattle.http_edge.specs.declared.lane.Phase.{Phase}
 use Rattle.http_edge.specs.declared.lane.Phase.TheVariants as phase
@@ -16,12 +18,13 @@ use Rattle.headline.specs.Conversations.{Conversation, HasConversations, HasOutc
 use Rattle.http_edge.proofs.Connections.{by_number, same_connection, found_number, found_put, found_fresh, found_gone, put_other, added_other, without_other}
 
 -- requests that were answered one after another have outcomes
-have_outcomes : {H : Type 0} (hosting : Hosting H) (outset : Outset H) (m : ℕ) (history : List Event) (requests : List AnsweredRequest) →
-    AreAnswered hosting outset m history requests → All (HasOutcome hosting outset) requests
-have_outcomes hosting outset m history [] a = All-nil (HasOutcome hosting outset)
-have_outcomes hosting outset m history (r ∷ requests) a =
-    All-cons (HasOutcome hosting outset) r requests (record { moment = m; history = history; answered = a.0 })
-    (have_outcomes hosting outset m (with_changes history m r.outcome.changes) requests a.1)
+have_outcomes : {H : Type 0} (hosting : Hosting H) (outset : Outset H) (m : ℕ) (history : List Event) (host after : H) (requests : List AnsweredRequest) →
+    HostRun hosting outset.first history host → AreAnswered hosting (answerer outset history host m) requests after → All (HasOutcome hosting outset) requests
+have_outcomes hosting outset m history host after [] comes a = All-nil (HasOutcome hosting outset)
+have_outcomes hosting outset m history host after (r ∷ requests) comes a =
+    All-cons (HasOutcome hosting outset) r requests (record { moment = m; history = history; host = host; comes = comes; after = a.0; answered = a.1 })
+    (have_outcomes hosting outset m (with_changes history m r.outcome.changes) a.0 after requests
+    (host_join hosting outset.first host a.0 history (with_changes [] m r.outcome.changes) comes a.1.changes) a.2)
 
 -- more requests ask what more messages ask
 join_asked : (messages more : List Message) (requests later : List AnsweredRequest) → AreAskedBy messages requests → AreAskedBy more later →
@@ -106,7 +109,7 @@ module _ {H : Type 0} (hosting : Hosting H) (outset : Outset H) where
         reads = comes.reads;
         requests = t.requests ++ comes.requests;
         asked = join_asked y.messages comes.messages t.requests comes.requests t.asked comes.asked;
-        each = All-append (HasOutcome hosting outset) t.requests comes.requests t.each (have_outcomes hosting outset new.greatest old.history comes.requests comes.answered);
+        each = All-append (HasOutcome hosting outset) t.requests comes.requests t.each (have_outcomes hosting outset new.greatest old.history comes.host comes.after comes.requests comes.comes comes.answered);
         replies = ap (λ l. l ++ more) said
             ∙ sym (append_assoc (replies_of t.requests) (replies_of comes.requests) (faulty_if came.closes))
             ∙ ap (λ l. l ++ faulty_if came.closes) (sym (flat_map-append (λ (r : AnsweredRequest). reply_bytes (in_writing r.outcome.reply)) t.requests comes.requests))

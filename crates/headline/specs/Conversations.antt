@@ -3,13 +3,18 @@ use Rattle.std.specs.Prelude.{◌≡◌, ◌++◌, ℕ, List, All, Some}
 use Rattle.headline.specs.Names.{Hosting, Outset, AnsweredRequest, IsOutcomeOfRequest, AreAskedBy, replies_of, World, Connection, Happening, Run, connection_at, faulty_if, first_world}
 use Rattle.headline.specs.Names.{is_closing_phase}
 use Rattle.consent.specs.History.{Event}
+use Rattle.endpoints.specs.Hosts.{HostRun}
 use Rattle.heads.specs.Message.{Messages}
+use Rattle.http_edge.specs.Answers.{answerer}
 
 -- The request has its outcome at a moment and after a history. Which ones they are is said by the schedule.
 pub record HasOutcome {H : Type 0} (hosting : Hosting H) (outset : Outset H) (request : AnsweredRequest) : Type 0 where
   pub moment : ℕ
   pub history : List Event
-  pub answered : IsOutcomeOfRequest hosting outset moment history request
+  pub host : H
+  pub comes : HostRun hosting outset.first history host
+  pub after : H
+  pub answered : IsOutcomeOfRequest hosting (answerer outset history host moment) request after
 
 -- The requests of a connection are the messages in its stream, and all its output, taken and to be taken, is the written
 -- replies to the requests, in their order, and behind them the 400 of a faulty head, if one came.

@@ -223,6 +223,9 @@ leads_heard hosting sources edge edge' piece lane lane' source source' here is_o
         left = left;
         draws = ap (λ draws. draws ++ left) served.draws;
         mishaps = refl;
+        host = edge.server.host;
+        comes = reached.server.hosts;
+        after = edge'.server.host;
         answered = served.answered;
         may_tell = hears.read.may_tell;
         must_tell = hears.read.must_tell;

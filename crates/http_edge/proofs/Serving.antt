@@ -1,7 +1,7 @@
 -- One more request is answered.
-use Rattle.std.proofs.Common.{◌≡◌, ℕ, List, [], ◌∷◌, ◌++◌, false, map, append_assoc, append-nil, refl, ap, ◌∙◌, sym, arith}
+use Rattle.std.proofs.Common.{◌≡◌, ℕ, List, [], ◌∷◌, ◌++◌, false, map, append_assoc, append-nil, refl, ap, subst, ◌∙◌, sym, arith}
 use Rattle.http_edge.proofs.Names.{map-append, max, Hosting, Event, Change, event_at, with_changes, Draws, Asked, Written, in_writing, reply_bytes, says_with, request_outcome, SeenServer, Outset}
-use Rattle.http_edge.proofs.Names.{Before, FitsServer, AreNoted, IsStep, Message, Messages, asked_of_message, AnsweredRequest, IsOutcomeOfRequest, AreAnswered, AreAskedBy, changes_made, draws_in}
+use Rattle.http_edge.proofs.Names.{Before, FitsServer, AreNoted, IsStep, Message, Messages, asked_of_message, AnsweredRequest, answerer, IsOutcomeOfRequest, AreAnswered, AreAskedBy, changes_made, draws_in}
 use Rattle.http_edge.proofs.Names.{replies_of, AreMessagesServed, IsStillNone, IsHeard, IsHearingRefusal, timed_bytes, hearing, before_messages, replying, SeenLane, Sources, Memory}
 use Rattle.std.proofs.lemmas.List.Concat.{flat_map-append}
 use Rattle.std.specs.Prelude.{Option}
@@ -20,12 +20,17 @@ replies_push : (rs : List AnsweredRequest) (r : AnsweredRequest) → replies_of 
 replies_push rs r =
     flat_map-append (λ x. reply_bytes (in_writing x.outcome.reply)) rs (r ∷ []) ∙ ap (λ l. replies_of rs ++ l) (append-nil (reply_bytes (in_writing r.outcome.reply)))
 
-answered_push : {H : Type 0} (hosting : Hosting H) (outset : Outset H) (m : ℕ) (history : List Event) (rs : List AnsweredRequest) (r : AnsweredRequest) →
-    AreAnswered hosting outset m history rs → IsOutcomeOfRequest hosting outset m (with_changes history m (changes_made rs)) r →
-    AreAnswered hosting outset m history (rs ++ r ∷ [])
-answered_push hosting outset m history [] r all is = (rw append-nil at is, tt)
-answered_push hosting outset m history (x ∷ rs) r all is =
-    (all.0, answered_push hosting outset m (with_changes history m x.outcome.changes) rs r all.1 (rw (← changes_join history m x.outcome.changes (changes_made rs)) at is))
+answered_push : {H : Type 0} (hosting : Hosting H) (outset : Outset H) (m : ℕ) (history : List Event) (host between after : H) (rs : List AnsweredRequest) (r : AnsweredRequest) →
+    AreAnswered hosting (answerer outset history host m) rs between →
+    IsOutcomeOfRequest hosting (answerer outset (with_changes history m (changes_made rs)) between m) r after →
+    AreAnswered hosting (answerer outset history host m) (rs ++ r ∷ []) after
+answered_push {H} hosting outset m history host between after [] r all is =
+    (after, subst (λ (h : H). IsOutcomeOfRequest hosting (answerer outset history h m) r after) all (rw append-nil at is), refl)
+answered_push hosting outset m history host between after (x ∷ rs) r all is = (
+  all.0,
+  all.1,
+  answered_push hosting outset m (with_changes history m x.outcome.changes) all.0 between after rs r all.2 (rw (← changes_join history m x.outcome.changes (changes_made rs)) at is),
+)
 
 -- one more request asks what one more message asks
 asked_push : (messages : List Message) (message : Message) (rs : List AnsweredRequest) (r : AnsweredRequest) → r.asked ≡ asked_of_message message → AreAskedBy messages rs →
@@ -40,7 +45,7 @@ draws_push draws rs r are = ap (λ (l : List Draws). l ++ r.draws ∷ []) are �
 -- it answers it after the others
 served_more : {H : Type 0} (hosting : Hosting H) (before : Before H) (server server' : SeenServer H) (output out : List ℕ) (g moment : ℕ) (messages : List Message) (draws : List Draws) (rs : List AnsweredRequest) (message : Message) (d : Draws) (reply : Written) (asked : Asked) →
     asked ≡ asked_of_message message → max g moment ≡ before.moment → AreAskedBy messages rs → draws ≡ draws_in rs →
-    AreAnswered hosting before.outset before.moment before.history rs → out ≡ output ++ replies_of rs →
+    AreAnswered hosting (answerer before.outset before.history before.server.host before.moment) rs server.host → out ≡ output ++ replies_of rs →
     FitsServer hosting server before.outset (with_changes before.history before.moment (changes_made rs)) g →
     AreNoted before.server server before.history (with_changes before.history before.moment (changes_made rs)) →
     Steps hosting server (record { asked = asked; moment = moment; draws = d }) reply server' →
@@ -58,13 +63,13 @@ served_more hosting before server server' output out g moment messages draws rs 
     }) asked in
     let r : AnsweredRequest = record { asked = asked; draws = d; mishap = record { refused = step.0; fault = step.1 }; outcome = o } in
     let done : IsStep hosting (record { server = server; outset = before.outset; history = h; moment = m }) o reply server' = rw later at step.3 in
-    let is : IsOutcomeOfRequest hosting before.outset m h r = record { host = server.host; comes = fits.hosts; fault = step.2; outcome_is = refl; after = server'.host; changes = done.hosts } in
+    let is : IsOutcomeOfRequest hosting (answerer before.outset h server.host m) r server'.host = record { fault = step.2; outcome_is = refl; changes = done.hosts } in
     let joined = changes_join before.history m (changes_made rs) o.changes ∙ ap (with_changes before.history m) (sym (changes_push rs r)) in
     record {
       requests = rs ++ r ∷ [];
       asked = asked_push messages message rs r asks all;
       draws = draws_push draws rs r are;
-      answered = answered_push hosting before.outset m before.history rs r answered is;
+      answered = answered_push hosting before.outset m before.history before.server.host server.host server'.host rs r answered is;
       output_is =
           ap (λ x. x ++ reply_bytes reply) written_is ∙ append_assoc output (replies_of rs) (reply_bytes reply)
           ∙ ap (λ x. output ++ (replies_of rs ++ reply_bytes x)) done.reply_is ∙ ap (λ x. output ++ x) (sym (replies_push rs r));
@@ -80,7 +85,7 @@ served_none hosting server output moment outset history m fits = record {
   requests = [];
   asked = refl;
   draws = refl;
-  answered = tt;
+  answered = refl;
   output_is = sym (append-nil output);
   fits = rw append-nil fits;
   noted = λ kept notes. rw append-nil notes;
@@ -101,7 +106,7 @@ served_push hosting first server server' output out outset history m moment [] d
     let none = none_asked served.requests served.asked in
     let said : out ≡ output ++ [] = served.output_is ∙ ap (λ rs. output ++ replies_of rs) none in
     served_more hosting (record { server = first; outset = outset; history = history; moment = max m moment }) server server' output out m moment [] draws [] message d reply asked asks refl refl
-    (served.draws ∙ ap draws_in none) tt said (rw none at served.fits) (rw none at served.noted) steps
+    (served.draws ∙ ap draws_in none) (rw none at served.answered) said (rw none at served.fits) (rw none at served.noted) steps
 served_push hosting first server server' output out outset history m moment (x ∷ messages) draws message d reply asked asks served steps =
     served_more hosting (record { server = first; outset = outset; history = history; moment = max m moment }) server server' output out (max m moment) moment (x ∷ messages) draws served.requests message d reply asked asks (omega arith)
     served.asked served.draws served.answered served.output_is served.fits served.noted steps

@@ -1,6 +1,6 @@
 -- A request that wants no draws reads none.
 use Rattle.std.proofs.Common.{◌≡◌, ◌∙◌, ℕ, List, Bool, true, false, Some, codes, refl, arith}
-use Rattle.http_edge.proofs.Names.{bytes_eq, Hosting, Event, find-passes, Draws, Asked, says_with, request_outcome, Outset, AnsweredRequest, IsOutcomeOfRequest, wants_draws}
+use Rattle.http_edge.proofs.Names.{bytes_eq, Hosting, find-passes, Draws, Asked, says_with, request_outcome, Answerer, AnsweredRequest, IsOutcomeOfRequest, wants_draws}
 use Rattle.std.specs.Prelude.{Option}
 use Rattle.messages.specs.Target.{path_of}
 use Rattle.answers.specs.Setting.{Setting}
@@ -24,15 +24,15 @@ same_outcome (Some IssueToken) asked refused setting draws found none =
     let other : bytes_eq asked.method (codes "POST") ≡ false = grind (arith, none, path) in rw (found, other) refl
 same_outcome endpoint asked refused setting draws found none = rw found refl
 
-pub unread : {H : Type 0} (hosting : Hosting H) (outset : Outset H) (m : ℕ) (history : List Event) (request : AnsweredRequest) (draws : Draws) → wants_draws request.asked ≡ false →
-    IsOutcomeOfRequest hosting outset m history request → IsOutcomeOfRequest hosting outset m history (record request { draws = draws })
-unread hosting outset m history request draws none o =
+pub unread : {H : Type 0} (hosting : Hosting H) (by : Answerer H) (request : AnsweredRequest) (after : H) (draws : Draws) → wants_draws request.asked ≡ false →
+    IsOutcomeOfRequest hosting by request after → IsOutcomeOfRequest hosting by (record request { draws = draws }) after
+unread hosting by request after draws none o =
     let setting : Setting = record {
-      rules = outset.rules;
-      history = history;
-      host = says_with hosting o.host request.mishap.fault;
-      moment = m;
+      rules = by.rules;
+      history = by.history;
+      host = says_with hosting by.host request.mishap.fault;
+      moment = by.moment;
       draws = request.draws;
     } in
     let same = same_outcome (endpoint_at (path_of request.asked.target)) request.asked request.mishap.refused setting draws refl none in
-    record { host = o.host; comes = o.comes; fault = o.fault; after = o.after; changes = o.changes; outcome_is = o.outcome_is ∙ same }
+    record { fault = o.fault; changes = o.changes; outcome_is = o.outcome_is ∙ same }

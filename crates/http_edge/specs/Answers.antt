@@ -1,7 +1,8 @@
 -- Requests that are answered one after another.
-use Rattle.std.specs.Prelude.{◌≡◌, ℕ, List, [], ◌∷◌, Bool, Option, map, ⊤}
+use Rattle.std.specs.Prelude.{◌≡◌, ℕ, List, [], ◌∷◌, Bool, Option, map}
 use Rattle.http_edge.specs.Names.{Hosting, Change, with_changes, Draws, Asked, in_writing, reply_bytes, Outset, Message, asked_of_message}
 use Rattle.std.specs.List.{flat_map}
+use Rattle.clients.specs.RegistryRecord.{RegistryRecord}
 use Rattle.hook_host.specs.declared.fault.HookFault.{HookFault}
 use Rattle.consent.specs.History.{Event}
 use Rattle.answers.specs.Outcomes.{Outcome}
@@ -21,28 +22,40 @@ pub record AnsweredRequest : Type 0 where
   pub mishap : Mishap
   pub outcome : Outcome
 
--- The request has its outcome at the history, by what a host says that comes of the first one by that history. By the outcome's
--- changes another host comes of this one: where it cannot make a hook's change, the outcome has none.
-pub record IsOutcomeOfRequest {H : Type 0} (hosting : Hosting H) (outset : Outset H) (m : ℕ) (history : List Event) (request : AnsweredRequest) :
-    Type 0 where
+-- what answers requests: the rules, what has happened under them, the host that came of this, and the moment
+pub record Answerer (H : Type 0) : Type 0 where
+  pub rules : RegistryRecord
+  pub history : List Event
   pub host : H
-  pub comes : HostRun hosting outset.first history host
-  pub fault : IsHostFault hosting host (hook_change request.asked) request.mishap.fault
+  pub moment : ℕ
+
+abbrev pub answerer : {H : Type 0} → Outset H → List Event → H → ℕ → Answerer H
+answerer outset history host m = record { rules = outset.rules; history = history; host = host; moment = m }
+
+-- what answers the next request, once these changes have left this host
+abbrev pub next_answerer : {H : Type 0} → Answerer H → List Change → H → Answerer H
+next_answerer by changes after = record by { history = with_changes by.history by.moment changes; host = after }
+
+-- The request has its outcome by what the host says, and the outcome's changes leave the other host: where it cannot make a
+-- hook's change, the outcome has none.
+pub record IsOutcomeOfRequest {H : Type 0} (hosting : Hosting H) (by : Answerer H) (request : AnsweredRequest) (after : H) : Type 0 where
+  pub fault : IsHostFault hosting by.host (hook_change request.asked) request.mishap.fault
   pub outcome_is : request.outcome ≡ request_outcome request.mishap.refused (record {
-    rules = outset.rules;
-    history = history;
-    host = says_with hosting host request.mishap.fault;
-    moment = m;
+    rules = by.rules;
+    history = by.history;
+    host = says_with hosting by.host request.mishap.fault;
+    moment = by.moment;
     draws = request.draws;
   }) request.asked
-  pub after : H
-  pub changes : HostRun hosting host (with_changes [] m request.outcome.changes) after
+  pub changes : HostRun hosting by.host (with_changes [] by.moment request.outcome.changes) after
 
--- the requests have their outcomes, each at the history that the one before left
-abbrev pub AreAnswered : {H : Type 0} → Hosting H → Outset H → ℕ → List Event → List AnsweredRequest → Type 0
-AreAnswered hosting outset m history [] = ⊤
-AreAnswered hosting outset m history (request ∷ requests) =
-    IsOutcomeOfRequest hosting outset m history request × AreAnswered hosting outset m (with_changes history m request.outcome.changes) requests
+-- the requests have their outcomes, each by the history and the host that the one before left, and the last leaves the other host
+abbrev pub AreAnswered : {H : Type 0} → Hosting H → Answerer H → List AnsweredRequest → H → Type 0
+AreAnswered hosting by [] after = after ≡ by.host
+AreAnswered {H = H} hosting by (request ∷ requests) after =
+    (between : H)
+    × IsOutcomeOfRequest hosting by request between
+    × AreAnswered hosting (next_answerer by request.outcome.changes between) requests after
 
 -- the requests ask what the messages ask, in their order
 abbrev pub AreAskedBy : List Message → List AnsweredRequest → Type 0

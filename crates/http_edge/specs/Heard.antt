@@ -6,7 +6,7 @@ use Rattle.consent.specs.History.{Event}
 use Rattle.messages.specs.Small.{reply_limit}
 use Rattle.heads.specs.declared.scan.Scan.{Scan}
 use Rattle.http_edge.specs.Limits.{request_limit}
-use Rattle.http_edge.specs.Answers.{AnsweredRequest, AreAnswered, AreAskedBy, draws_in, changes_made, replies_of}
+use Rattle.http_edge.specs.Answers.{AnsweredRequest, AreAnswered, answerer, AreAskedBy, draws_in, changes_made, replies_of}
 use Rattle.http_edge.specs.Schedule.{faulty_if, moment_after}
 use Rattle.http_edge.specs.Supply.{Suffices, FallsShort}
 use Rattle.http_edge.specs.Sources.{draws_for, draws_behind}
@@ -46,13 +46,13 @@ pub record Incoming : Type 0 where
 abbrev pub drawn_for : {S : Type 0} → Sources S → S → List Message → ℕ → Incoming
 drawn_for sources source messages moment = record { messages = messages; moment = moment; draws = draws_for sources source messages }
 
--- the messages have outcomes, whose replies were written behind the output, the server fits what they changed, and just
--- that is noted
+-- the messages have outcomes, from the host before to the new one, whose replies were written behind the output, the server
+-- fits what they changed, and just that is noted
 pub record AreMessagesServed {H : Type 0} (hosting : Hosting H) (before : Before H) (output : List ℕ) (incoming : Incoming) (new : Replying H) : Type 0 where
   pub requests : List AnsweredRequest
   pub asked : AreAskedBy incoming.messages requests
   pub draws : incoming.draws ≡ draws_in requests
-  pub answered : AreAnswered hosting before.outset before.moment before.history requests
+  pub answered : AreAnswered hosting (answerer before.outset before.history before.server.host before.moment) requests new.server.host
   pub output_is : new.output ≡ output ++ replies_of requests
   pub fits : FitsServer hosting new.server before.outset (with_changes before.history before.moment (changes_made requests)) before.moment
   pub noted : AreNoted before.server new.server before.history (with_changes before.history before.moment (changes_made requests))

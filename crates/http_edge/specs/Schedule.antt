@@ -4,7 +4,8 @@ use Rattle.http_edge.specs.Names.{Hosting, IsHistory, with_changes, Draws, fault
 use Rattle.clients.specs.RegistryRecord.{RegistryRecord}
 use Rattle.consent.specs.History.{Event}
 use Rattle.http_edge.specs.Limits.{connection_limit, piece_limit, request_limit}
-use Rattle.http_edge.specs.Answers.{Mishap, AnsweredRequest, AreAnswered, AreAskedBy, draws_in, mishaps_in, changes_made, replies_of}
+use Rattle.endpoints.specs.Hosts.{HostRun}
+use Rattle.http_edge.specs.Answers.{Mishap, AnsweredRequest, AreAnswered, answerer, AreAskedBy, draws_in, mishaps_in, changes_made, replies_of}
 use Rattle.http_edge.specs.declared.lane.Phase.TheVariants.{Open}
 
 -- a piece of a connection's stream, which came at a moment
@@ -140,7 +141,11 @@ pub record PieceComes {H : Type 0} (hosting : Hosting H) (outset : Outset H) (ol
   pub left : List Draws
   pub draws : came.draws ≡ draws_in requests ++ left
   pub mishaps : came.mishaps ≡ mishaps_in requests
-  pub answered : AreAnswered hosting outset new.greatest old.history requests
+  -- the host with which they begin, and the one that they leave
+  pub host : H
+  pub comes : HostRun hosting outset.first old.history host
+  pub after : H
+  pub answered : AreAnswered hosting (answerer outset old.history host new.greatest) requests after
   -- a faulty head is told of only where nothing good can come and it may be, and at the latest where it must be
   pub may_tell : came.closes ≡ true → IsHopeless rest × MayTell rest
   pub must_tell : MustTell rest → came.closes ≡ true
