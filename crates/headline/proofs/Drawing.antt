@@ -110,9 +110,9 @@ module _ {H : Type 0} (hosting : Hosting H) (outset : Outset H) where
   ]
   one_more old new (Taken c n) (inl takes) before a = still old new before [] takes.still.history a
   one_more old new (Taken c n) (inr nothing) before a = still old new before [] (ap (λ (w : World). w.history) nothing.same) a
-  one_more old new (Resumed history greatest) happens before a =
+  one_more old new (Resumed history greatest kept) happens before a =
       among_later (digests_given new.history) before (digests_given history)
-      (subst (λ h. AreAmong (digests_given h) (digests_given history)) (sym (ap (λ (w : World). w.history) happens.resumed)) (among_self (digests_given history)))
+      (subst (λ h. AreAmong (digests_given h) (digests_given history)) (sym (ap (λ (w : World). w.history) happens.1)) (among_self (digests_given history)))
   one_more old new _ happens before a = still old new before [] (cc) a
 
   drawn_from : (old new : World) (schedule : List Happening) → Run hosting outset old schedule new → (before : List (List ℕ)) →

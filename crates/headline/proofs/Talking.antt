@@ -130,8 +130,8 @@ module _ {H : Type 0} (hosting : Hosting H) (outset : Outset H) where
   ]
   talks_on old new (Forgotten c) happens talks = talks_forgotten old new c talks happens
   talks_on old new Kept happens talks = talks_same old new (ap (λ (w : World). w.connections) happens.kept) talks
-  talks_on old new (Resumed history greatest) happens talks = λ d k here.
-      let none : connection_at new.connections d ≡ None = ap (λ (w : World). connection_at w.connections d) happens.resumed in
+  talks_on old new (Resumed history greatest kept) happens talks = λ d k here.
+      let none : connection_at new.connections d ≡ None = ap (λ (w : World). connection_at w.connections d) happens.1 in
       let never : Some k ≡ None = sym here ∙ none in absurd (cc)
 
   pub talks_run : (old : World) (schedule : List Happening) (new : World) → Run hosting outset old schedule new →

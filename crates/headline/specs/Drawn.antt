@@ -6,7 +6,7 @@ use Rattle.headline.specs.Names.{flat_map, sha256, grants, Hosting, Outset, Happ
 -- that were there already, where the server goes on from what was kept
 abbrev pub digests_by : Happening → List (List ℕ)
 digests_by (Came came) = flat_map (λ draws. sha256 draws.first ∷ sha256 draws.second ∷ []) (take (length came.mishaps) came.draws)
-digests_by (Resumed history greatest) = map (λ g. g.digest) (grants history)
+digests_by (Resumed history greatest kept) = map (λ g. g.digest) (grants history)
 digests_by happening = []
 
 -- the ones stand among the others in their order, each at a place of its own

@@ -2,11 +2,12 @@
 use Rattle.std.proofs.Common.{◌≡◌, ◌≤◌, ◌<◌, ◌+◌, inl, inr, ℕ, List, [], ◌∷◌, ◌++◌, Bool, false, cond, Some, None, length, length-append, append_assoc, append-nil, drop, refl, ap, ◌∙◌, sym, subst, arith}
 use Rattle.http_edge.proofs.Names.{length-drop, drop-drop, drop-append-le, IsSome, option_map, Hosting, Event, with_changes, SeenServer, Outset, FitsServer, AreUnkept, Notes, NowNotes, Draws}
 use Rattle.http_edge.proofs.Names.{Message, messages_cut, nothing_has_none, AnsweredRequest, changes_made, mishaps_in, replies_of, World, Connection, Piece, AnsweredPiece, Happening, Opened, Came}
-use Rattle.http_edge.proofs.Names.{HasEnded, Taken, Forgotten, Kept, Happens, Run, ended, has_stream_ended, is_closing_phase, first_world, resumed, fresh, heard, with_connection, without_connection}
+use Rattle.http_edge.proofs.Names.{HasEnded, Taken, Forgotten, Kept, Happens, IsKeptOf, Run, ended, has_stream_ended, is_closing_phase, first_world, resumed, fresh, heard, with_connection, without_connection}
 use Rattle.http_edge.proofs.Names.{moment_after, faulty_if, SeenLane, lane_at, ShowsConnection, ShowsConnections, with_lane, without_lane, fresh_lane, AreMessagesRead, IsHeard, timed_bytes, hearing}
 use Rattle.http_edge.proofs.Names.{SeenEdge, Journey, Reached, BeginsOver, ResumesOver, GoesOn, HappeningLeads, PieceGoesOn, PieceLeads, GivenWithMore, IsBrought, WhereReached, supplied, draws_for}
 use Rattle.http_edge.proofs.Names.{draws_behind, Suffices, Sources, Open, Closing}
 use Rattle.std.specs.Prelude.{Option}
+use Rattle.change_codec.specs.HappenedLaws.{Happened-front}
 use Rattle.change_codec.specs.Spelling.{DatedFact}
 use Rattle.endpoints.specs.Bounded.{IsBounded}
 use Rattle.endpoints.specs.BoundedLaws.{tokens_keep_their_bounds}
@@ -124,10 +125,20 @@ pub begun : {H : Type 0} (hosting : Hosting H) (edge : SeenEdge H) → edge.lane
 begun hosting edge none outset fits notes =
     record { run = refl; server = fits; notes = notes; shows = rw none tt; bounded = fits_bounded hosting edge.server outset [] 0 fits }
 
+-- what was kept is the beginning of what has happened
+is_kept_of : (unkept : Option (List DatedFact)) (kept : Option (List Event)) (history : List Event) → AreUnkept unkept kept history → IsKeptOf kept history
+is_kept_of unkept None history noted = tt
+is_kept_of (Some facts) (Some kept) history noted = Happened-front kept history facts noted
+is_kept_of None (Some kept) history noted = absurd noted
+
 -- that goes on from a history
 pub goes_on_from : {H : Type 0} (hosting : Hosting H) (edge : SeenEdge H) → edge.lanes ≡ [] → ResumesOver hosting edge.server edge
-goes_on_from hosting edge none outset history m fits notes = record {
-  run = (resumed history m, record { first = refl; is_history = fits.store.fits.is_history; right = fits.right; resumed = refl }, refl);
+goes_on_from hosting edge none outset history m kept fits notes = record {
+  run = (
+    resumed history m kept,
+    (record { first = refl; is_history = fits.store.fits.is_history; right = fits.right; kept = is_kept_of edge.server.unkept kept history notes }, refl),
+    refl,
+  );
   server = fits;
   notes = notes;
   shows = rw none tt;

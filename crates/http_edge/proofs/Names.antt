@@ -23,7 +23,7 @@ pub use Rattle.http_edge.specs.Reached.{Journey, Reached, BeginsOver, ResumesOve
 pub use Rattle.http_edge.specs.Refusals.{MaySend, Completes, IsPieceRefusal, IsOpeningRefusal, IsEndingRefusal}
 pub use Rattle.http_edge.specs.Rests.{SeenRest}
 pub use Rattle.http_edge.specs.Schedule.{Connection, connection_at, with_connection, without_connection, fresh, untaken, World, Piece, AnsweredPiece, Happening, Opened, Came, HasEnded, Taken}
-pub use Rattle.http_edge.specs.Schedule.{Forgotten, Kept, Happens, Run, ended, has_stream_ended, is_closing_phase, first_world, resumed, heard, moment_after, faulty_if, piece_of}
+pub use Rattle.http_edge.specs.Schedule.{Forgotten, Kept, Happens, IsKeptOf, Run, ended, has_stream_ended, is_closing_phase, first_world, resumed, heard, moment_after, faulty_if, piece_of}
 pub use Rattle.http_edge.specs.Sources.{demand_of, draws_for, draws_behind, wants_draws}
 pub use Rattle.http_edge.specs.Supply.{Suffices, one_fewer}
 pub use Rattle.http_edge.specs.declared.lane.Phase.TheVariants.{Open}

@@ -1,4 +1,5 @@
 -- The names of types and of other crates that more than one file of these definitions uses.
+pub use Rattle.change_codec.specs.Keeping.{IsFrontOf}
 pub use Rattle.consent.specs.History.{Change, with_changes, IsHistory}
 pub use Rattle.endpoints.specs.Bounded.{IsBounded, AllRight}
 pub use Rattle.endpoints.specs.Server.{Outset, SeenServer, Before, FitsServer, AreNoted, Notes}

@@ -18,9 +18,9 @@ pub record Journey (H : Type 0) : Type 0 where
 abbrev pub new_journey : {H : Type 0} → Outset H → Journey H
 new_journey outset = record { outset = outset; schedule = []; world = first_world }
 
--- the server goes on from a history, which was kept, up to its greatest moment
-abbrev pub resumed_journey : {H : Type 0} → Outset H → List Event → ℕ → Journey H
-resumed_journey outset history m = record { outset = outset; schedule = Resumed history m ∷ []; world = resumed history m }
+-- the server goes on from a history and its greatest moment, and this was kept of it, if anything is kept
+abbrev pub resumed_journey : {H : Type 0} → Outset H → List Event → ℕ → Option (List Event) → Journey H
+resumed_journey outset history m kept = record { outset = outset; schedule = Resumed history m kept ∷ []; world = resumed history m kept }
 
 -- events more lead to this world
 abbrev pub led_on : {H : Type 0} → Journey H → List Happening → World → Journey H
@@ -42,11 +42,11 @@ abbrev pub BeginsOver : {H : Type 0} → Hosting H → SeenServer H → SeenEdge
 BeginsOver hosting server edge =
     (outset : Outset _) → FitsServer hosting server outset [] 0 → Notes server None [] → Reached hosting edge (new_journey outset)
 
--- over a server that notes what happens from a history on, its going on from there leads to the edge
+-- whatever has happened to the server, and whatever it has noted of that, its going on from there leads to the edge
 abbrev pub ResumesOver : {H : Type 0} → Hosting H → SeenServer H → SeenEdge H → Type 0
 ResumesOver hosting server edge =
-    (outset : Outset _) (history : List Event) (m : ℕ) → FitsServer hosting server outset history m → Notes server (Some history) history →
-    Reached hosting edge (resumed_journey outset history m)
+    (outset : Outset _) (history : List Event) (m : ℕ) (kept : Option (List Event)) → FitsServer hosting server outset history m →
+    Notes server kept history → Reached hosting edge (resumed_journey outset history m kept)
 
 -- so it is in every world that the edge shows
 abbrev pub InEach : {H : Type 0} → Hosting H → SeenEdge H → (World → Type 0) → Type 0

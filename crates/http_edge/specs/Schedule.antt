@@ -1,6 +1,6 @@
 -- What came and went on connections, what was kept, and what the server's outputs are then.
-use Rattle.std.specs.Prelude.{◌≡◌, ◌⊎◌, ◌≤◌, ◌<◌, ◌+◌, ℕ, List, [], ◌∷◌, ◌++◌, Bool, true, false, not, Option, Some, None, ◌==◌, if◌then◌else◌, find, filter, length, drop, max}
-use Rattle.http_edge.specs.Names.{Hosting, IsHistory, with_changes, Draws, faulty_bytes, AllRight, Outset, Message, Messages, IsHopeless, MustTell, MayTell, Phase, Closing, Ended, Closed}
+use Rattle.std.specs.Prelude.{◌≡◌, ◌⊎◌, ◌≤◌, ◌<◌, ◌+◌, ℕ, List, [], ◌∷◌, ◌++◌, Bool, true, false, not, Option, Some, None, ◌==◌, if◌then◌else◌, find, filter, length, drop, max, ⊤}
+use Rattle.http_edge.specs.Names.{Hosting, IsFrontOf, IsHistory, with_changes, Draws, faulty_bytes, AllRight, Outset, Message, Messages, IsHopeless, MustTell, MayTell, Phase, Closing, Ended, Closed}
 use Rattle.clients.specs.RegistryRecord.{RegistryRecord}
 use Rattle.consent.specs.History.{Event}
 use Rattle.http_edge.specs.Limits.{connection_limit, piece_limit, request_limit}
@@ -34,8 +34,8 @@ pub data Happening : Type 0 where
   Forgotten : (c : ℕ) → Happening
   -- what the server has done is kept, so that it outlives the server
   Kept : Happening
-  -- the server goes on from what was kept of one before it
-  Resumed : (history : List Event) → (greatest : ℕ) → Happening
+  -- the edge begins over a server to which this has happened, and of which this was kept, if anything is kept
+  Resumed : (history : List Event) → (greatest : ℕ) → (kept : Option (List Event)) → Happening
 
 -- its stream has ended
 abbrev pub has_stream_ended : Phase → Bool
@@ -77,9 +77,9 @@ pub record World : Type 0 where
 abbrev pub first_world : World
 first_world = record { connections = []; greatest = 0; history = []; kept = None }
 
--- nothing has happened since the history, which was kept, up to its greatest moment
-abbrev pub resumed : List Event → ℕ → World
-resumed history greatest = record { connections = []; greatest = greatest; history = history; kept = Some history }
+-- nothing has happened since the history and its greatest moment
+abbrev pub resumed : List Event → ℕ → Option (List Event) → World
+resumed history greatest kept = record { connections = []; greatest = greatest; history = history; kept = kept }
 
 -- THE CONNECTIONS
 
@@ -210,12 +210,17 @@ pub record KeepsHistory (old new : World) : Type 0 where
   pub kept_before : old.kept ≡ Some before
   pub kept : new ≡ record old { kept = Some old.history }
 
+-- what was kept, if anything is kept, is the beginning of what has happened
+abbrev pub IsKeptOf : Option (List Event) → List Event → Type 0
+IsKeptOf None history = ⊤
+IsKeptOf (Some kept) history = IsFrontOf kept history
+
 -- where nothing has happened yet, the server goes on from a history that is right under its rules
-pub record Resumes (rules : RegistryRecord) (old new : World) (history : List Event) (greatest : ℕ) : Type 0 where
+pub record Resumes (rules : RegistryRecord) (old new : World) : Type 0 where
   pub first : old ≡ first_world
-  pub is_history : IsHistory history greatest
-  pub right : AllRight rules [] history
-  pub resumed : new ≡ resumed history greatest
+  pub is_history : IsHistory new.history new.greatest
+  pub right : AllRight rules [] new.history
+  pub kept : IsKeptOf new.kept new.history
 
 abbrev pub Happens : {H : Type 0} → Hosting H → Outset H → World → Happening → World → Type 0
 Happens hosting outset old (Opened c) new = Opens old new c
@@ -225,7 +230,7 @@ Happens hosting outset old (HasEnded c) new = StreamEnds old new c
 Happens hosting outset old (Taken c n) new = TakesOutput old new c n ⊎ TakesNothing old new c n
 Happens hosting outset old (Forgotten c) new = ForgetsConnection old new c
 Happens hosting outset old Kept new = KeepsHistory old new
-Happens hosting outset old (Resumed history greatest) new = Resumes outset.rules old new history greatest
+Happens hosting outset old (Resumed history greatest kept) new = Resumes outset.rules old new × (new ≡ resumed history greatest kept)
 
 -- A SCHEDULE
 

@@ -179,8 +179,7 @@ fn take_output(lane: &mut Lane, n: usize)
 }
 
 impl<H: HookHost> Edge<H> {
-    /// An edge over a server, without connections. Where the server notes what happens, the edge goes on from the history
-    /// from which it notes.
+    /// An edge over a server, without connections. Whatever has happened to the server, the edge goes on from there.
     pub fn new(alloc: Global, server: Server<H>) -> Self
         ensures begun { BeginsOver H.HookHost server result }
         ensures resumed { ResumesOver H.HookHost server result }

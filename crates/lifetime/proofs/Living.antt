@@ -59,7 +59,7 @@ module _ {D N C J : Type 0} (p : LifePromises D N C J) (only_now : (d : D) (c : 
     stopped server edge ending is resumes runs = has_stopped begun settles ending (λ history lived.
         let before = begun_from looks.plan_is history in
         let on = (looks.plan_is.makes history lived).serves in
-        let reached = subst (λ s. ResumesOver chain.ghosts s edge) is resumes (outset_of given.registry []) before outlook.plan.prepared.moment on.fits on.notes in
+        let reached = subst (λ s. ResumesOver chain.ghosts s edge) is resumes (outset_of given.registry []) before outlook.plan.prepared.moment (Some before) on.fits on.notes in
         ⊎_elim (λ has. inl (has_lived p only_now given begun before put (bears history lived) edge ending has reached))
         (λ nothing. inr (record {
           edge = edge;

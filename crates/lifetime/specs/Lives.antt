@@ -44,7 +44,7 @@ abbrev pub loop_of : {D N C J : Type 0} → Given D N C J → Begun D N C J → 
 loop_of given begun edge before = record {
   limits = begun.means.limits;
   tools = tools_of begun.means begun.keeper edge;
-  journey = resumed_journey (outset_of given.registry []) before begun.outlook.plan.prepared.moment;
+  journey = resumed_journey (outset_of given.registry []) before begun.outlook.plan.prepared.moment (Some before);
 }
 
 -- at the state a history is kept, and a crash from then on, up to the device's moment, leaves all of that, and no more than `all`
