@@ -116,8 +116,9 @@ pub fn tokens_come_from_draws_of_their_own<H: HookHost>()
     ensures { AreDrawn H.HookHost }
 {}
 
-/// No grant goes around the hooks: each token that is given is what a chain's hooks left, each asked in its turn, of an ask
-/// that says its client and its owner, and none of them denied it.
+/// No grant goes around the hooks: each token that is given is what a chain's hooks left, each asked in its turn, and none of
+/// them denied it. They are asked just what the request asks for (`ask_for`, in each of its fields): a grant of the type that it
+/// names, to its client, by the owner and within the scope of what it presents.
 pub fn no_grant_goes_around_the_hooks()
     ensures { OnEachOccasion IsAllDecided }
 {}
