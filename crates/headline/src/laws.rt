@@ -110,7 +110,8 @@ pub fn clients_are_isolated<H: HookHost>()
 {}
 
 /// No two codes or tokens come from one draw: in each history that a schedule leads to, each has the digest of a draw of its
-/// own, which was handed in for a request that was answered, or was there when the server went on from what was kept.
+/// own, which was handed in for an answered request that wants draws, as `GET /authorize` and `POST /token` do; or it was there
+/// when the server went on from what was kept.
 #[tactic(auto, using(crate::proofs::Drawing::are_drawn))]
 pub fn tokens_come_from_draws_of_their_own<H: HookHost>()
     ensures { AreDrawn H.HookHost }
