@@ -7,7 +7,9 @@ use Rattle.consent.specs.History.Change.{HookSet, HookGone}
 use Rattle.endpoints.proofs.Telling.{good}
 use Rattle.endpoints.proofs.Sound.{IsFair, IsRightToken, still, access_fair, both_fair, ends_fair, left_within, refresh_no_code, right_may, right_token, scope_is_within}
 use Rattle.endpoints.proofs.Ways.{Proven, TokenWay, Refused, Wanting, Again, InVain, Once, Twice, Refreshed, Own, Way, Quiet, ByToken, Turned, Coded, Consents, Revokes, Tells, Installs, Removes}
-use Rattle.endpoints.proofs.Ways.{IsHookless, code_ask, refresh_ask, token_outcome, outcome_by}
+use Rattle.endpoints.proofs.Ways.{IsAt, code_ask, refresh_ask, token_outcome, outcome_by}
+use Rattle.answers.specs.declared.endpoint.Endpoint.{Endpoint}
+use Rattle.answers.specs.declared.endpoint.Endpoint.TheVariants.{InstallHook, RemoveHook}
 
 -- the change is not of the hooks
 abbrev pub IsUnhooked : Change → Type 0
@@ -56,7 +58,7 @@ module _ (s : Setting) (is : IsHistory s.history s.moment) (all : AllRight s.rul
       let own = inl (record { no_owner = refl; no_code = ap is_of_code (opener-fresh s.history is.placed) }) in
       record {
         follow = ((inl refl, (is_taken-parts s.history s.moment (sha256 s.draws.first) [] free.0).0), tt);
-        right = ((may known left.scope sender.known_is (is_within-trans left.scope scope known.client.allowed less.0 free.1), less.1, own), tt);
+        right = ((may known left.scope sender.known_is (is_within-trans left.scope scope known.client.allowed less.0 (scope_is_within s.rules known.client.allowed sender.params scope free.1)), less.1, own), tt);
       }
 
   pub way_fair : (way : Way s asked) → IsFair s (outcome_by way)
@@ -78,6 +80,12 @@ module _ (s : Setting) (is : IsHistory s.history s.moment) (all : AllRight s.rul
   way_fair (Installs name version code operator) = record { follow = (tt, tt); right = (tt, tt) }
   way_fair (Removes name operator) = record { follow = (tt, tt); right = (tt, tt) }
 
--- and changes no hook, unless it is the operator's to do so
-pub way_unhooked : (s : Setting) (asked : Asked) (way : Way s asked) → IsHookless way → AllUnhooked (outcome_by way).changes
+-- the hooks are not changed at it
+abbrev pub IsHookless : Endpoint → Type 0
+IsHookless InstallHook = ⊥
+IsHookless RemoveHook = ⊥
+IsHookless endpoint = Unit {0}
+
+-- and changes no hook, unless it is at an endpoint for that
+pub way_unhooked : (s : Setting) (asked : Asked) (way : Way s asked) → IsAt IsHookless way → AllUnhooked (outcome_by way).changes
 way_unhooked s asked way free = grind (arith, free)

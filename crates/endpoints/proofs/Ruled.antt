@@ -1,5 +1,5 @@
 -- A decision is a ruling that the server can carry out.
-use Rattle.std.proofs.Common.{◌≡◌, ◌∙◌, ap, sym, subst, ℕ, List, [], ◌∷◌, Bool, true, Option, Some, None, arith}
+use Rattle.std.proofs.Common.{◌≡◌, inl, ◌∙◌, ap, sym, subst, ℕ, List, [], ◌∷◌, Bool, true, Option, Some, None, arith}
 use Rattle.endpoints.proofs.Names.{IfOk, result_ok, read_params, change_of, changes_of, as_list, begins, Event}
 use Rattle.endpoints.proofs.Names.{happening, HookFault, Hosting, Asked, query_of, InvalidRequest, AccessDenied, Draws, Halts, Outcome, bare, need, point, refuse, reply_of}
 use Rattle.endpoints.proofs.Names.{Parameters, form_of, Setting, outcome_told, Halt, store_history, Checked, NoHook, Installs, Removes, Ruling, hook_change_at, hook_gone}
@@ -11,11 +11,11 @@ use Rattle.answers.specs.declared.decision.Decision.{Decision}
 use Rattle.endpoints.specs.declared.reading.Reading.{Reading}
 use Rattle.endpoints.specs.declared.reading.Reading.TheVariants as reading
 use Rattle.endpoints.specs.Reading.{IsRequestRead}
-use Rattle.endpoints.proofs.Fair.{AllUnhooked, IsUnhooked, way_fair, way_unhooked}
+use Rattle.endpoints.proofs.Fair.{AllUnhooked, IsHookless, IsUnhooked, way_fair, way_unhooked}
 use Rattle.endpoints.proofs.ReadingOn.{points_of}
 use Rattle.endpoints.proofs.Sound.{IsFair}
 use Rattle.endpoints.proofs.Walking.{option_map_some}
-use Rattle.endpoints.proofs.Ways.{IsHookless, Way, ByToken, at_authorize, at_consent, at_document, at_hooks, at_introspect, at_revoke, at_token, is_of_hooks, outcome_by}
+use Rattle.endpoints.proofs.Ways.{IsAt, Way, ByToken, token_at, at_authorize, at_consent, at_document, at_hooks, at_introspect, at_revoke, at_token, is_of_hooks, outcome_by}
 use Rattle.endpoints.specs.HookPaths.{change_hooks, installation, removal}
 
 -- WITHOUT A CHANGE OF THE HOOKS
@@ -64,24 +64,24 @@ module _ {H : Type 0} (hosting : Hosting H) (server : SeenServer H) (first : H) 
   abbrev Fair : Outcome → Type 0
   Fair o = IsFair scene o × AllUnhooked o.changes
 
-  hookless : (way : Way scene asked) → IsHookless way → Fair (outcome_by way)
+  hookless : (way : Way scene asked) → IsAt IsHookless way → Fair (outcome_by way)
   hookless way free = (ways None way, way_unhooked scene asked way free)
 
   -- each endpoint's is fair that changes no hooks
   pub alone_fair : (what : Reading) → IsAlone what → Fair (comes_to hosting server history (asking_of asked what draws) None)
-  alone_fair (reading.Authorize params) alone = at_authorize Fair scene asked hookless
-  alone_fair reading.GiveConsent alone = at_consent Fair scene asked hookless
-  alone_fair reading.IssueToken alone = at_token (λ o _. Fair o) scene asked (λ way _. hookless (ByToken way) tt)
-  alone_fair reading.RevokeToken alone = at_revoke Fair scene asked hookless
-  alone_fair reading.Introspect alone = at_introspect Fair scene asked hookless
-  alone_fair (reading.Read document) alone = at_document Fair scene asked hookless _
+  alone_fair (reading.Authorize params) alone = at_authorize Fair scene asked IsHookless hookless tt
+  alone_fair reading.GiveConsent alone = at_consent Fair scene asked IsHookless hookless tt
+  alone_fair reading.IssueToken alone = at_token (λ o _. Fair o) scene asked (λ way _. hookless (ByToken way) (token_at IsHookless way tt))
+  alone_fair reading.RevokeToken alone = at_revoke Fair scene asked IsHookless hookless tt
+  alone_fair reading.Introspect alone = at_introspect Fair scene asked IsHookless hookless
+  alone_fair (reading.Read document) alone = at_document Fair scene asked IsHookless hookless _
   alone_fair (reading.InstallHook params) alone = absurd alone
   alone_fair (reading.RemoveHook params) alone = absurd alone
 
   -- and so is each change of the hooks
   hooks_fair : (change : Option happening) → ((c : happening) → change ≡ Some c → is_of_hooks c ≡ true) → (fault : Option HookFault) →
       IsFair (setting_now hosting server history draws fault) (change_hooks (setting_now hosting server history draws fault) asked change)
-  hooks_fair change of fault = let s = setting_now hosting server history draws fault in at_hooks (IsFair s) s asked (ways fault) change of
+  hooks_fair change of fault = let s = setting_now hosting server history draws fault in at_hooks (IsFair s) s asked (λ _. Unit {0}) (λ way _. ways fault way) (inl tt) change of
 
 -- what is read that asks for no hook and takes none away
 pub alone_of : (what : Reading) → ((p : Parameters) → what ≡ reading.InstallHook p → ⊥) → ((p : Parameters) → what ≡ reading.RemoveHook p → ⊥) → IsAlone what

@@ -1,5 +1,5 @@
 -- The ways that a request may go to its outcome, and what it has passed on each.
-use Rattle.std.proofs.Common.{◌≡◌, ℕ, List, [], ◌∷◌, Bool, true, false, Option, Some, None, Result, Ok, Err, length, refl, sym, ap, subst, ◌∙◌, arith}
+use Rattle.std.proofs.Common.{◌≡◌, ◌⊎◌, ℕ, List, [], ◌∷◌, Bool, true, false, Option, Some, None, Result, Ok, Err, length, refl, sym, ap, subst, ◌∙◌, arith}
 use Rattle.endpoints.proofs.Names.{result_ok, eqb-true, false≢true, not-true, nat_tests, sha256, read_params, value_sent, RegistryRecord, ClientRecord, client_at, has_grant, grant_named}
 use Rattle.endpoints.proofs.Names.{AuthorizationCode}
 use Rattle.endpoints.proofs.Names.{RefreshToken, ClientCredentials, told as Change, Grant, grant_at, live_grant, is_code, is_spent, is_taken, has_ended, consented_scope, is_within}
@@ -29,6 +29,8 @@ use Rattle.std.proofs.lemmas.Nat.{and_le_r}
 use Rattle.pkce.specs.Token.{token_text}
 use Rattle.params.specs.Scope.{scope_text}
 use Rattle.clients.specs.declared.grant.GrantType.{GrantType}
+use Rattle.answers.specs.declared.endpoint.Endpoint.{Endpoint}
+use Rattle.answers.specs.declared.endpoint.Endpoint.TheVariants as endpoint
 use Rattle.authentication.specs.declared.authentication.AuthFault.{AuthFault}
 use Rattle.authentication.specs.declared.authentication.AuthFault.TheVariants as auth
 use Rattle.consent.specs.Facts.{GivenCode}
@@ -171,7 +173,7 @@ pub data TokenWay (s : Setting) (asked : Asked) : Type 0 where
       is_taken s.history s.moment (both_digests s.draws) ≡ false → TokenWay s asked
   Own : (sender : Sender s.rules asked) → value_sent (codes "grant_type") sender.params ≡ Some (codes "client_credentials") →
       (scope : ℕ) (left : Extent) → IsLeft s (own_ask s sender.known scope) left →
-      (is_taken s.history s.moment (sha256 s.draws.first ∷ []) ≡ false) × (is_within scope sender.known.client.allowed ≡ true) → TokenWay s asked
+      (is_taken s.history s.moment (sha256 s.draws.first ∷ []) ≡ false) × (scope_within s.rules sender.known.client.allowed sender.params ≡ Some scope) → TokenWay s asked
 
 -- where they lead
 abbrev pub token_outcome : {s : Setting} {asked : Asked} → TokenWay s asked → Outcome
@@ -334,7 +336,7 @@ module _ (P : Outcome → Outcome → Type 0) (s : Setting) (asked : Asked)
         let ask = own_ask s sender.known scope in
         at_left P s ask (refuse UnauthorizedClient) (refuse InvalidScope) _ _ (ways (Refused UnauthorizedClient)) (ways (Refused InvalidScope)) (λ left is.
         both_untaken P s (sha256 s.draws.first ∷ []) (own_issued s sender.known.number left) (own_issued s sender.known.number (whole ask))
-        none (λ untaken. ways (Own sender typed scope left is (untaken, grind (arith, asks))) unavailable)))
+        none (λ untaken. ways (Own sender typed scope left is (untaken, asks)) unavailable)))
 
     by_type : (grant : GrantType) → value_sent (codes "grant_type") sender.params ≡ Some (type_name grant) →
         P (grant_points grant s sender.params sender.known) (grant_points grant (open_to_all s) sender.params sender.known)
@@ -413,21 +415,33 @@ outcome_by {s = s} (Tells x) = only (plain 200 (told_of s.rules x.token x.token.
 outcome_by (Installs name version code operator) = record { reply = plain 200 (hook_body name); changes = HookSet name version code ∷ [] }
 outcome_by (Removes name operator) = record { reply = plain 200 (hook_body name); changes = HookGone name ∷ [] }
 
--- the way changes no hook
-abbrev pub IsHookless : {s : Setting} {asked : Asked} → Way s asked → Type 0
-IsHookless (Installs name version code operator) = ⊥
-IsHookless (Removes name operator) = ⊥
-IsHookless way = Unit {0}
+-- where the way changes something, it is at such an endpoint
+abbrev pub IsAt : (Endpoint → Type 0) → {s : Setting} {asked : Asked} → Way s asked → Type 0
+IsAt At (ByToken Wanting) = Unit {0}
+IsAt At (ByToken (Refused error)) = Unit {0}
+IsAt At (ByToken way) = At endpoint.IssueToken
+IsAt At (Coded x code key of) = At endpoint.Authorize
+IsAt At (Consents owner client mask key) = At endpoint.GiveConsent
+IsAt At (Revokes x own) = At endpoint.RevokeToken
+IsAt At (Installs name version code operator) = At endpoint.InstallHook ⊎ At endpoint.RemoveHook
+IsAt At (Removes name operator) = At endpoint.InstallHook ⊎ At endpoint.RemoveHook
+IsAt At way = Unit {0}
 
-module _ (P : Outcome → Type 0) (s : Setting) (asked : Asked) (ways : (way : Way s asked) → IsHookless way → P (outcome_by way)) where
+-- so it is of each way at the token endpoint
+pub token_at : (At : Endpoint → Type 0) {s : Setting} {asked : Asked} (way : TokenWay s asked) → At endpoint.IssueToken → IsAt At (ByToken way)
+token_at At Wanting here = tt
+token_at At (Refused error) here = tt
+token_at At way here = here
+
+module _ (P : Outcome → Type 0) (s : Setting) (asked : Asked) (At : Endpoint → Type 0) (ways : (way : Way s asked) → IsAt At way → P (outcome_by way)) where
   refused : (error : ErrorName) → P (refuse error)
   refused error = ways (ByToken (Refused error)) tt
 
   wanting : P unavailable
   wanting = ways (ByToken Wanting) tt
 
-  pub at_authorize : P (authorize s asked)
-  at_authorize =
+  pub at_authorize : At endpoint.Authorize → P (authorize s asked)
+  at_authorize here =
       at_need P {A = Parameters} (result_ok (read_params (query_of asked.target))) (refuse InvalidRequest) _ (refused InvalidRequest) (λ params query.
       at_need P {A = KnownClient} (client_named s.rules params) (refuse InvalidRequest) _ (refused InvalidRequest) (λ known names.
       at_need P {A = List ℕ} (redirect_sent params known.client) (refuse InvalidRequest) _ (refused InvalidRequest) (λ uri led.
@@ -440,16 +454,16 @@ module _ (P : Outcome → Type 0) (s : Setting) (asked : Asked) (ways : (way : W
       at_need P {A = ℕ} (scope_within s.rules known.client.allowed params) (turned_back uri params InvalidScope) _ (ways (Turned x InvalidScope) tt) (λ scope asks.
       at_need P {A = ℕ} (owner_of_key s.rules asked) (turned_back uri params AccessDenied) _ (ways (Turned x AccessDenied) tt) (λ owner key.
       at_unless P (is_within scope (consented_scope s.history owner known.number)) (turned_back uri params AccessDenied) _ (ways (Turned x AccessDenied) tt) (λ consented.
-      both_untaken (λ o _. P o) s (sha256 s.draws.first ∷ []) _ unavailable wanting (λ untaken. ways (Coded x (record { client = known.number; owner = owner; scope = scope; redirect = uri; challenge = challenge }) key (refl, refl, grind (arith, asks), consented, untaken)) tt)))))))))))
+      both_untaken (λ o _. P o) s (sha256 s.draws.first ∷ []) _ unavailable wanting (λ untaken. ways (Coded x (record { client = known.number; owner = owner; scope = scope; redirect = uri; challenge = challenge }) key (refl, refl, grind (arith, asks), consented, untaken)) here)))))))))))
 
-  pub at_consent : P (give_consent s asked)
-  at_consent =
+  pub at_consent : At endpoint.GiveConsent → P (give_consent s asked)
+  at_consent here =
       at_need P {A = Parameters} (form_of asked) (refuse InvalidRequest) _ (refused InvalidRequest) (λ params _.
       at_need P {A = ℕ} (owner_of_key s.rules asked) (refuse AccessDenied) _ (refused AccessDenied) (λ owner key.
       at_need P {A = KnownClient} (client_named s.rules params) (refuse InvalidRequest) _ (refused InvalidRequest) (λ known _.
       at_need P {A = ℕ} (scope_asked s.rules 0 params) (refuse InvalidScope) _ (refused InvalidScope) (λ mask _.
       at_unless P (has_consent_room s.history owner known.number mask) unavailable _ wanting (λ _.
-      ways (Consents owner known.number mask key) tt)))))
+      ways (Consents owner known.number mask key) here)))))
 
   -- by the live token that a sender presents, if there is one
   at_shown : (without : Outcome) (later : KnownClient → Grant → Outcome) → P without → ((x : Shown s asked) → P (later x.sender.known x.token)) →
@@ -463,12 +477,12 @@ module _ (P : Outcome → Type 0) (s : Setting) (asked : Asked) (ways : (way : W
       let at = through (λ digest. live_grant s.history digest s.moment) (digest_told text) g is.0 in
       z (record { sender = sender; text = text; sent = sent; digest = at.0; told = at.1; token = g; live = at.2; no_code = not-true (is_code g.kind) is.1 }))))
 
-  pub at_revoke : P (revoke_token s asked)
-  at_revoke =
+  pub at_revoke : At endpoint.RevokeToken → P (revoke_token s asked)
+  at_revoke here =
       at_shown (bare 200) (λ known token. point (not (token.client == known.number)) (refuse InvalidGrant) (revoked token))
       (ways (Quiet 200 Empty (other 200 302 refl) (λ active. active)) tt) (λ x.
       at_unless P (x.token.client == x.sender.known.number) (refuse InvalidGrant) _ (refused InvalidGrant) (λ same.
-      ways (Revokes x (eqb-true x.token.client x.sender.known.number same)) tt))
+      ways (Revokes x (eqb-true x.token.client x.sender.known.number same)) here))
 
   pub at_introspect : P (introspect s asked)
   at_introspect =
@@ -479,16 +493,17 @@ module _ (P : Outcome → Type 0) (s : Setting) (asked : Asked) (ways : (way : W
   at_document (Ok members) = ways (Quiet 200 (Told members) (other 200 302 refl) (λ active. active)) tt
   at_document (Err error) = refused error
 
--- or changes the hooks
-module _ (P : Outcome → Type 0) (s : Setting) (asked : Asked) (ways : (way : Way s asked) → P (outcome_by way)) where
-  by_hook : (change : Change) → is_of_hooks change ≡ true → is_operator s.rules asked ≡ true → (fault : Option HookFault) → P (by_fault change fault)
-  by_hook (HookSet name version code) of operator None = ways (Installs name version code operator)
-  by_hook (HookGone name) of operator None = ways (Removes name operator)
-  by_hook change of operator None = absurd (false≢true of)
-  by_hook change of operator (Some hook.Memory) = ways (ByToken Wanting)
-  by_hook change of operator (Some fault) = ways (Quiet 400 (refused_body (hook_fault_text fault)) (other 400 302 refl) (λ active. active))
+  -- a change of the hooks
+  by_hook : At endpoint.InstallHook ⊎ At endpoint.RemoveHook → (change : Change) → is_of_hooks change ≡ true → is_operator s.rules asked ≡ true →
+      (fault : Option HookFault) → P (by_fault change fault)
+  by_hook here (HookSet name version code) of operator None = ways (Installs name version code operator) here
+  by_hook here (HookGone name) of operator None = ways (Removes name operator) here
+  by_hook here change of operator None = absurd (false≢true of)
+  by_hook here change of operator (Some hook.Memory) = wanting
+  by_hook here change of operator (Some fault) = ways (Quiet 400 (refused_body (hook_fault_text fault)) (other 400 302 refl) (λ active. active)) tt
 
-  pub at_hooks : (change : Option Change) → ((c : Change) → change ≡ Some c → is_of_hooks c ≡ true) → P (change_hooks s asked change)
-  at_hooks change of =
-      at_unless P (is_operator s.rules asked) (refuse AccessDenied) _ (ways (ByToken (Refused AccessDenied))) (λ operator.
-      at_need P {A = Change} change (refuse InvalidRequest) _ (ways (ByToken (Refused InvalidRequest))) (λ c is. by_hook c (of c is) operator s.host.fault))
+  pub at_hooks : At endpoint.InstallHook ⊎ At endpoint.RemoveHook → (change : Option Change) → ((c : Change) → change ≡ Some c → is_of_hooks c ≡ true) →
+      P (change_hooks s asked change)
+  at_hooks here change of =
+      at_unless P (is_operator s.rules asked) (refuse AccessDenied) _ (refused AccessDenied) (λ operator.
+      at_need P {A = Change} change (refuse InvalidRequest) _ (refused InvalidRequest) (λ c is. by_hook here c (of c is) operator s.host.fault))

@@ -1,9 +1,9 @@
 -- What happens, and the end of each family, is borne by credentials and keys.
-use Rattle.std.proofs.Common.{◌≡◌, ◌≢◌, ℕ, suc, List, [], ◌∷◌, Bool, true, false, Option, Some, None, cond, length, refl, sym, ap, ◌∙◌, arith, subst, ◌⊎◌, inl, inr, ◌++◌, append-nil}
+use Rattle.std.proofs.Common.{◌≡◌, ◌≢◌, ℕ, suc, List, [], ◌∷◌, Bool, true, false, Option, Some, None, cond, length, refl, sym, ap, ◌∙◌, arith, subst, ◌⊎◌, inl, inr, ◌++◌, append-nil, map}
 use Rattle.headline.proofs.Names.{Contains, find, ◌||◌, not, false≢true, and_parts, not-true, nat_tests, All-nil, All-cons, All-contains, All-weaker, All-head, RegistryRecord, authenticated, Change}
 use Rattle.headline.proofs.Names.{Grant, grant_at, grants, is_named, is_of, opener, IsHistory, event_at, Terms, code_terms, ends, has_ended, is_beyond, with_change, with_changes, CodeGiven, Issued}
 use Rattle.headline.proofs.Names.{Spent, FamilyEnded, Consented, opener-fresh, Asked, under_digest, Extent, Outcome, form_of, owner_of_key, Setting, is_operator, access_issued, refresh_issued}
-use Rattle.headline.proofs.Names.{list_all, has_ended-push, has_ended-push_other, with_changes-cons, BearsCredentials, BearsOwnerKey, BearsOperatorKey, Occasion, outcome_of, setting_on}
+use Rattle.headline.proofs.Names.{list_all, has_ended-push, has_ended-push_other, with_changes-cons, BearsCredentials, BearsOwnerKey, BearsOperatorKey, Occasion, outcome_of, setting_on, history_after, GiveConsent}
 use Rattle.std.specs.Prelude.{All}
 use Rattle.std.specs.Option.{option_map_or}
 use Rattle.std.proofs.lemmas.List.Sums.{AllPass-from_list_all}
@@ -11,12 +11,12 @@ use Rattle.clients.specs.Registry.{is_operator_key}
 use Rattle.clients.specs.Owners.{owner_with}
 use Rattle.consent.specs.History.{Event}
 use Rattle.consent.specs.Growth.{may_end}
-use Rattle.headline.specs.Authority.{IsAuthorized, IsAllAuthorized, LeavesAlone, IsIsolated, EndsWithAuthority}
-use Rattle.headline.proofs.Spending.{live_is}
+use Rattle.headline.specs.Authority.{IsAuthorized, IsAllAuthorized, IsConsentOf, IsConsentOfOwner, EndsByOwnerAlone, LeavesAlone, IsIsolated, EndsWithAuthority}
+use Rattle.headline.proofs.Spending.{ended_stays, live_is}
 use Rattle.endpoints.proofs.Walking.{same_some, through}
 use Rattle.endpoints.proofs.Ways.{Sender, Way, ByToken, Coded, Consents, Revokes, Installs, Removes, Again, InVain, Once, Twice, Refreshed, Own, both_issued, number_in, one_issued, outcome_by}
-use Rattle.endpoints.proofs.Ways.{Wanting}
-use Rattle.headline.proofs.Ways.{at_each}
+use Rattle.endpoints.proofs.Ways.{IsAt, Wanting}
+use Rattle.headline.proofs.Ways.{IsSentTo, at_each, at_each_sent, goes_to}
 
 -- what is found is in the list
 pub find_contains : {X : Type 0} (p : X → Bool) (xs : List X) (x : X) → find p xs ≡ Some x → Contains xs x
@@ -105,22 +105,22 @@ module _ (history : List Event) (m : ℕ) (is : IsHistory history m) where
           All-cons Right (access_issued g s.draws.first left) (more ∷ Spent g.digest ∷ []) issued
           (All-cons Right more (Spent g.digest ∷ []) issued (one (Spent g.digest) spent))
 
-    by_way : (way : Way s asked) → P (outcome_by way)
-    by_way (ByToken (Again type name test x _)) = one _ (ended x.sender x.digest x.grant x.named x.own)
-    by_way (ByToken (InVain x error)) = one _ (spent x.code.sender x.code.digest x.code.grant x.code.named x.code.own)
-    by_way (ByToken (Once x left is untaken)) = once x.code.sender x.code.digest x.code.grant x.code.named x.code.own left
-    by_way (ByToken (Twice x left is untaken)) = twice x.code.sender x.code.digest x.code.grant x.code.named x.code.own left left.scope
-    by_way (ByToken (Refreshed x left is untaken)) = twice x.token.sender x.token.digest x.token.grant x.token.named x.token.own left x.token.grant.scope
-    by_way (ByToken (Own sender typed scope left is untaken)) = one _ (credentials sender, λ g at same. absurd (none_new g at (sym same)))
-    by_way (Coded x code key of) = one _ (owner_key code.owner key, refl)
-    by_way (Consents owner client mask key) = one _ (owner_key owner key)
-    by_way (Revokes x own) = one _ (ended x.sender x.digest x.token (live_is history x.digest occasion.arrival.moment x.token x.live).0 own)
-    by_way (Installs name version code operator) = one _ (operator_key operator)
-    by_way (Removes name operator) = one _ (operator_key operator)
-    by_way _ = All-nil Right
+    by_way : (way : Way s asked) → IsAt (IsSentTo occasion) way → P (outcome_by way)
+    by_way (ByToken (Again type name test x _)) _ = one _ (ended x.sender x.digest x.grant x.named x.own)
+    by_way (ByToken (InVain x error)) _ = one _ (spent x.code.sender x.code.digest x.code.grant x.code.named x.code.own)
+    by_way (ByToken (Once x left is untaken)) _ = once x.code.sender x.code.digest x.code.grant x.code.named x.code.own left
+    by_way (ByToken (Twice x left is untaken)) _ = twice x.code.sender x.code.digest x.code.grant x.code.named x.code.own left left.scope
+    by_way (ByToken (Refreshed x left is untaken)) _ = twice x.token.sender x.token.digest x.token.grant x.token.named x.token.own left x.token.grant.scope
+    by_way (ByToken (Own sender typed scope left is untaken)) _ = one _ (credentials sender, λ g at same. absurd (none_new g at (sym same)))
+    by_way (Coded x code key of) _ = one _ (owner_key code.owner key, refl)
+    by_way (Consents owner client mask key) sent = one _ (goes_to occasion GiveConsent sent, owner_key owner key)
+    by_way (Revokes x own) _ = one _ (ended x.sender x.digest x.token (live_is history x.digest occasion.arrival.moment x.token x.live).0 own)
+    by_way (Installs name version code operator) _ = one _ (operator_key operator)
+    by_way (Removes name operator) _ = one _ (operator_key operator)
+    by_way _ _ = All-nil Right
 
     pub authorized : IsAllAuthorized rules history occasion
-    authorized = at_each P rules history occasion by_way
+    authorized = at_each_sent P rules history occasion by_way
 
     -- ISOLATION
 
@@ -141,10 +141,6 @@ module _ (history : List Event) (m : ℕ) (is : IsHistory history m) where
         λ same. other (family_of right.0 right.1 g at (sym same ∙ sym right.2) ∙ one_bearer client right.0.client bears right.3)
     leaves client g bears at other _ right = tt
 
-    pub isolated : IsIsolated rules history occasion
-    isolated client g bears at other =
-        All-weaker Right (LeavesAlone history occasion.arrival.moment g) (leaves client g bears at other) (outcome_of rules history occasion).changes authorized
-
 -- the change ends no family
 abbrev is_quiet : Change → Bool
 is_quiet change = not (may_end change)
@@ -164,9 +160,7 @@ short_each rules history occasion = at_each (λ o. are_short o.changes ≡ true)
 module _ (history : List Event) (m : ℕ) (is : IsHistory history m) (rules : RegistryRecord) (occasion : Occasion) (family : ℕ)
     (lives : has_ended history family ≡ false) where
   abbrev Ends : Type 0
-  Ends =
-      IsAuthorized rules history occasion (FamilyEnded family)
-      ⊎ ((terms : Terms) × (code_terms history family ≡ Some terms) × BearsOwnerKey rules occasion.arrival.asked terms.owner)
+  Ends = IsAuthorized rules history occasion (FamilyEnded family) ⊎ IsConsentOfOwner rules history occasion family
 
   -- quiet changes end none
   all_quiet : (before : List Event) (changes : List Change) → list_all is_quiet changes ≡ true → has_ended before family ≡ false →
@@ -195,7 +189,7 @@ module _ (history : List Event) (m : ℕ) (is : IsHistory history m) (rules : Re
       by_terms None is h = absurd (false≢true h)
       by_terms (Some terms) is h =
           let same : owner ≡ terms.owner = grind (arith, nat_tests, h) in
-          inr (terms, is, subst (λ n. BearsOwnerKey rules occasion.arrival.asked n) same right)
+          inr (terms, is, subst (λ n. IsConsentOf rules occasion n) same right)
   by_one change right e =
       absurd (false≢true (sym (has_ended-push_other history (event_at occasion.arrival.moment change) family refl ∙ lives) ∙ e))
 
@@ -208,3 +202,27 @@ module _ (history : List Event) (m : ℕ) (is : IsHistory history m) (rules : Re
 pub ends_with_authority : (history : List Event) (m : ℕ) → IsHistory history m → (rules : RegistryRecord) (occasion : Occasion) → EndsWithAuthority rules history occasion
 ends_with_authority history m is rules occasion family lives e =
     by_all history m is rules occasion family lives (outcome_of rules history occasion).changes (short_each rules history occasion) (authorized history m is rules occasion) e
+
+module _ (history : List Event) (m : ℕ) (is : IsHistory history m) (rules : RegistryRecord) (occasion : Occasion) where
+  -- a family of another client ends by a consent of its owner alone
+  ends_by_owner : (client : ℕ) (g : Grant) → BearsCredentials rules occasion.arrival.asked client → Contains (grants history) g → g.client ≢ client →
+      EndsByOwnerAlone rules history occasion g.family
+  ends_by_owner client g bears at other = by_tests (has_ended history g.family) (has_ended (history_after rules history occasion) g.family) refl refl
+    where
+      by_tests : (before after : Bool) → has_ended history g.family ≡ before → has_ended (history_after rules history occasion) g.family ≡ after →
+          EndsByOwnerAlone rules history occasion g.family
+      by_tests true true was has = inl (has ∙ sym was)
+      by_tests false false was has = inl (has ∙ sym was)
+      by_tests true false was has =
+          absurd (false≢true (sym (ended_stays history (map (event_at occasion.arrival.moment) (outcome_of rules history occasion).changes) g.family has) ∙ was))
+      by_tests false true was has = elim (ends_with_authority history m is rules occasion g.family was has) [
+        | inl right ↦ absurd (leaves history m is rules occasion client g bears at other (FamilyEnded g.family) right refl)
+        | inr consent ↦ inr consent
+      ]
+
+  pub isolated : IsIsolated rules history occasion
+  isolated client g bears at other = (
+    All-weaker (IsAuthorized rules history occasion) (LeavesAlone history occasion.arrival.moment g) (leaves history m is rules occasion client g bears at other)
+        (outcome_of rules history occasion).changes (authorized history m is rules occasion),
+    ends_by_owner client g bears at other,
+  )

@@ -1,16 +1,16 @@
 -- What is given was decided by each hook.
-use Rattle.std.proofs.Common.{arith, ◌≡◌, inl, inr, ℕ, List, [], ◌∷◌, length, refl, sym, ap, ◌∙◌}
+use Rattle.std.proofs.Common.{arith, ◌≡◌, inl, inr, ℕ, List, [], ◌∷◌, Bool, Some, None, length, refl, sym, ap, ◌∙◌}
 use Rattle.headline.specs.Names.{Access, Refresh, Checked, narrowed_by, narrowed_by_hook}
-use Rattle.headline.proofs.Names.{fold, All-nil, All-cons, RegistryRecord, Change, Grant, grants, is_named, Spent, Token, Ask, Narrowed, Allowed, Denied, EmptyScope, met, met_with, Extent, Outcome}
+use Rattle.headline.proofs.Names.{if◌then◌else◌, ◌==◌, and_from, eq-eqb, digest_told, grant_at, is_code, is_own, is_refresh, where_passes, Kind, fold, All-nil, All-cons, RegistryRecord, Change, Grant, grants, is_named, Spent, Token, Ask, Narrowed, Allowed, Denied, EmptyScope, met, met_with, Extent, Outcome}
 use Rattle.headline.proofs.Names.{Setting, own_ask, access_issued, new_token, Occasion, outcome_of, setting_on}
-use Rattle.std.specs.Prelude.{All}
+use Rattle.std.specs.Prelude.{All, ◌⊎◌, option_and_then}
 use Rattle.consent.specs.History.{Event}
 use Rattle.consent.specs.Changes.{issued_with, token_issued}
 use Rattle.consent.specs.declared.change.NewToken.{NewToken}
 use Rattle.hook_chain.specs.Exits.{narrowed_further}
-use Rattle.headline.specs.Decided.{AllowInTurn, IsOfLeft, IsDecided}
+use Rattle.headline.specs.Decided.{IsCodeAsk, IsRefreshAsk, IsOwnAsk, IsAskOf, AllowInTurn, IsOfLeft, IsDecided}
 use Rattle.headline.proofs.Bearing.{find_contains}
-use Rattle.endpoints.proofs.Ways.{IsLeft, Refreshing, Way, ByToken, Once, Twice, Refreshed, Own, both_issued, code_ask, one_issued, outcome_by, refresh_ask}
+use Rattle.endpoints.proofs.Ways.{IsLeft, Proven, Refreshing, Sender, Use, Way, ByToken, Once, Twice, Refreshed, Own, both_issued, code_ask, one_issued, outcome_by, refresh_ask}
 use Rattle.headline.proofs.Ways.{at_each}
 
 -- what no hook changes stays
@@ -39,7 +39,7 @@ module _ (rules : RegistryRecord) (history : List Event) (occasion : Occasion) (
   s = setting_on rules history occasion
 
   abbrev Right : Change → Type 0
-  Right change = IsDecided hooks history occasion.arrival.moment change
+  Right change = IsDecided hooks s occasion.arrival.asked change
 
   abbrev P : Outcome → Type 0
   P o = All Right o.changes
@@ -59,25 +59,59 @@ module _ (rules : RegistryRecord) (history : List Event) (occasion : Occasion) (
   one : (change : Change) → Right change → All Right (change ∷ [])
   one change right = All-cons Right change [] right (All-nil Right)
 
+  -- what is used is found
+  found : (type name : List ℕ) (test : Kind → Bool) (x : Use s occasion.arrival.asked type name test) →
+      option_and_then (λ digest. where_passes (is_own test x.sender.known.number) (grant_at history digest occasion.arrival.moment)) (digest_told x.text) ≡ Some x.grant
+  found type name test x =
+      ap (option_and_then (λ digest. where_passes (is_own test x.sender.known.number) (grant_at history digest occasion.arrival.moment))) x.told
+      ∙ ap (where_passes (is_own test x.sender.known.number)) x.named
+      ∙ ap (λ b. if b then Some x.grant else None)
+      (and_from (test x.grant.kind) (x.grant.client == x.sender.known.number) x.kind_is (eq-eqb x.grant.client x.sender.known.number x.own))
+
+  -- just that is asked of the hooks
+  abbrev Asks : ℕ → Ask → Type 0
+  Asks family ask = IsAskOf s occasion.arrival.asked family ask
+
+  by_sender : (sender : Sender rules occasion.arrival.asked) (family : ℕ) (ask : Ask) →
+      IsCodeAsk s sender.params sender.known family ask ⊎ (IsRefreshAsk s sender.params sender.known family ask ⊎ IsOwnAsk s sender.params sender.known family ask) →
+      Asks family ask
+  by_sender sender family ask is = record {
+    params = sender.params;
+    known = sender.known;
+    bears = record { form = sender.form; authentic = sender.authenticates };
+    registered = sender.known_is;
+    is = is;
+  }
+
+  asks_code : (x : Proven s occasion.arrival.asked) → Asks x.code.grant.family (code_ask x)
+  asks_code x =
+      by_sender x.code.sender x.code.grant.family (code_ask x)
+      (inl (x.code.text, (x.code.typed, x.code.sent), x.code.grant, found _ _ is_code x.code, refl, refl))
+
+  asks_refresh : (x : Refreshing s occasion.arrival.asked) → Asks x.token.grant.family (refresh_ask x)
+  asks_refresh x =
+      by_sender x.token.sender x.token.grant.family (refresh_ask x)
+      (inr (inl (x.token.text, (x.token.typed, x.token.sent), x.token.grant, found _ _ is_refresh x.token, x.scope, x.asks, refl, refl)))
+
   -- a token of what is left of an ask
-  given : (ask : Ask) (left : Extent) → IsLeft s ask left → ask.now ≡ occasion.arrival.moment → (family client owner : ℕ) (token : NewToken) → ask.client ≡ client → ask.owner ≡ owner →
+  given : (ask : Ask) (left : Extent) → IsLeft s ask left → (family client owner : ℕ) → Asks family ask → (token : NewToken) → ask.client ≡ client → ask.owner ≡ owner →
       IsOfLeft history family token.kind token.scope token.life left.scope left.life → Right (token_issued family client owner token)
-  given ask left is now family client owner token its_client its_owner of =
+  given ask left is family client owner asks token its_client its_owner of =
       let by = left_by ask left is in
-      (ask, now, its_client, its_owner, by.0, by.1, left.scope, left.life, by.2, by.3, of)
+      (ask, asks, its_client, its_owner, by.0, by.1, left.scope, left.life, by.2, by.3, of)
 
-  one_given : (ask : Ask) (left : Extent) → IsLeft s ask left → ask.now ≡ occasion.arrival.moment → (g : Grant) → ask.client ≡ g.client → ask.owner ≡ g.owner → P (one_issued s g left)
-  one_given ask left is now g its_client its_owner =
+  one_given : (ask : Ask) (left : Extent) → IsLeft s ask left → (g : Grant) → Asks g.family ask → ask.client ≡ g.client → ask.owner ≡ g.owner → P (one_issued s g left)
+  one_given ask left is g asks its_client its_owner =
       All-cons Right (access_issued g s.draws.first left) (Spent g.digest ∷ [])
-      (given ask left is now g.family g.client g.owner (new_token Access s.draws.first left) its_client its_owner (refl, refl)) (one (Spent g.digest) tt)
+      (given ask left is g.family g.client g.owner asks (new_token Access s.draws.first left) its_client its_owner (refl, refl)) (one (Spent g.digest) tt)
 
-  both_given : (ask : Ask) (left : Extent) → IsLeft s ask left → ask.now ≡ occasion.arrival.moment → (g : Grant) → ask.client ≡ g.client → ask.owner ≡ g.owner →
+  both_given : (ask : Ask) (left : Extent) → IsLeft s ask left → (g : Grant) → Asks g.family ask → ask.client ≡ g.client → ask.owner ≡ g.owner →
       (kept : ℕ) → IsOfLeft history g.family Refresh kept rules.refresh_life left.scope left.life → P (both_issued s g left kept)
-  both_given ask left is now g its_client its_owner kept of =
+  both_given ask left is g asks its_client its_owner kept of =
       let more : NewToken = new_token Refresh s.draws.second (record { scope = kept; life = s.rules.refresh_life }) in
       All-cons Right (access_issued g s.draws.first left) (issued_with more g ∷ Spent g.digest ∷ [])
-      (given ask left is now g.family g.client g.owner (new_token Access s.draws.first left) its_client its_owner (refl, refl))
-      (All-cons Right (issued_with more g) (Spent g.digest ∷ []) (given ask left is now g.family g.client g.owner more its_client its_owner of) (one (Spent g.digest) tt))
+      (given ask left is g.family g.client g.owner asks (new_token Access s.draws.first left) its_client its_owner (refl, refl))
+      (All-cons Right (issued_with more g) (Spent g.digest ∷ []) (given ask left is g.family g.client g.owner asks more its_client its_owner of) (one (Spent g.digest) tt))
 
   -- the refresh token that is used is there
   replaced : (x : Refreshing s occasion.arrival.asked) (left : Extent) → IsOfLeft history x.token.grant.family Refresh x.token.grant.scope rules.refresh_life left.scope left.life
@@ -87,14 +121,15 @@ module _ (rules : RegistryRecord) (history : List Event) (occasion : Occasion) (
       inr (x.token.grant, find_contains (is_named x.token.digest occasion.arrival.moment) (grants history) x.token.grant x.token.named, kind, refl, refl)
 
   by_way : (way : Way s occasion.arrival.asked) → P (outcome_by way)
-  by_way (ByToken (Once x left is untaken)) = one_given (code_ask x) left is refl x.code.grant (sym x.code.own) refl
-  by_way (ByToken (Twice x left is untaken)) =
-      both_given (code_ask x) left is refl x.code.grant (sym x.code.own) refl left.scope (inl refl)
+  by_way (ByToken (Once x left is untaken)) = one_given (code_ask x) left is x.code.grant (asks_code x) (sym x.code.own) refl
+  by_way (ByToken (Twice x left is untaken)) = both_given (code_ask x) left is x.code.grant (asks_code x) (sym x.code.own) refl left.scope (inl refl)
   by_way (ByToken (Refreshed x left is untaken)) =
-      both_given (refresh_ask x) left is refl x.token.grant (sym x.token.own) refl x.token.grant.scope (replaced x left)
-  by_way (ByToken (Own sender typed scope left is untaken)) =
-      one _ (given (own_ask s sender.known scope) left is refl (length history) sender.known.number 0 (new_token Access s.draws.first left) refl refl (refl, refl))
+      both_given (refresh_ask x) left is x.token.grant (asks_refresh x) (sym x.token.own) refl x.token.grant.scope (replaced x left)
+  by_way (ByToken (Own sender typed scope left is free)) =
+      let ask = own_ask s sender.known scope in
+      let asks = by_sender sender (length history) ask (inr (inr (typed, scope, free.1, refl, refl))) in
+      one _ (given ask left is (length history) sender.known.number 0 asks (new_token Access s.draws.first left) refl refl (refl, refl))
   by_way _ = search (All-nil Right, one)
 
-  pub decided : All (IsDecided hooks history occasion.arrival.moment) (outcome_of rules history occasion).changes
+  pub decided : All (IsDecided hooks s occasion.arrival.asked) (outcome_of rules history occasion).changes
   decided = at_each P rules history occasion by_way

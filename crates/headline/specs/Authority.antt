@@ -1,13 +1,17 @@
 -- Whose credentials and keys bring about what happens.
-use Rattle.std.specs.Prelude.{◌≡◌, ◌≢◌, ◌⊎◌, ℕ, List, true, false, Some, All, Contains, length}
+use Rattle.std.specs.Prelude.{◌≡◌, ◌≢◌, ◌⊎◌, ℕ, List, true, false, Some, All, Contains, codes, length}
 use Rattle.headline.specs.Names.{RegistryRecord, Change, Grant, Terms, code_terms, grant_at, grants, has_ended, Consented, CodeGiven, Issued, Spent, FamilyEnded}
 use Rattle.consent.specs.History.{Event}
 use Rattle.headline.specs.Bearers.{BearsCredentials, BearsOwnerKey, BearsOperatorKey}
-use Rattle.headline.specs.Occasions.{Occasion, history_after, outcome_of}
+use Rattle.headline.specs.Occasions.{Occasion, GoesTo, history_after, outcome_of}
+
+-- the request is a consent of the owner of this number: it goes to /consent, with the owner's key
+abbrev pub IsConsentOf : RegistryRecord → Occasion → ℕ → Type 0
+IsConsentOf rules occasion owner = GoesTo occasion (codes "/consent") × BearsOwnerKey rules occasion.arrival.asked owner
 
 -- the request bears what the change wants: the operator's key, the owner's key, or the credentials of the family's client
 abbrev pub IsAuthorized : RegistryRecord → List Event → Occasion → Change → Type 0
-IsAuthorized rules history occasion (Consented owner client mask) = BearsOwnerKey rules occasion.arrival.asked owner
+IsAuthorized rules history occasion (Consented owner client mask) = IsConsentOf rules occasion owner
 IsAuthorized rules history occasion (CodeGiven family code digest) =
     BearsOwnerKey rules occasion.arrival.asked code.owner × (family ≡ length history)
 IsAuthorized rules history occasion (Issued family parties token) =
@@ -22,13 +26,17 @@ IsAuthorized rules history occasion of_a_hook = BearsOperatorKey rules occasion.
 abbrev pub IsAllAuthorized : RegistryRecord → List Event → Occasion → Type 0
 IsAllAuthorized rules history occasion = All (IsAuthorized rules history occasion) (outcome_of rules history occasion).changes
 
--- Where a family ends that had not ended, the request bears the credentials of a client of one of its codes and tokens, or the
--- key of the owner of its code.
+-- the family has a code, and the request is a consent of its owner
+abbrev pub IsConsentOfOwner : RegistryRecord → List Event → Occasion → ℕ → Type 0
+IsConsentOfOwner rules history occasion family =
+    (terms : Terms) × (code_terms history family ≡ Some terms) × IsConsentOf rules occasion terms.owner
+
+-- Where a family ends that had not ended, the request bears the credentials of a client of one of its codes and tokens, or is a
+-- consent of the owner of its code.
 abbrev pub EndsWithAuthority : RegistryRecord → List Event → Occasion → Type 0
 EndsWithAuthority rules history occasion =
     (family : ℕ) → has_ended history family ≡ false → has_ended (history_after rules history occasion) family ≡ true →
-    IsAuthorized rules history occasion (FamilyEnded family)
-    ⊎ ((terms : Terms) × (code_terms history family ≡ Some terms) × BearsOwnerKey rules occasion.arrival.asked terms.owner)
+    IsAuthorized rules history occasion (FamilyEnded family) ⊎ IsConsentOfOwner rules history occasion family
 
 -- the change adds nothing to the family of the code or token, which it neither uses nor ends
 abbrev pub LeavesAlone : List Event → ℕ → Grant → Change → Type 0
@@ -38,8 +46,14 @@ LeavesAlone history moment g (Spent digest) = grant_at history digest moment ≢
 LeavesAlone history moment g (FamilyEnded family) = family ≢ g.family
 LeavesAlone history moment g change = Unit {0}
 
--- what comes of a request with a client's credentials leaves each other client's codes and tokens alone
+-- the family has ended after the request just where it had before, unless the request is a consent of the owner of its code
+abbrev pub EndsByOwnerAlone : RegistryRecord → List Event → Occasion → ℕ → Type 0
+EndsByOwnerAlone rules history occasion family =
+    (has_ended (history_after rules history occasion) family ≡ has_ended history family) ⊎ IsConsentOfOwner rules history occasion family
+
+-- What comes of a request with a client's credentials leaves each other client's codes and tokens alone. It ends none of their
+-- families, unless it is a consent of the owner besides.
 abbrev pub IsIsolated : RegistryRecord → List Event → Occasion → Type 0
 IsIsolated rules history occasion =
     (client : ℕ) (g : Grant) → BearsCredentials rules occasion.arrival.asked client → Contains (grants history) g → g.client ≢ client →
-    All (LeavesAlone history occasion.arrival.moment g) (outcome_of rules history occasion).changes
+    All (LeavesAlone history occasion.arrival.moment g) (outcome_of rules history occasion).changes × EndsByOwnerAlone rules history occasion g.family

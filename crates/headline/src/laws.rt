@@ -74,15 +74,15 @@ pub fn codes_are_bound()
     ensures { OnEachOccasion BindsCodes }
 {}
 
-/// Nothing happens without authority: hooks are set and removed with the operator's key, consents and codes are given with the
-/// key of their owner, and tokens are given, codes and tokens used and families ended with the credentials of the family's
-/// client.
+/// Nothing happens without authority: hooks are set and removed with the operator's key, consents (at `/consent`) and codes are
+/// given with the key of their owner, and tokens are given, codes and tokens used and families ended with the credentials of the
+/// family's client.
 pub fn nothing_happens_without_authority<H: HookHost>()
     ensures { AtEachServer H.HookHost IsAllAuthorized }
 {}
 
-/// No family ends without authority: it ends with the credentials of its client or, where a consent falls below the scope of
-/// its code, with the key of that code's owner. Without any request codes and tokens only expire.
+/// No family ends without authority: it ends with the credentials of its client or, where a consent at `/consent` falls below
+/// the scope of its code, with the key of that code's owner. Without any request codes and tokens only expire.
 #[tactic(auto, using(crate::proofs::Bearing::ends_with_authority))]
 pub fn no_family_ends_without_authority<H: HookHost>()
     ensures { AtEachServer H.HookHost EndsWithAuthority }
@@ -102,21 +102,24 @@ pub fn a_replay_kills_its_family()
     ensures { OnEachOccasion ReplaysKill }
 {}
 
-/// Clients are isolated: what comes of a request with one client's credentials adds nothing to another client's families, uses
-/// none of its codes and tokens, and ends none of its families.
+/// Clients are isolated: what comes of a request with one client's credentials adds nothing to another client's families and
+/// uses none of its codes and tokens. It ends none of its families, unless the request is at once a consent of the owner of the
+/// family's code, at `/consent` and with that owner's key.
 pub fn clients_are_isolated<H: HookHost>()
     ensures { AtEachServer H.HookHost IsIsolated }
 {}
 
 /// No two codes or tokens come from one draw: in each history that a schedule leads to, each has the digest of a draw of its
-/// own, which was handed in for a request that was answered, or was there when the server went on from what was kept.
+/// own, which was handed in for an answered request that wants draws, as `GET /authorize` and `POST /token` do; or it was there
+/// when the server went on from what was kept.
 #[tactic(auto, using(crate::proofs::Drawing::are_drawn))]
 pub fn tokens_come_from_draws_of_their_own<H: HookHost>()
     ensures { AreDrawn H.HookHost }
 {}
 
-/// No grant goes around the hooks: each token that is given is what a chain's hooks left, each asked in its turn, of an ask
-/// that says its client and its owner, and none of them denied it.
+/// No grant goes around the hooks: each token that is given is what a chain's hooks left, each asked in its turn, and none of
+/// them denied it. They are asked just what the request asks for (`ask_for`, in each of its fields): a grant of the type that it
+/// names, to its client, by the owner and within the scope of what it presents.
 pub fn no_grant_goes_around_the_hooks()
     ensures { OnEachOccasion IsAllDecided }
 {}
