@@ -49,6 +49,8 @@ pub trait ImageKeeper: Keeper {
         // An image is refused only where what is kept is long, and that is as it was.
         ensures refused { IfErr result (λ fault. fault ≢ Failed → is_long self.old) }
         ensures same { IfErr result (λ fault. fault ≢ Failed → self.new ≡ self.old) }
+        ensures fails { IsErrOf result Failed → Self.has_failed self.new }
+        ensures works { OnOk result (¬ (Self.has_failed self.new)) }
         ensures failed { IsErrOf result Failed → KeepsNoImage H.HookHost (crashes Self.stands_for Self.tells Self.may_leave Self.moment Self.left_since) server.now self.old self.new }
         ensures basis { OnOk result (KeepsBasis (crashes Self.stands_for Self.tells Self.may_leave Self.moment Self.left_since) self.old self.new) }
         ensures meanwhile { TellsBasis (crashes Self.stands_for Self.tells Self.may_leave Self.moment Self.left_since) self.old self.new };

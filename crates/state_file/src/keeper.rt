@@ -84,7 +84,7 @@ impl<D: Device> StateKeeper<D> {
 }
 
 impl<D: Device> Keeper for StateKeeper<D> {
-    ghost use Rattle.std.specs.Prelude.{◌≡◌, ◌⊎◌, ◌+◌, ◌-◌, ◌^◌, Some, min};
+    ghost use Rattle.std.specs.Prelude.{◌≡◌, ◌⊎◌, ◌+◌, ◌-◌, ◌^◌, Some, IsSome, min};
     ghost use Rattle.std.proofs.Common.{inl};
     ghost use Rattle.state_file.specs.Knowing.{LeftTells};
     ghost use Rattle.state_file.specs.Standing.{StandsFor};
@@ -101,6 +101,9 @@ impl<D: Device> Keeper for StateKeeper<D> {
 
     // With the closed latch behind the last frame.
     ghost size_of = { λ k. Some (min (k.file.end + 1) (2 ^ 64 - 1)) };
+
+    // It has a fault, and keeps nothing more.
+    ghost has_failed = { λ k. IsSome k.fault };
 
     ghost only_now = { λ k c left. inl (D.only_now k.file.device c left) };
 

@@ -1,6 +1,6 @@
 //! An image of a server in the place of all that a state file has.
 
-ghost use Rattle.std.specs.Prelude.{◌≡◌, ◌≢◌, ◌<◌, ◌^◌, true, false, length, OnOk, IfOk, IfErr, IsErrOf};
+ghost use Rattle.std.specs.Prelude.{◌≡◌, ◌≢◌, ◌<◌, ◌^◌, true, false, length, OnOk, IfOk, IfErr, IsErrOf, IsSome};
 ghost use Rattle.batch_file.specs.Frames.{recovered};
 ghost use Rattle.endpoints.specs.Imaging.{KeepsImage, KeepsNoImage};
 ghost use Rattle.endpoints.specs.declared.image_keeper.ImageFault.TheVariants.{TooLong, Failed};
@@ -69,6 +69,8 @@ impl<D: Device> StateKeeper<D> {
         ensures refused { IfErr result (λ fault. fault ≢ Failed → IsLongFile D.seen self.old.file) }
         ensures same { IfErr result (λ fault. fault ≢ Failed → self.new ≡ self.old) }
         ensures too_much { IsErrOf result TooLong → HasTooMuch H.HookHost server.now (recovered (D.seen self.old.file.device)) }
+        ensures fails { IsErrOf result Failed → IsSome self.new.fault }
+        ensures works { OnOk result (¬ (IsSome self.new.fault)) }
         ensures failed { IsErrOf result Failed →
             KeepsNoImage H.HookHost (file_crashes D.Device) server.now self.old self.new }
     {

@@ -104,10 +104,11 @@ struct Patient<'t> {
     images: &'t Cell<usize>,
     /// Whether it has to refuse them.
     is_long: bool,
+    has_failed: bool,
 }
 
 impl Keeper for Patient<'_> {
-    ghost use Rattle.std.specs.Prelude.{⊤, None};
+    ghost use Rattle.std.specs.Prelude.{◌≡◌, ⊤, None, true};
 
     ghost stands_for = { λ _ _. ⊤ };
 
@@ -121,12 +122,18 @@ impl Keeper for Patient<'_> {
 
     ghost size_of = { λ _. None };
 
+    ghost has_failed = { λ keeper. keeper.has_failed ≡ true };
+
     fn keep_moment(&mut self, _now: Moment) -> Result<(), KeepFault> {
+        if self.has_failed {
+            return Err(KeepFault::Failed);
+        }
         self.moments = self.moments.saturating_add(1);
         Ok(())
     }
 
     fn keep(&mut self, batch: &Batch) -> Result<(), KeepFault> {
+        self.has_failed = true;
         if self.changes.len() >= self.most {
             return Err(KeepFault::Failed);
         }
@@ -137,6 +144,7 @@ impl Keeper for Patient<'_> {
             return Err(KeepFault::Failed);
         };
         self.kept.set(self.changes.len());
+        self.has_failed = false;
         Ok(())
     }
 
@@ -153,8 +161,14 @@ impl ImageKeeper for Patient<'_> {
     ghost is_long = { λ keeper. keeper.is_long ≡ true };
 
     fn put_image<H: HookHost>(&mut self, server: &Server<H>) -> Result<(), ImageFault> {
+        if self.has_failed {
+            return Err(ImageFault::Failed);
+        }
         match server.unkept() {
-            Some(batch) if !batch.is_empty() => return Err(ImageFault::Failed),
+            Some(batch) if !batch.is_empty() => {
+                self.has_failed = true;
+                return Err(ImageFault::Failed);
+            }
             _ => self.images.set(self.images.get().wrapping_add(1)),
         }
         if self.is_long {
@@ -208,6 +222,7 @@ fn outcome_of(
             moments: 0,
             images: &images,
             is_long,
+            has_failed: false,
         },
     };
     let fault = serve_all(&mut tools, limits(None));

@@ -1,4 +1,4 @@
-use Rattle.std.proofs.Common.{[], ◌∷◌, ◌++◌, refl}
+use Rattle.std.proofs.Common.{rules, [], ◌∷◌, ◌++◌, refl}
 use Rattle.state_file.proofs.Names.{recovered, Known}
 use Rattle.state_file.proofs.Kept.{HasNow, changes_stand, changes_tell, keeper_of, keeps, keeps_basis, keeps_not, tells_basis}
 use Rattle.state_file.proofs.Known.{known_changes}
@@ -24,6 +24,8 @@ returns-in-Ok g c =
     rw (← c.self.view_is) (record {
       kept = λ before after happened. keeps g.D.Device _ _ _ before after now (changes_stand was batch c.args.batch.now.facts before after c.bytes-2.ensures.spelled c.bytes-2.ensures.fits happened);
       lost = tt;
+      fails = tt;
+      works = search rules;
       basis = basis;
       meanwhile = basis.meanwhile;
     })
@@ -36,6 +38,8 @@ returns-in-Err g c =
     rw (← c.self.view_is) (record {
       kept = tt;
       lost = λ before after happened. keeps_not g.D.Device _ _ (was ++ batch ∷ []) before after any (changes_stand was batch c.args.batch.now.facts before after c.bytes-2.ensures.spelled c.bytes-2.ensures.fits happened);
+      fails = refl;
+      works = tt;
       basis = tt;
       meanwhile = tells_basis g.D.Device _ _ (was ++ batch ∷ []) any (changes_tell was batch c.args.batch.now.facts c.bytes-2.ensures.spelled);
     })

@@ -1,4 +1,4 @@
-use Rattle.std.proofs.Common.{arith, [], ◌∷◌, ◌++◌, refl}
+use Rattle.std.proofs.Common.{rules, arith, [], ◌∷◌, ◌++◌, refl}
 use Rattle.state_file.proofs.Names.{recovered, Until, Known}
 use Rattle.state_file.proofs.Kept.{HasNow, holds_basis, keeper_of, keeps, keeps_basis, keeps_not, tells_basis}
 use Rattle.state_file.proofs.Known.{known_horizon}
@@ -27,6 +27,8 @@ returns-in-Ok g c =
     rw (← c.self.view_is) (record {
       kept = λ history. keeps g.D.Device _ _ _ history history now (horizon_stands was c.horizon.result until history c.horizon.ensures less);
       lost = tt;
+      fails = tt;
+      works = search rules;
       told = holds_basis g.D.Device _ _ _ (Until c.args.now) now (let le = c.horizon_at-until.ensures.later in omega (arith, told, le));
       basis = basis;
       meanwhile = basis.meanwhile;
@@ -40,6 +42,8 @@ returns-in-Err g c =
     rw (← c.self.view_is) (record {
       kept = tt;
       lost = λ history. keeps_not g.D.Device _ _ (was ++ batch ∷ []) history history any (horizon_stands was batch c.horizon_at-until.result history c.horizon.ensures c.horizon_at-until.ensures.in_range);
+      fails = refl;
+      works = tt;
       told = tt;
       basis = tt;
       meanwhile = tells_basis g.D.Device _ _ (was ++ batch ∷ []) any (horizon_tells was batch c.horizon_at-until.result c.horizon.ensures);
