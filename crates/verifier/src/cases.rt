@@ -7,6 +7,7 @@ ghost use Rattle.verifier.specs.Waits.{IsAdded};
 ghost use Rattle.verifier.specs.WaitsParts.{cases_held, cases_in, IsFirst, IsFirstPlace, IsRoomFor};
 
 use crate::known::Known;
+use crate::later::Registers;
 use stack_state::difference::{MUCH, of_registers, of_stacks};
 use std::alloc::{AllocError, Global};
 use std::marker::Model;
@@ -14,6 +15,9 @@ use std::mem;
 
 /// How many cases may wait at a slot.
 const MOST: usize = 4;
+
+/// How much a join may lose of a register that is not read later: it tells apart what is else alike.
+const UNREAD: u32 = 1;
 
 /// How a few cases are held.
 #[derive(Drop)]
@@ -78,11 +82,13 @@ fn free_place(places: &[Option<Box<Known>>; MOST]) -> Option<usize> {
 }
 
 impl Known {
-    /// What a join with another case would lose, as far as a bound: where it is not less, some part of it.
-    fn loss(&self, other: &Known, bound: u32) -> u32 {
+    /// What a join with another case would lose, as far as a bound: where it is not less, some part of it. A register that is
+    /// not read later hardly counts.
+    fn loss(&self, other: &Known, later: Registers, bound: u32) -> u32 {
         let mut lost: u32 = 0;
         for i in 0..11 {
-            lost = lost.saturating_add(of_registers(self.registers[i], other.registers[i]));
+            let all = of_registers(self.registers[i], other.registers[i]);
+            lost = lost.saturating_add(if later.has(i) { all } else { all.min(UNREAD) });
         }
         of_stacks(&self.stack, &other.stack, lost, bound)
     }
@@ -94,6 +100,7 @@ fn nearest_to(
     places: &[Option<Box<Known>>; MOST],
     from: usize,
     known: &Known,
+    later: Registers,
     other: Option<usize>,
     mut nearest: Pair,
 ) -> Pair {
@@ -102,7 +109,7 @@ fn nearest_to(
             return nearest;
         }
         if let Some(waiting) = &places[place] {
-            let lost = waiting.loss(known, nearest.lost);
+            let lost = waiting.loss(known, later, nearest.lost);
             if lost < nearest.lost {
                 nearest = Pair { lost, place, other };
             }
@@ -112,10 +119,10 @@ fn nearest_to(
 }
 
 /// The pair of which a join loses least: an earlier one, or two that wait.
-fn nearest_two(places: &[Option<Box<Known>>; MOST], mut nearest: Pair) -> Pair {
+fn nearest_two(places: &[Option<Box<Known>>; MOST], later: Registers, mut nearest: Pair) -> Pair {
     for other in 0..MOST {
         if let Some(waiting) = &places[other] {
-            nearest = nearest_to(places, other + 1, waiting, Some(other), nearest);
+            nearest = nearest_to(places, other + 1, waiting, later, Some(other), nearest);
         }
     }
     nearest
@@ -168,7 +175,11 @@ fn merge(
 
 /// Where a case goes; nowhere where it was joined with one that waits. Where all places are taken, the two are joined of
 /// which that loses least.
-fn room_for(places: &mut [Option<Box<Known>>; MOST], known: &Known) -> Option<usize>
+fn room_for(
+    places: &mut [Option<Box<Known>>; MOST],
+    known: &Known,
+    later: Registers,
+) -> Option<usize>
     ensures four { length places.new ≡ 4 }
     ensures inside { IfSome result (λ place. place < 4) }
     ensures room { IsRoomFor places.old known.now places.new result }
@@ -176,14 +187,14 @@ fn room_for(places: &mut [Option<Box<Known>>; MOST], known: &Known) -> Option<us
     let free = free_place(places);
     let lost = if free.is_some() { MUCH } else { u32::MAX };
     let (place, other) = (0, None);
-    let near = nearest_to(places, 0, known, other, Pair { lost, place, other });
+    let near = nearest_to(places, 0, known, later, other, Pair { lost, place, other });
     if near.lost < MUCH {
         return settle(places, within(near.place), known);
     }
     if let Some(place) = free {
         return settle(places, within(place), known);
     }
-    let Pair { place, other, .. } = nearest_two(places, near);
+    let Pair { place, other, .. } = nearest_two(places, later, near);
     match other {
         Some(from) => merge(places, within(place), within(from), known),
         None => settle(places, within(place), known),
@@ -192,10 +203,10 @@ fn room_for(places: &mut [Option<Box<Known>>; MOST], known: &Known) -> Option<us
 
 /// Adds a case to those in some places, and says whether it stands beside them.
 #[inline(never)]
-fn place(places: &mut [Option<Box<Known>>; MOST], known: Box<Known>) -> bool
+fn place(places: &mut [Option<Box<Known>>; MOST], known: Box<Known>, later: Registers) -> bool
     ensures { IsAdded (cases_in places.old) known.value (cases_in places.new) }
 {
-    match room_for(places, &known) {
+    match room_for(places, &known, later) {
         Some(place) => {
             places[place] = Some(known);
             true
@@ -210,10 +221,11 @@ fn place_copy(
     places: &mut [Option<Box<Known>>; MOST],
     alloc: Global,
     known: &Known,
+    later: Registers,
 ) -> Result<bool, AllocError>
     ensures { IsOk result → IsAdded (cases_in places.old) known.now (cases_in places.new) }
 {
-    match room_for(places, known) {
+    match room_for(places, known, later) {
         Some(place) => {
             places[place] = Some(Box::new(alloc, *known)?);
             Ok(true)
@@ -329,29 +341,31 @@ impl Cases {
     /// Adds a case: beside them, or joined with one of them, or beside them with two of them joined. Says whether it stands
     /// beside others.
     #[inline]
-    pub(crate) fn push(&mut self, alloc: Global, known: Box<Known>) -> Result<bool, AllocError>
+    pub(crate) fn push(
+        &mut self,
+        alloc: Global,
+        known: Box<Known>,
+        later: Registers,
+    ) -> Result<bool, AllocError>
         ensures { IsOk result → IsAdded self.old known.value self.new }
     {
-        if self.is_empty() {
-            self.held = Held::One(known);
-            return Ok(false);
-        }
         let mut places = self.take_places(alloc)?;
-        let stands = place(&mut places, known);
+        let stands = place(&mut places, known, later);
         self.held = Held::Several(places);
         Ok(stands)
     }
 
     /// Adds a copy of a case in the same way.
-    pub(crate) fn push_copy(&mut self, alloc: Global, known: &Known) -> Result<bool, AllocError>
+    pub(crate) fn push_copy(
+        &mut self,
+        alloc: Global,
+        known: &Known,
+        later: Registers,
+    ) -> Result<bool, AllocError>
         ensures { IsOk result → IsAdded self.old known.now self.new }
     {
-        if self.is_empty() {
-            self.held = Held::One(Box::new(alloc, *known)?);
-            return Ok(false);
-        }
         let mut places = self.take_places(alloc)?;
-        let stands = place_copy(&mut places, alloc, known)?;
+        let stands = place_copy(&mut places, alloc, known, later)?;
         self.held = Held::Several(places);
         Ok(stands)
     }

@@ -71,7 +71,7 @@ fn walk(alloc: Global, program: &Program, layout: Layout) -> Result<Finding, All
 {
     let slots = program.slots();
     let mut rest = program.insns();
-    let mut waiting = Waiting::new(alloc, slots)?;
+    let mut waiting = Waiting::new(alloc, program, slots)?;
     let mut unreached = Vec::new(alloc);
     let mut onward = vec![in alloc; NOWHERE; slots]?;
     let mut slot = 0;

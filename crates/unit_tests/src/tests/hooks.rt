@@ -235,3 +235,36 @@ fn indexes_are_accepted_where_they_stay_in_the_table(rt: HostRuntime) -> Result<
     }
     Ok(())
 }
+
+/// A flag tells on which way the index was tested. Behind it eight ways meet, which differ in registers, too, that nothing
+/// reads later.
+const FLAG: &str = "\
+mov64 r0 1
+ldxdw r2 r1 24
+mov64 r3 0
+jgt64 r2 15 +1
+mov64 r3 1
+ldxdw r4 r1 8
+mov64 r5 1
+jeq64 r4 0 +5
+mov64 r5 2
+jeq64 r4 1 +3
+mov64 r5 3
+jeq64 r4 2 +1
+mov64 r5 4
+jeq64 r3 0 +4
+mov64 r6 r10
+add64 r6 -16
+add64 r6 r2
+stb r6 0 0
+exit
+";
+
+#[test]
+fn registers_that_are_not_read_later_keep_no_cases_apart(rt: HostRuntime) {
+    let Ok(HookAnswer::Code(code)) = ASSEMBLE.answer(rt.alloc(), Some(FLAG.as_bytes())) else {
+        panic!(rt; "{FLAG}");
+    };
+    let checked = check(Layout::V1).answer(rt.alloc(), Some(code.as_bytes()));
+    assert!(rt; matches!(checked, Ok(HookAnswer::Accepted(19))));
+}
