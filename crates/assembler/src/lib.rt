@@ -1,6 +1,6 @@
 //! The assembler of token hooks: programs from their text.
 //!
-//! The language stands in `insn` (`Text`): which texts say a program. `Faults` says why a text says none.
+//! The language stands in `assembly` (`Text`): which texts say a program. `Faults` says why a text says none.
 #![tactic(auto)]
 
 mod assembling;

@@ -5,6 +5,7 @@ use Rattle.hook_commands.specs.Names.{PointerMisuse, ExitsWithPointer, PointerRa
 use Rattle.std.specs.Box.{box_value}
 use Rattle.insn.specs.Meaning.{action_of}
 use Rattle.insn.specs.declared.instruction.Insn.{Insn}
+use Rattle.insn.specs.declared.register.RegNo.TheVariants.{R1, R10}
 use Rattle.manual.specs.Topics.{IsSaid}
 use Rattle.reg_kind.specs.declared.reg.Reg.{Reg}
 use Rattle.reg_kind.specs.declared.reg.Reg.TheVariants.{Unset}
@@ -51,12 +52,14 @@ IsHelp fault help = (said : Option (List ℕ)) × IsSaid (fault_name fault) said
 abbrev pub read_of : Known → Option RegNo → Option ReadRegister
 read_of known register = option_map (λ r. record { register = r; known = reg_of known r }) register
 
--- the register, if it is unset
+-- the register, if it is unset, as it was at the start, where r1 and r10 alone are set
 abbrev pub where_unset : RegNo → Reg → Option RegNo
+where_unset R1 known = None
+where_unset R10 known = None
 where_unset r Unset = Some r
 where_unset r known = None
 
--- the register that is read, if it is unset
+-- the register that is read, if it is unset, as it was at the start
 abbrev pub unset_among : Option ReadRegister → Option RegNo
 unset_among read = option_and_then (λ r. where_unset r.register r.known) read
 
@@ -75,8 +78,8 @@ AreCasesTold layout i (known ∷ cases) told =
     (one : ReadTold) × (others : List ReadTold) × (told ≡ one ∷ others) × IsReadTold layout i known one × AreCasesTold layout i cases others
 
 -- a refusal by the walk is told: what is known of what its instruction reads, in the case that is refused and in each other
--- one that waits there, a way that leads there, on which the first register stays unwritten that it finds unset, and what the
--- manual says of the fault
+-- one that waits there, a way that leads there, on which the first register stays unwritten that it finds unset, as it was at
+-- the start, and what the manual says of the fault
 pub record IsRefusalTold (layout : Layout) (program : List Insn) (r : Refusal) (told : RefusalTold) : Type 0 where
   pub fault : told.fault ≡ r.fault
   pub slot : told.slot ≡ r.slot

@@ -144,14 +144,15 @@ fn read_of(known: &Known, register: Option<RegNo>) -> Option<ReadRegister>
     })
 }
 
-/// The register that is read, if it is unset.
+/// The register that is read, if it is unset, as it was at the start, where r1 and r10 alone are set.
 fn unset_among(read: Option<ReadRegister>) -> Option<RegNo>
     ensures { result ≡ unset_among read }
 {
     let ReadRegister { register, known } = read?;
-    match known {
-        Reg::Unset => Some(register),
-        Reg::Number(_) | Reg::Record(_) | Reg::Stack(_) => None,
+    match (register, known) {
+        (RegNo::R1 | RegNo::R10, _) => None,
+        (_, Reg::Unset) => Some(register),
+        (_, Reg::Number(_) | Reg::Record(_) | Reg::Stack(_)) => None,
     }
 }
 
@@ -189,7 +190,8 @@ fn cases_told(
 }
 
 /// What is told of a refusal by the walk: the fault and the instruction, what is known of what it reads in each case, a way
-/// that leads there, on which nothing writes the first register that it finds unset, and what the manual says.
+/// that leads there, on which nothing writes the first register that it finds unset, as it was at the start, and what the
+/// manual says.
 fn refusal_told(
     alloc: Global,
     program: &Program,
