@@ -4,6 +4,7 @@ ghost use Rattle.std.specs.Prelude.{◌≡◌, ◌≢◌, OnOk, OnErr, IfOk, IfE
 ghost use Rattle.daemon.specs.Listening.{Announces, IsToldBy};
 ghost use Rattle.daemon.specs.Starts.{IsFresh, LivesOn, ServesAnew, handed_anew, handed_on};
 ghost use Rattle.daemon.specs.declared.fault.ListenFault.TheVariants.{Unwritten};
+ghost use Rattle.event_loop.specs.declared.fault.LoopFault.TheVariants.{Keep};
 ghost use Rattle.image_codec.specs.Facts.{hook_fact};
 
 use crate::announcement::Announcement;
@@ -113,6 +114,7 @@ pub fn start<'r, 'e, R: Net + Clock + RandomSource + AllocGlobal, W: Write, E: W
 ) -> Result<Served<'r, R>, ListenFault>
     ensures done { OnOk result (Announces (W.contents out.old) (W.contents out.new)) }
     ensures serves { IfOk result (ServesAnew ⟦<LineJournal<'e, E> as Journal>⟧ (handed_anew registry hooks terms.entry.limits)) }
+    ensures unblamed { IfOk result (λ served. served.fault ≢ Keep) }
     ensures silent { IfErr result (λ fault. fault ≢ Unwritten → out.new ≡ out.old) }
     ensures quiet { OnErr result (err.new ≡ err.old) }
 {

@@ -12,6 +12,7 @@ use Rattle.event_loop.specs.Done.{HaveDone}
 use Rattle.event_loop.specs.Reading as reading
 use Rattle.event_loop.specs.Writing as writing
 use Rattle.event_loop.specs.DurableLaws.{front_then, same_front, served_on}
+use Rattle.event_loop.specs.EndsLaws.{end_keeper}
 use Rattle.event_loop.proofs.Answering.{served_answered}
 use Rattle.event_loop.proofs.Lasting.{keeps_same, leaves_either, leaves_now, leaves_same}
 use Rattle.event_loop.proofs.Kept.{front_noted, kept_history, kept_last}
@@ -184,9 +185,9 @@ module _ {N C J K H : Type 0} (p : Promises N C J K H) where
   pub fails_does : (s s' : LoopState N C J K H) (fault : LoopFault) → CannotGoOn p s fault s' → FailDoes p s s'
   fails_does s s' fault (no_wait limit room n may done) = record { did = λ first before. deed.did _ n before done; reached = λ was. was; tells = (keeps_same p.keeping.crashes s.keeper s.keeper refl).meanwhile }
   fails_does s s' fault (no_time limit room found n c may done told) = record { did = λ first before. deed.did _ n before done; reached = λ was. was; tells = (keeps_same p.keeping.crashes s.keeper s.keeper refl).meanwhile }
-  fails_does s s' fault (no_moment limit room found n times c keeper may done told lost basis) = record { did = λ first before. deed.did _ n before done; reached = λ was. was; tells = basis }
-  fails_does s s' fault (not_kept keeper unkept undone lost basis) = record { did = λ first before. before; reached = λ was. was; tells = basis }
-  fails_does s s' fault (not_imaged keeper all lost basis) = record { did = λ first before. before; reached = λ was. was; tells = basis }
+  fails_does s s' fault (no_moment limit room found n times c keeper may done told lost basis asked) = record { did = λ first before. deed.did _ n before done; reached = λ was. was; tells = basis }
+  fails_does s s' fault (not_kept keeper unkept undone lost basis asked) = record { did = λ first before. before; reached = λ was. was; tells = basis }
+  fails_does s s' fault (not_imaged keeper all lost basis asked) = record { did = λ first before. before; reached = λ was. was; tells = basis }
   fails_does s s' fault (no_more many) = record { did = λ first before. before; reached = λ was. was; tells = (keeps_same p.keeping.crashes s.keeper s.keeper refl).meanwhile }
 
   -- what was kept is a front of what happened, wherever steps lead to
@@ -256,18 +257,6 @@ module _ {N C J K H : Type 0} (p : Promises N C J K H) where
     to = front_then b.kept s'.progress.journey.world.history s''.progress.journey.world.history b.to grows;
   }
 
-  -- closing keeps nothing
-  closes_keeper : (k : ℕ) (place : Place) (s s' : LoopState N C J K H) → Closes p k place s s' → s'.keeper ≡ s.keeper
-  closes_keeper k place s s' (leaves n e on noted done noting) = refl
-
-  shuts_keeper : (s s' : LoopState N C J K H) → Shuts p s s' → s'.keeper ≡ s.keeper
-  shuts_keeper s s' stops = refl
-  shuts_keeper s s' (shuts {s = before} k place shut here taken closing) = closes_keeper k place before s' closing ∙ shuts_keeper s before shut
-
-  pub end_keeper : (failed emptied end : LoopState N C J K H) → Shuts p failed emptied → TellsLast p emptied end → end.keeper ≡ failed.keeper
-  end_keeper failed emptied end shut (reports_last report journal wanted tells done) = shuts_keeper failed emptied shut
-  end_keeper failed emptied end shut (tells_nothing unwanted) = shuts_keeper failed emptied shut
-
   -- what the sockets did, from the first state on
   served_did : (first s : LoopState N C J K H) → Served p first s → HaveDone p.sockets first.sockets s.calls s.sockets
   served_did first s (begins is) = subst (λ (calls : List Call). HaveDone p.sockets first.sockets calls s.sockets) (sym is.calls) deed.nothing
@@ -316,14 +305,14 @@ module _ {N C J K H : Type 0} (p : Promises N C J K H) where
     -- where something failed then, it may also leave all that had happened
     fails_leave : (last failed : LoopState N C J K H) (fault : LoopFault) → Onward p s last → CannotGoOn p last fault failed →
         Leaves p.keeping.crashes s.keeper failed.keeper (λ c. StandsBetween p s before last c ⊎ p.keeping.crashes.stands_for c last.progress.journey.world.history)
-    fails_leave last failed fault on (no_moment limit room found n times c keeper may done told lost basis) =
+    fails_leave last failed fault on (no_moment limit room found n times c keeper may done told lost basis asked) =
         let now = (onward_carries first s last served on).kept before is in
         leaves_either p.keeping.crashes s.keeper last.keeper keeper now.0 now.0 _ _ (leaves_between last on) ((lost now.0).meanwhile (held_at last on now.0 now.1))
         (λ c old. inl (kept_between first s before last served is on now.0 now.1 c old)) (λ c old. inl (kept_between first s before last served is on now.0 now.1 c old)) (λ c. inl)
-    fails_leave last failed fault on (not_kept keeper unkept undone lost basis) =
+    fails_leave last failed fault on (not_kept keeper unkept undone lost basis asked) =
         leaves_either p.keeping.crashes s.keeper last.keeper keeper unkept.kept last.progress.journey.world.history _ _ (leaves_between last on) (lost.meanwhile (held_at last on unkept.kept unkept.here))
         (λ c old. inl (kept_between first s before last served is on unkept.kept unkept.here c old)) (λ c. inr) (λ c. inl)
-    fails_leave last failed fault on (not_imaged keeper all lost basis) =
+    fails_leave last failed fault on (not_imaged keeper all lost basis asked) =
         let now = (onward_carries first s last served on).kept before is in
         let held : Holds p.keeping.crashes last.keeper last.progress.journey.world.history = subst (λ (h : List Event). Holds p.keeping.crashes last.keeper h) (all now.0 now.1) (held_at last on now.0 now.1) in
         leaves_either p.keeping.crashes s.keeper last.keeper keeper last.progress.journey.world.history last.progress.journey.world.history _ _ (leaves_between last on) (lost.meanwhile held) (λ c. inr) (λ c. inr) (λ c. inl)
@@ -333,4 +322,4 @@ module _ {N C J K H : Type 0} (p : Promises N C J K H) where
     pub leaves_to_end : (last failed emptied end : LoopState N C J K H) (fault : LoopFault) → Onward p s last → CannotGoOn p last fault failed → Shuts p failed emptied → TellsLast p emptied end →
         Leaves p.keeping.crashes s.keeper end.keeper (λ c. StandsBetween p s before last c ⊎ p.keeping.crashes.stands_for c last.progress.journey.world.history)
     leaves_to_end last failed emptied end fault on failing shut told =
-        leaves_same p.keeping.crashes s.keeper failed.keeper end.keeper _ _ (fails_leave last failed fault on failing) (end_keeper failed emptied end shut told) (λ c stands. stands)
+        leaves_same p.keeping.crashes s.keeper failed.keeper end.keeper _ _ (fails_leave last failed fault on failing) (end_keeper p failed emptied end shut told) (λ c stands. stands)

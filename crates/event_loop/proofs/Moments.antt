@@ -3,9 +3,10 @@ use Rattle.std.proofs.Common.{◌≡◌, ◌≢◌, ◌⊎◌, inl, inr, ◌<◌
 use Rattle.event_loop.proofs.Names.{Until, HoldsBasis, KeepsBasis, TellsBasis, Times, AllFree, IsInService, IsOccupied, eqb_tells, World, Journey, Promises, LoopState, LoopStep, Served, Shuts}
 use Rattle.event_loop.proofs.Names.{TellsLast, begins, goes, LoopFault, Empty, Onward, stays, onward, MomentIsHeld, MomentStays, CannotGoOn}
 use Rattle.event_loop.specs.Calls.{waits}
+use Rattle.event_loop.specs.EndsLaws.{end_keeper}
 use Rattle.event_loop.specs.Served as step
 use Rattle.event_loop.proofs.Lasting.{keeps_same, keeps_then, leaves_told, tells_then}
-use Rattle.event_loop.proofs.Fronts.{Moves, IsSameTime, goes_on, keeps_all, keeps_still, step_moves, fails_does, end_keeper}
+use Rattle.event_loop.proofs.Fronts.{Moves, IsSameTime, goes_on, keeps_all, keeps_still, step_moves, fails_does}
 
 module _ {N C J K H : Type 0} (p : Promises N C J K H) where
   -- what was told is told behind each step

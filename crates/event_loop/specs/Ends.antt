@@ -29,13 +29,13 @@ pub data CannotGoOn {N C J K H : Type 0} (p : Promises N C J K H) (s : LoopState
       CannotGoOn p s Clock (record (with_call s (call.Waited limit room found) n) { clocks = c; found = found })
   no_moment : (limit : Option ℕ) (room : ℕ) (found : List Ready) (n : N) (times : Times) (c : C) (keeper : K) → MayWait p s limit room →
       p.sockets.does s.sockets (call.Waited limit room found) n → p.clocks.tells s.clocks (Some times) c →
-      HeldMeanwhile p.keeping.crashes s.keeper keeper → TellsBasis p.keeping.crashes s.keeper keeper →
+      HeldMeanwhile p.keeping.crashes s.keeper keeper → TellsBasis p.keeping.crashes s.keeper keeper → p.keeping.has_failed keeper →
       CannotGoOn p s Keep (record (with_call s (call.Waited limit room found) n) { clocks = c; keeper = keeper; found = found })
   not_kept : (keeper : K) (unkept : IsUnkept s.progress.journey.world) → ¬ (IsDone Keeping s.calls) →
-      KeepsNot p.keeping.crashes unkept.kept s.progress.journey.world.history s.keeper keeper → TellsBasis p.keeping.crashes s.keeper keeper →
+      KeepsNot p.keeping.crashes unkept.kept s.progress.journey.world.history s.keeper keeper → TellsBasis p.keeping.crashes s.keeper keeper → p.keeping.has_failed keeper →
       CannotGoOn p s Keep (record s { keeper = keeper })
   not_imaged : (keeper : K) → IsAllKept s.progress.journey.world →
-      KeepsNot p.keeping.crashes s.progress.journey.world.history s.progress.journey.world.history s.keeper keeper → TellsBasis p.keeping.crashes s.keeper keeper →
+      KeepsNot p.keeping.crashes s.progress.journey.world.history s.progress.journey.world.history s.keeper keeper → TellsBasis p.keeping.crashes s.keeper keeper → p.keeping.has_failed keeper →
       CannotGoOn p s Keep (record s { keeper = keeper })
   no_more : rounds_limit ≤ call.waits s.calls → CannotGoOn p s Rounds s
 

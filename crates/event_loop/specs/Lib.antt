@@ -17,6 +17,7 @@ pub mod Durable
 pub mod DurableLaws
 pub mod Answered
 pub mod Ends
+pub mod EndsLaws
 -- What only the contracts of this crate's own parts and their proofs cite.
 pub mod GivingParts
 pub mod Goes

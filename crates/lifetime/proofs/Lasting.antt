@@ -7,6 +7,7 @@ use Rattle.change_codec.specs.Keeping as keeping
 use Rattle.hook_chain.specs.contracts.chain.ChainHookHost.TheImpl as chain
 use Rattle.lifetime.proofs.Losing.{Bears, leaves_then, more_loses, old_or_loses, whole_by}
 use Rattle.event_loop.proofs.Fronts.{served_front}
+use Rattle.event_loop.specs.EndsLaws.{blamed_failed}
 use Rattle.state_file.proofs.Put.{leaves_weaker}
 
 module _ {D N C J : Type 0} (p : LifePromises D N C J) (only_now : (d : D) (c : List ℕ) → p.device.left_since d (p.device.moment d) c → p.device.may_leave d c)
@@ -150,6 +151,7 @@ module _ {D N C J : Type 0} (p : LifePromises D N C J) (only_now : (d : D) (c : 
       edge = edge;
       reached = reached;
       served = served;
+      blamed = blamed_failed (in_loop p) _ ending.fault ending.tools served;
       bounded = bounded_at;
       keeps = keeps_at;
       keeps_then = keeps_then_at;

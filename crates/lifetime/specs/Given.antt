@@ -1,5 +1,5 @@
 -- What a life is handed, and what is promised of that.
-use Rattle.std.specs.Prelude.{ℕ, ◌+◌, ◌-◌, ◌^◌, min, List, Some}
+use Rattle.std.specs.Prelude.{ℕ, ◌+◌, ◌-◌, ◌^◌, min, List, Some, IsSome}
 use Rattle.lifetime.specs.Names.{RegistryRecord, Keeping, Promises, LoopState, promises, Journal, Named, HookFact, IsLongFile, SeenKeeper, file_crashes, LifeEnd}
 use Rattle.batch_file.specs.declared.device.Device.{Ghosts as Device}
 use Rattle.event_loop.specs.declared.clocks.Clocks.{Ghosts as Clocks}
@@ -28,6 +28,7 @@ abbrev pub file_keeping : {D : Type 0} → Device D → Keeping (SeenKeeper D)
 file_keeping device = record {
   crashes = file_crashes device;
   size = λ keeper. Some (min (keeper.file.end + 1) (2 ^ 64 - 1));
+  has_failed = λ keeper. IsSome keeper.fault;
   is_long = λ keeper. IsLongFile device.seen keeper.file;
 }
 

@@ -1,9 +1,10 @@
 -- One life of a server on the file of its state.
-use Rattle.std.specs.Prelude.{◌≡◌, ◌⊎◌, ℕ, List, [], None, Some}
+use Rattle.std.specs.Prelude.{◌≡◌, ◌⊎◌, ℕ, List, [], None, Some, IsSome}
 use Rattle.lifetime.specs.Names.{LeavesOnly, RegistryRecord, Event, IsFrontOf, outset_of, Onward, Beginning, HasServed, ServesNothing, Served, Named, SeenEdge, Reached, resumed_journey, SeenKeeper}
 use Rattle.lifetime.specs.Names.{HookFact, OfEachRun, StandsFor, IsOfDisk, IsUntouched, TellsRules, rules_of, StateFault}
 use Rattle.endpoints.specs.Bounded.{AllRight, IsBounded}
 use Rattle.endpoints.specs.Hosts.{HostRun}
+use Rattle.event_loop.specs.declared.fault.LoopFault.TheVariants.{Keep}
 use Rattle.hook_chain.specs.contracts.chain.ChainHookHost.TheImpl as chain
 use Rattle.lifetime.specs.Given.{Given, LifePromises, LifeState, in_loop, life_of, given as handed}
 use Rattle.lifetime.specs.Plans.{IsPlanOf, RefusesPlan, begun_from}
@@ -53,15 +54,17 @@ LeavesKept p rules s device all =
     (kept : List Event) × (s.progress.journey.world.kept ≡ Some kept) × Leaves p s.keeper.file.device device (IsWhole rules kept all)
 
 -- The server goes on from the history `before`: steps of the loop lead from there to its last state, and that is what its
--- sockets, its clocks and its journal did (`served`). At each state all codes and tokens keep to the registry's allowances and
--- lives, and to consents (`bounded`). What is kept at a state is in all that a crash leaves from then on, up to another state
--- (`keeps`) or to the end of the life (`keeps_then`), and nothing that has not happened. A crash at any moment of the life left
--- what one before it might have left, or all of `before` (`loses_nothing`).
+-- sockets, its clocks and its journal did (`served`). Where that ended since something could not be kept, its keeper has a
+-- fault (`blamed`). At each state all codes and tokens keep to the registry's allowances and lives, and to consents
+-- (`bounded`). What is kept at a state is in all that a crash leaves from then on, up to another state (`keeps`) or to the end
+-- of the life (`keeps_then`), and nothing that has not happened. A crash at any moment of the life left what one before it
+-- might have left, or all of `before` (`loses_nothing`).
 pub record HasLived {D N C J : Type 0} (p : LifePromises D N C J) (given : Given D N C J) (begun : Begun D N C J) (before : List Event)
     (ending : Ending N C J (SeenKeeper D)) : Type 0 where
   pub edge : SeenEdge (List Named)
   pub reached : Reached chain.ghosts edge (loop_of given begun edge before).journey
   pub served : HasServed (in_loop p) (loop_of given begun edge before) ending.fault ending.tools
+  pub blamed : ending.fault ≡ Keep → IsSome ending.tools.keeper.fault
   pub bounded : (s : LifeState D N C J) → Served (in_loop p) served.first s → IsBounded given.registry s.progress.journey.world.history
   pub keeps : (s s' : LifeState D N C J) → Served (in_loop p) served.first s → Onward (in_loop p) s s' →
       LeavesKept p given.registry s s'.keeper.file.device s'.progress.journey.world.history

@@ -1,8 +1,10 @@
 //! A server that serves its connections until it can't go on.
 
+ghost use Rattle.std.specs.Prelude.{◌≢◌};
 ghost use Rattle.endpoints.specs.Keeping.{keeping};
 ghost use Rattle.event_loop.specs.Ends.{RunEnds};
 ghost use Rattle.event_loop.specs.LoopStates.{promises};
+ghost use Rattle.event_loop.specs.declared.fault.LoopFault.TheVariants.{Keep};
 ghost use Rattle.lifetime.specs.Anew.{IsLifeAnew, keeping_nothing};
 ghost use Rattle.lifetime.specs.Serving.{tools_of};
 
@@ -64,8 +66,9 @@ pub fn live_anew<N: Sockets, C: Clocks, J: Journal>(
     hooks: Chain,
     means: Means<N, C, J>,
 ) -> AnewEnd<N, C, J>
-    ensures { IsLifeAnew (promises N.Sockets C.Clocks J.Journal keeping_nothing ⟦<Chain as HookHost>⟧)
+    ensures life { IsLifeAnew (promises N.Sockets C.Clocks J.Journal keeping_nothing ⟦<Chain as HookHost>⟧)
         (record { rules = registry; first = hooks }) means result }
+    ensures unblamed { result.fault ≢ Keep }
 {
     let edge = Edge::new(alloc, Server::new(alloc, registry, hooks));
     let Ending { fault, tools } = serve_by(edge, NoKeeper, means);

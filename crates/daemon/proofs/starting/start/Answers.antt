@@ -8,5 +8,8 @@ returns-clause-serves g c =
       means = c.means_of-means.result;
       fresh = record { undone = fresh.undone; untold = fresh.untold; limits_are = fresh.limits_are; ahead_is = refl };
       lines = c.live_anew-fault.result.journal;
-      life = c.live_anew-fault.ensures;
+      life = c.live_anew-fault.ensures.life;
     }
+
+pub returns-clause-unblamed : goal.returns-clause-unblamed
+returns-clause-unblamed g c = c.live_anew-fault.ensures.unblamed

@@ -19,7 +19,7 @@ returns-in_default-clause-kept g c = λ first found service past undone h reache
 pub returns-in_default-keep-clause-lost : goal.returns-in_default-keep-clause-lost
 returns-in_default-keep-clause-lost g c = λ first found service past undone h reached.
     let unkept = c.in-Some.ensures.some past.journey reached in
-    not_kept c.keep.new.self unkept.0 undone (c.in_default-keep.ensures.lost unkept.0.kept past.journey.world.history unkept.1) c.keep.ensures.meanwhile
+    not_kept c.keep.new.self unkept.0 undone (c.in_default-keep.ensures.lost unkept.0.kept past.journey.world.history unkept.1) c.keep.ensures.meanwhile c.in_default-keep.ensures.fails
 
 pub returns-clause-kept : goal.returns-clause-kept
 returns-clause-kept g c = λ first found service past undone h reached.

@@ -20,7 +20,8 @@ returns-in_default-put_image-clause-put g c = λ first found past h reached.
 pub returns-in-Failed-clause-failed : goal.returns-in-Failed-clause-failed
 returns-in-Failed-clause-failed g c = λ first found past h reached.
     let all = c.in_default.ensures.none past.journey reached in
-    not_imaged c.put_image.new.self all (c.in-Err.ensures.failed (ap (λ (fault : ImageFault). Err fault) c.in-Failed.is) past.journey.outset past.journey.world.history past.journey.world.greatest (rw c.server.ensures reached.server)) c.put_image.ensures.meanwhile
+    let failed = ap (λ (fault : ImageFault). Err fault) c.in-Failed.is in
+    not_imaged c.put_image.new.self all (c.in-Err.ensures.failed failed past.journey.outset past.journey.world.history past.journey.world.greatest (rw c.server.ensures reached.server)) c.put_image.ensures.meanwhile (c.in-Err.ensures.fails failed)
 
 pub returns-in_default-fault-clause-put : goal.returns-in_default-fault-clause-put
 returns-in_default-fault-clause-put g c = λ first found past h reached.

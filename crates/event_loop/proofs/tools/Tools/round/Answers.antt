@@ -45,7 +45,7 @@ returns-in_default-keep_moment-clause-wrong g c = λ first past begun was_ready.
       served = may.0;
       found = heard;
       next = record past { calls = call.Waited c.wait_limit-limit.result (length c.wait.new.found) heard ∷ past.calls };
-      fails = no_moment c.wait_limit-limit.result (length c.wait.new.found) heard c.wait.new.self c.in-Some-read.times c.read.new.self c.keep_moment.new.self may.1.1 c.in-Some.ensures.done c.in-Some-read.ensures c.in_default-keep_moment.ensures.lost c.keep_moment.ensures.meanwhile;
+      fails = no_moment c.wait_limit-limit.result (length c.wait.new.found) heard c.wait.new.self c.in-Some-read.times c.read.new.self c.keep_moment.new.self may.1.1 c.in-Some.ensures.done c.in-Some-read.ensures c.in_default-keep_moment.ensures.lost c.keep_moment.ensures.meanwhile c.in_default-keep_moment.ensures.fails;
     }
 
 pub returns-in-Err-keep_all-clause-wrong : goal.returns-in-Err-keep_all-clause-wrong
