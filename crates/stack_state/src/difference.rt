@@ -2,6 +2,7 @@
 
 use crate::block::Block;
 use crate::bytes::Bytes;
+use crate::later::Read;
 use crate::mark::Mark;
 use crate::stack::Stack;
 use reg_kind::{Reg, Span};
@@ -118,15 +119,18 @@ pub fn of_registers(a: Reg, b: Reg) -> u32 {
     of_values(a, b, REGISTER)
 }
 
-/// Of two stacks, added to what else is lost, as far as a bound: from the last block on, where C keeps its variables.
-pub fn of_stacks(a: &Stack, b: &Stack, lost: u32, bound: u32) -> u32 {
+/// Of the blocks of two stacks that are read later, added to what else is lost, as far as a bound: from the last block on,
+/// where C keeps its variables.
+pub fn of_stacks(a: &Stack, b: &Stack, later: Read, lost: u32, bound: u32) -> u32 {
     let mut lost = lost;
     for i in 0..64 {
         if lost >= bound {
             return lost;
         }
         let k = 63 - i;
-        lost = lost.saturating_add(of_blocks(&a.blocks()[k], &b.blocks()[k]));
+        if later.has_block(k) {
+            lost = lost.saturating_add(of_blocks(&a.blocks()[k], &b.blocks()[k]));
+        }
     }
     lost
 }

@@ -7,8 +7,8 @@ ghost use Rattle.verifier.specs.Waits.{IsAdded};
 ghost use Rattle.verifier.specs.WaitsParts.{cases_held, cases_in, IsFirst, IsFirstPlace, IsRoomFor};
 
 use crate::known::Known;
-use crate::later::Registers;
 use stack_state::difference::{MUCH, of_registers, of_stacks};
+use stack_state::later::Read;
 use std::alloc::{AllocError, Global};
 use std::marker::Model;
 use std::mem;
@@ -83,14 +83,18 @@ fn free_place(places: &[Option<Box<Known>>; MOST]) -> Option<usize> {
 
 impl Known {
     /// What a join with another case would lose, as far as a bound: where it is not less, some part of it. A register that is
-    /// not read later hardly counts.
-    fn loss(&self, other: &Known, later: Registers, bound: u32) -> u32 {
+    /// not read later hardly counts, and such a block of the stack does not.
+    fn loss(&self, other: &Known, later: Read, bound: u32) -> u32 {
         let mut lost: u32 = 0;
         for i in 0..11 {
             let all = of_registers(self.registers[i], other.registers[i]);
-            lost = lost.saturating_add(if later.has(i) { all } else { all.min(UNREAD) });
+            lost = lost.saturating_add(if later.has_register(i) {
+                all
+            } else {
+                all.min(UNREAD)
+            });
         }
-        of_stacks(&self.stack, &other.stack, lost, bound)
+        of_stacks(&self.stack, &other.stack, later, lost, bound)
     }
 }
 
@@ -100,7 +104,7 @@ fn nearest_to(
     places: &[Option<Box<Known>>; MOST],
     from: usize,
     known: &Known,
-    later: Registers,
+    later: Read,
     other: Option<usize>,
     mut nearest: Pair,
 ) -> Pair {
@@ -119,7 +123,7 @@ fn nearest_to(
 }
 
 /// The pair of which a join loses least: an earlier one, or two that wait.
-fn nearest_two(places: &[Option<Box<Known>>; MOST], later: Registers, mut nearest: Pair) -> Pair {
+fn nearest_two(places: &[Option<Box<Known>>; MOST], later: Read, mut nearest: Pair) -> Pair {
     for other in 0..MOST {
         if let Some(waiting) = &places[other] {
             nearest = nearest_to(places, other + 1, waiting, later, Some(other), nearest);
@@ -175,11 +179,7 @@ fn merge(
 
 /// Where a case goes; nowhere where it was joined with one that waits. Where all places are taken, the two are joined of
 /// which that loses least.
-fn room_for(
-    places: &mut [Option<Box<Known>>; MOST],
-    known: &Known,
-    later: Registers,
-) -> Option<usize>
+fn room_for(places: &mut [Option<Box<Known>>; MOST], known: &Known, later: Read) -> Option<usize>
     ensures four { length places.new ≡ 4 }
     ensures inside { IfSome result (λ place. place < 4) }
     ensures room { IsRoomFor places.old known.now places.new result }
@@ -203,7 +203,7 @@ fn room_for(
 
 /// Adds a case to those in some places, and says whether it stands beside them.
 #[inline(never)]
-fn place(places: &mut [Option<Box<Known>>; MOST], known: Box<Known>, later: Registers) -> bool
+fn place(places: &mut [Option<Box<Known>>; MOST], known: Box<Known>, later: Read) -> bool
     ensures { IsAdded (cases_in places.old) known.value (cases_in places.new) }
 {
     match room_for(places, &known, later) {
@@ -221,7 +221,7 @@ fn place_copy(
     places: &mut [Option<Box<Known>>; MOST],
     alloc: Global,
     known: &Known,
-    later: Registers,
+    later: Read,
 ) -> Result<bool, AllocError>
     ensures { IsOk result → IsAdded (cases_in places.old) known.now (cases_in places.new) }
 {
@@ -345,7 +345,7 @@ impl Cases {
         &mut self,
         alloc: Global,
         known: Box<Known>,
-        later: Registers,
+        later: Read,
     ) -> Result<bool, AllocError>
         ensures { IsOk result → IsAdded self.old known.value self.new }
     {
@@ -360,7 +360,7 @@ impl Cases {
         &mut self,
         alloc: Global,
         known: &Known,
-        later: Registers,
+        later: Read,
     ) -> Result<bool, AllocError>
         ensures { IsOk result → IsAdded self.old known.now self.new }
     {

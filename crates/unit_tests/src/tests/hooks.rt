@@ -236,9 +236,11 @@ fn indexes_are_accepted_where_they_stay_in_the_table(rt: HostRuntime) -> Result<
     Ok(())
 }
 
-/// A flag tells on which way the index was tested. Behind it eight ways meet, which differ in registers, too, that nothing
-/// reads later.
-const FLAG: &str = "\
+/// Hooks in which a flag tells whether an index was tested, with their instructions. Eight ways meet behind it, which differ
+/// in what nothing reads later, too: in registers, and in eight bytes of the stack.
+const FLAGS: [(&str, usize); 2] = [
+    (
+        "\
 mov64 r0 1
 ldxdw r2 r1 24
 mov64 r3 0
@@ -258,13 +260,46 @@ add64 r6 -16
 add64 r6 r2
 stb r6 0 0
 exit
-";
+",
+        19,
+    ),
+    (
+        "\
+mov64 r0 1
+ldxdw r2 r1 24
+stdw r10 -16 0
+jgt64 r2 15 +1
+stdw r10 -16 1
+ldxdw r4 r1 8
+stxdw r10 -8 r1
+jeq64 r4 0 +5
+stxdw r10 -8 r10
+jeq64 r4 1 +3
+stdw r10 -8 3
+jeq64 r4 2 +1
+stdw r10 -8 4
+ldxdw r3 r10 -16
+jeq64 r3 0 +4
+mov64 r6 r10
+add64 r6 -32
+add64 r6 r2
+stb r6 0 0
+exit
+",
+        20,
+    ),
+];
 
 #[test]
-fn registers_that_are_not_read_later_keep_no_cases_apart(rt: HostRuntime) {
-    let Ok(HookAnswer::Code(code)) = ASSEMBLE.answer(rt.alloc(), Some(FLAG.as_bytes())) else {
-        panic!(rt; "{FLAG}");
-    };
-    let checked = check(Layout::V1).answer(rt.alloc(), Some(code.as_bytes()));
-    assert!(rt; matches!(checked, Ok(HookAnswer::Accepted(19))));
+fn what_is_not_read_later_keeps_no_cases_apart(rt: HostRuntime) {
+    for (text, insns) in FLAGS {
+        let Ok(HookAnswer::Code(code)) = ASSEMBLE.answer(rt.alloc(), Some(text.as_bytes())) else {
+            panic!(rt; "{text}");
+        };
+        let checked = check(Layout::V1).answer(rt.alloc(), Some(code.as_bytes()));
+        assert!(rt;
+            matches!(checked, Ok(HookAnswer::Accepted(count)) if count == insns),
+            "{text}"
+        );
+    }
 }
