@@ -6,7 +6,7 @@ import subprocess
 
 from crashes import consents
 from state_format import MARK, batches_of
-from state_trials import LIFE, bytes_of
+from state_trials import LIFE, bytes_of, gone
 
 DAY = 86400
 
@@ -68,8 +68,35 @@ def tries_far_ahead(trials):
     trials.served("a new file, far ahead", trials.make(f"{trials.room}/farther"), env=clock(trials, 400 * DAY))[0].end()
 
 
+def tries_a_jump(trials):
+    """A clock that jumps ahead by more than a year while a server runs ends it, by name, and nothing of that moment is kept."""
+    path, ahead = trials.make(f"{trials.room}/jump"), f"{trials.room}/ahead"
+    for seconds, ends in [(360 * DAY, False), (800 * DAY, True), (-500 * DAY, False)]:
+        begun, client = trials.served("a clock that will jump", path, env=clock(trials, ahead))
+        token = client.own_token()
+        kept = bytes_of(path)
+        with open(ahead, "w") as to:
+            to.write(str(seconds))
+        if not ends:
+            client.own_token()
+            begun.end()
+            continue
+        status, told = gone(begun, client)
+        if status != 2 or not told.startswith("oauthd: stopped: ClockAhead 38"):
+            trials.wrong("a clock that jumped", f"status {status}, {told!r}")
+        if bytes_of(path) != kept:
+            trials.wrong("a clock that jumped", "something was kept")
+        trials.path_refused("a start behind the jump", path, "ClockAhead", env=clock(trials, ahead))
+        with open(ahead, "w") as to:
+            to.write(str(360 * DAY))
+        begun, client = trials.served("a clock that was set", path, env=clock(trials, ahead))
+        if not client.is_active(token):
+            trials.wrong("a clock that was set", "a token is gone")
+        begun.end()
+
+
 def all_trials():
     if not shutil.which("gcc"):
         print("clocks were not tried: there is no gcc")
         return []
-    return [tries_told_by_the_clock, tries_far_ahead]
+    return [tries_told_by_the_clock, tries_far_ahead, tries_a_jump]

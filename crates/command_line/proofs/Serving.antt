@@ -1,7 +1,7 @@
 -- How a service fails.
 use Rattle.std.proofs.Common.{◌≡◌, inl, inr, ℕ, List, Option, None, Some, Result, Ok, Err, subst, sym}
 use Rattle.command_line.specs.Names.{HoldsRegistry, Announces, ListenFault}
-use Rattle.command_line.proofs.Names.{RegistryRecord, IsUntouched, Output, Outputs, HookFact, clock_limit, FailsService, HasAll, HasEnded, ServeEnded, ServiceFiles, handed, registry_bytes}
+use Rattle.command_line.proofs.Names.{RegistryRecord, IsUntouched, Output, Outputs, HookFact, FailsService, HasAll, HasEnded, ServeEnded, ServiceFiles, handed, registry_bytes}
 use Rattle.command_line.proofs.Names.{address_of, limits_of, EndsAnew, EndsOn, EndsStart, Startings, CommandFault, ServeWords, Service, Serve}
 use Rattle.std.specs.Prelude.{OnOk, IfErr}
 use Rattle.daemon.specs.Starts.{handed_anew, handed_on}
@@ -42,15 +42,14 @@ ended_anew starts service files fault out all limits none are ends = record {
 
 -- or on the file of its state
 pub ended_on : {W : Type 0} (starts : Startings) (service : Service) (files : ServiceFiles) (fault : CommandFault) (out : Output W) (all : HasAll service files)
-    (path : List ℕ) (codes : List HookFact) (limits : Limits) (ahead : Option ℕ) → all.given.options.state ≡ Some path → codes ≡ all.codes →
-    limits ≡ limits_of all.given.options → ahead ≡ clock_limit all.given.options.clock →
-    EndsOn starts path (handed_on all.registry codes limits ahead) fault out → HasEnded starts service files fault out
-ended_on starts service files fault out all path codes limits ahead named codes_are limits_are ahead_are ends = record {
+    (path : List ℕ) (codes : List HookFact) (limits : Limits) → all.given.options.state ≡ Some path → codes ≡ all.codes →
+    limits ≡ limits_of all.given.options →
+    EndsOn starts path (handed_on all.registry codes limits) fault out → HasEnded starts service files fault out
+ended_on starts service files fault out all path codes limits named codes_are limits_are ends = record {
   all = all;
   ends = subst (λ (o : Option (List ℕ)). EndsStart starts o (handed all) fault out) (sym named)
-      (subst (λ (a : Option ℕ). EndsOn starts path (handed_on all.registry all.codes (limits_of all.given.options) a) fault out) ahead_are
-      (subst (λ (l : Limits). EndsOn starts path (handed_on all.registry all.codes l ahead) fault out) limits_are
-      (subst (λ (cs : List HookFact). EndsOn starts path (handed_on all.registry cs limits ahead) fault out) codes_are ends)));
+      (subst (λ (l : Limits). EndsOn starts path (handed_on all.registry all.codes l) fault out) limits_are
+      (subst (λ (cs : List HookFact). EndsOn starts path (handed_on all.registry cs limits) fault out) codes_are ends));
 }
 
 -- that file was not opened

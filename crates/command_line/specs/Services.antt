@@ -1,6 +1,6 @@
 -- The commands that serve connections: their words, and the file that they name.
 use Rattle.std.specs.Prelude.{◌≡◌, ⊤, ℕ, List, [], ◌∷◌, map, codes, length, Some, unwrap_or, Ok, Err}
-use Rattle.command_line.specs.Names.{string_bytes, HookSaid, Said, wrong, StartWords, CommandFault, BadWord, OutOfMemory, Serve, Start, IsHexOf, Arguments}
+use Rattle.command_line.specs.Names.{string_bytes, HookSaid, Said, clock_limit, wrong, StartWords, CommandFault, BadWord, OutOfMemory, Serve, Start, IsHexOf, Arguments}
 use Rattle.start_words.specs.Numbers.{number_said}
 use Rattle.start_words.specs.Start.{given_by, start_in}
 use Rattle.event_loop.specs.declared.limits.Limits.{Limits}
@@ -52,9 +52,10 @@ abbrev pub hooks_installed : Service → List HookSaid
 hooks_installed (Serve given) = []
 hooks_installed (Start given) = given.options.hooks
 
--- the seconds for which its server is patient, 60 and 5 where they are left out, and those from report to report
+-- the seconds for which its server is patient, 60 and 5 where they are left out, those from report to report, and by how many
+-- the clock may be ahead
 abbrev pub limits_of : Said → Limits
-limits_of said = record { idle = unwrap_or said.silence 60; crowded = unwrap_or said.full 5; report = said.report }
+limits_of said = record { idle = unwrap_or said.silence 60; crowded = unwrap_or said.full 5; report = said.report; ahead = clock_limit said.clock }
 
 -- the path of the registry's file
 abbrev pub config_of : Service → List ℕ

@@ -1,6 +1,6 @@
 -- How a server is started: anew, or on the file of its state.
 use Rattle.std.specs.Prelude.{◌≡◌, ℕ, List, map, Option, Some, None}
-use Rattle.command_line.specs.Names.{RegistryRecord, Output, Announces, IsToldBy, Named, HookFact, hook_fact, LifeEnd, Said, clock_limit, CommandFault, Stopped}
+use Rattle.command_line.specs.Names.{RegistryRecord, Output, Announces, IsToldBy, Named, HookFact, hook_fact, LifeEnd, Said, CommandFault, Stopped}
 use Rattle.std.specs.declared.fs.File.{File}
 use Rattle.batch_file.specs.declared.device.Device.{Ghosts as Device}
 use Rattle.batch_file.specs.declared.disk_file.DiskFile.{DiskFile}
@@ -46,10 +46,10 @@ EndsOn starts path handed fault out = (end : LifeEnd) × starts.on_state handed 
 
 -- what a server is handed by a registry, by where and how it serves, and by the file of its state
 abbrev pub handed_by : RegistryRecord → Terms → StateTerms → HandedOn
-handed_by registry terms state = handed_on registry (map hook_fact state.hooks.now) terms.limits state.ahead
+handed_by registry terms state = handed_on registry (map hook_fact state.hooks.now) terms.limits
 
 -- the one or the other, by the path of that file
 abbrev pub EndsStart : {W : Type 0} → Startings → Option (List ℕ) → Handed → CommandFault → Output W → Type 0
 EndsStart starts None handed fault out = EndsAnew starts (handed_anew handed.registry handed.hooks (limits_of handed.options)) fault out
 EndsStart starts (Some path) handed fault out =
-    EndsOn starts path (handed_on handed.registry handed.codes (limits_of handed.options) (clock_limit handed.options.clock)) fault out
+    EndsOn starts path (handed_on handed.registry handed.codes (limits_of handed.options)) fault out

@@ -44,6 +44,7 @@ fn limits_of(options: &Options<'_>) -> Limits
             Some(seconds) => Some(u64::from(seconds)),
             None => None,
         },
+        ahead: options.ahead(),
     }
 }
 
@@ -155,7 +156,6 @@ fn serve_as<
     let state = StateTerms {
         path,
         hooks: &hooks,
-        ahead: options.ahead(),
     };
     Err(start_on_state(rt, terms, state, registry, out, err))
 }

@@ -1,5 +1,5 @@
 -- What comes of a server that is started on the machine.
-use Rattle.std.specs.Prelude.{◌≡◌, ℕ, List, [], Option}
+use Rattle.std.specs.Prelude.{◌≡◌, List, []}
 use Rattle.std.specs.declared.fs.File.{File}
 use Rattle.batch_file.specs.Calls.{only_opened}
 use Rattle.batch_file.specs.declared.device.Device.{Ghosts as Device}
@@ -34,11 +34,10 @@ abbrev pub noting_clocks : {R : Type 0} → Clocks (MachineClocks R)
 noting_clocks = record { tells = NotesTimes }
 
 -- at first they have noted nothing; and these are the limits
-pub record IsFresh {R J : Type 0} (means : Means MachineSockets (MachineClocks R) J) (limits : Limits) (ahead : Option ℕ) : Type 0 where
+pub record IsFresh {R J : Type 0} (means : Means MachineSockets (MachineClocks R) J) (limits : Limits) : Type 0 where
   pub undone : means.sockets.log.calls ≡ []
   pub untold : means.clocks.log.calls ≡ []
   pub limits_are : means.limits ≡ limits
-  pub ahead_is : means.ahead ≡ ahead
 
 -- ANEW
 
@@ -54,22 +53,21 @@ handed_anew registry hooks limits = record { registry = registry; hooks = hooks;
 -- over the machine's sockets and clocks, and with some journal, it lived until it could not go on
 pub record ServesAnew {R E : Type 0} (journal : Journal (LineJournal E)) (handed : HandedAnew) (served : Served R) : Type 0 where
   pub means : Means MachineSockets (MachineClocks R) (LineJournal E)
-  pub fresh : IsFresh means handed.limits means.ahead
+  pub fresh : IsFresh means handed.limits
   pub lines : LineJournal E
   pub life : IsLifeAnew (promises noting_sockets noting_clocks journal keeping_nothing chain.ghosts) (outset_of handed.registry handed.hooks) means
       (record { fault = served.fault; sockets = served.sockets; clocks = served.clocks; journal = lines })
 
 -- ON THE FILE OF ITS STATE
 
--- what a server is started with: its registry, the code of each hook, its limits, and how far the clock may be ahead
+-- what a server is started with: its registry, the code of each hook, and its limits
 pub record HandedOn : Type 0 where
   pub registry : RegistryRecord
   pub hooks : List HookFact
   pub limits : Limits
-  pub ahead : Option ℕ
 
-abbrev pub handed_on : RegistryRecord → List HookFact → Limits → Option ℕ → HandedOn
-handed_on registry hooks limits ahead = record { registry = registry; hooks = hooks; limits = limits; ahead = ahead }
+abbrev pub handed_on : RegistryRecord → List HookFact → Limits → HandedOn
+handed_on registry hooks limits = record { registry = registry; hooks = hooks; limits = limits }
 
 -- the file was opened, and asked for nothing else, and over it, the machine's sockets and clocks, and with some journal, the
 -- server lived
@@ -77,7 +75,7 @@ pub record LivesOn {R E : Type 0} (disk : Device (DiskFile R File)) (journal : J
   pub opened : Opened R File
   pub is_opened : opened.device.log.calls ≡ only_opened opened.bytes.items
   pub means : Means MachineSockets (MachineClocks R) (LineJournal E)
-  pub fresh : IsFresh means handed.limits handed.ahead
+  pub fresh : IsFresh means handed.limits
   pub lines : LineJournal E
   pub life : IsLife (life_promises disk noting_sockets noting_clocks journal) (given opened.device opened.bytes.items handed.registry handed.hooks means)
       (record { end = lived.end; device = lived.device; sockets = lived.sockets; clocks = lived.clocks; journal = lines })

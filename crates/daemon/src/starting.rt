@@ -35,13 +35,11 @@ pub struct Terms<'w> {
     pub limits: Limits,
 }
 
-/// The file on which a server is started, by its path; the hooks that it is to have; and by how many seconds the clock may be
-/// ahead of the state, where that is limited.
+/// The file on which a server is started, by its path; and the hooks that it is to have.
 #[derive(Clone, Copy)]
 pub struct StateTerms<'w, 'h> {
     pub path: &'w str,
     pub hooks: &'h [KeptHook<'h>],
-    pub ahead: Option<u64>,
 }
 
 /// What is left of a server that was started anew and can't go on, once its connections are closed: why, and what it was handed
@@ -86,10 +84,9 @@ fn means_of<'r, 'e, R: Clock, E>(
     rt: &'r R,
     begun: Begun,
     limits: Limits,
-    ahead: Option<u64>,
     journal: LineJournal<'e, E>,
 ) -> Means<MachineSockets, MachineClocks<'r, R>, LineJournal<'e, E>>
-    ensures { IsFresh result limits ahead }
+    ensures { IsFresh result limits }
 {
     Means {
         sockets: MachineSockets::new(begun.ports),
@@ -97,7 +94,6 @@ fn means_of<'r, 'e, R: Clock, E>(
         journal,
         generator: begun.generator,
         limits,
-        ahead,
     }
 }
 
@@ -127,7 +123,7 @@ pub fn start<'r, 'e, R: Net + Clock + RandomSource + AllocGlobal, W: Write, E: W
         return Err(ListenFault::Unwritten);
     };
     let journal = LineJournal::new(rt, "", err);
-    let means = means_of(rt, begun, terms.limits, None, journal);
+    let means = means_of(rt, begun, terms.limits, journal);
     let AnewEnd {
         fault,
         sockets,
@@ -161,7 +157,7 @@ pub fn start_on<
 ) -> Result<Lived<'r, R>, OpeningFault>
     ensures told { IfOk result (λ lived. IsToldBy W.contents out.old lived.end out.new) }
     ensures lives { IfOk result (LivesOn ⟦<DiskFile<'r, R> as Device>⟧ ⟦<LineJournal<'e, E> as Journal>⟧
-        (handed_on registry (map hook_fact state.entry.hooks.now) terms.entry.limits state.entry.ahead)) }
+        (handed_on registry (map hook_fact state.entry.hooks.now) terms.entry.limits)) }
     ensures silent { OnErr result (out.new ≡ out.old) }
     ensures quiet { OnErr result (err.new ≡ err.old) }
 {
@@ -172,7 +168,7 @@ pub fn start_on<
         out,
     };
     let journal = LineJournal::new(rt, state.path, err);
-    let means = means_of(rt, begun, terms.limits, state.ahead, journal);
+    let means = means_of(rt, begun, terms.limits, journal);
     let Life {
         end,
         device,

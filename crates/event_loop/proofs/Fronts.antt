@@ -4,7 +4,7 @@ use Rattle.event_loop.proofs.Names.{Event, IsFrontOf, Holds, Keeps, KeepsBasis, 
 use Rattle.event_loop.proofs.Names.{TakesOutput, TakesNothing, AnsweredPiece, Piece, piece_of, Journey, Progress, IsReached, led, GivesPieces, nothing, gives, Message, Outset, Promises, LoopState}
 use Rattle.event_loop.proofs.Names.{IsAllKept, IsUnkept, with_call, Ready, Call, Transfer, Wrote, waits_done, opens, denies, finds_nobody, asks, LoopStep, Served, Shuts, TellsLast, tells_nothing}
 use Rattle.event_loop.proofs.Names.{comes, reads, writes, closes, keeps, puts_image, begins, goes, stops, shuts, reports_last, LoopFault, Carries, Onward, stays, onward, KeeperHolds, StandsBetween}
-use Rattle.event_loop.proofs.Names.{IsWriteKept, MomentIsHeld, CannotGoOn, no_wait, no_time, no_moment, not_kept, not_imaged, no_more, Queue, LastTold, Noted, ReadsPlace, WritesPlace, Hosting}
+use Rattle.event_loop.proofs.Names.{IsWriteKept, MomentIsHeld, CannotGoOn, no_wait, no_time, too_far, no_moment, not_kept, not_imaged, no_more, Queue, LastTold, Noted, ReadsPlace, WritesPlace, Hosting}
 use Rattle.event_loop.specs.Coming.{fails}
 use Rattle.event_loop.specs.Served.{waits}
 use Rattle.event_loop.specs.Done as deed
@@ -150,7 +150,7 @@ module _ {N C J K H : Type 0} (p : Promises N C J K H) where
   closes_does j place s s' (leaves n e on noted done noting) = calls_on s _ n (led s.progress on) done refl (λ k room took is. absurd (cc)) refl (grows_still s.times.moment s.progress.journey.world on.world on.happens.still)
 
   pub step_does : (s s' : LoopState N C J K H) → LoopStep p s s' → Does p s s'
-  step_does s s' (waits limit room found n times c keeper may done told kept) = record {
+  step_does s s' (waits limit room found n times c keeper may done told near kept) = record {
     moves = keeps_still (λ last is. kept.holds last) refl kept.basis (inr (kept.told, refl));
     did = λ first before. deed.did _ n before done;
     kept = λ k r took is. absurd (cc);
@@ -185,7 +185,8 @@ module _ {N C J K H : Type 0} (p : Promises N C J K H) where
   pub fails_does : (s s' : LoopState N C J K H) (fault : LoopFault) → CannotGoOn p s fault s' → FailDoes p s s'
   fails_does s s' fault (no_wait limit room n may done) = record { did = λ first before. deed.did _ n before done; reached = λ was. was; tells = (keeps_same p.keeping.crashes s.keeper s.keeper refl).meanwhile }
   fails_does s s' fault (no_time limit room found n c may done told) = record { did = λ first before. deed.did _ n before done; reached = λ was. was; tells = (keeps_same p.keeping.crashes s.keeper s.keeper refl).meanwhile }
-  fails_does s s' fault (no_moment limit room found n times c keeper may done told lost basis asked) = record { did = λ first before. deed.did _ n before done; reached = λ was. was; tells = basis }
+  fails_does s s' fault (too_far limit room found n times c seconds may done told far) = record { did = λ first before. deed.did _ n before done; reached = λ was. was; tells = (keeps_same p.keeping.crashes s.keeper s.keeper refl).meanwhile }
+  fails_does s s' fault (no_moment limit room found n times c keeper may done told near lost basis asked) = record { did = λ first before. deed.did _ n before done; reached = λ was. was; tells = basis }
   fails_does s s' fault (not_kept keeper unkept undone lost basis asked) = record { did = λ first before. before; reached = λ was. was; tells = basis }
   fails_does s s' fault (not_imaged keeper all lost basis asked) = record { did = λ first before. before; reached = λ was. was; tells = basis }
   fails_does s s' fault (no_more many) = record { did = λ first before. before; reached = λ was. was; tells = (keeps_same p.keeping.crashes s.keeper s.keeper refl).meanwhile }
@@ -305,7 +306,7 @@ module _ {N C J K H : Type 0} (p : Promises N C J K H) where
     -- where something failed then, it may also leave all that had happened
     fails_leave : (last failed : LoopState N C J K H) (fault : LoopFault) → Onward p s last → CannotGoOn p last fault failed →
         Leaves p.keeping.crashes s.keeper failed.keeper (λ c. StandsBetween p s before last c ⊎ p.keeping.crashes.stands_for c last.progress.journey.world.history)
-    fails_leave last failed fault on (no_moment limit room found n times c keeper may done told lost basis asked) =
+    fails_leave last failed fault on (no_moment limit room found n times c keeper may done told near lost basis asked) =
         let now = (onward_carries first s last served on).kept before is in
         leaves_either p.keeping.crashes s.keeper last.keeper keeper now.0 now.0 _ _ (leaves_between last on) ((lost now.0).meanwhile (held_at last on now.0 now.1))
         (λ c old. inl (kept_between first s before last served is on now.0 now.1 c old)) (λ c old. inl (kept_between first s before last served is on now.0 now.1 c old)) (λ c. inl)

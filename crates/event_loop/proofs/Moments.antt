@@ -51,7 +51,7 @@ module _ {N C J K H : Type 0} (p : Promises N C J K H) where
 
   -- so nothing is answered
   untouched_on : (s s' : LoopState N C J K H) → IsUntouched s → LoopStep p s s' → (s'.progress.journey.world.greatest ≡ s.progress.journey.world.greatest) × (waits s'.calls ≡ 0 → IsUntouched s')
-  untouched_on s s' u (step.waits limit room found n times c keeper may done told kept) = (refl, λ none. absurd (omega (arith, none)))
+  untouched_on s s' u (step.waits limit room found n times c keeper may done told near kept) = (refl, λ none. absurd (omega (arith, none)))
   untouched_on s s' u (step.hears_of_listener more is) = absurd (let not = sym u.found ∙ is in cc)
   untouched_on s s' u (step.hears_of j readable writable hung more place place' is here told) = absurd (let not = sym u.found ∙ is in cc)
   untouched_on s s' u (step.hears_of_none j readable writable hung more is none) = absurd (let not = sym u.found ∙ is in cc)

@@ -10,7 +10,7 @@ pub use Rattle.event_loop.specs.Calls.{CallKind, IsDone, Transfer, Reading, Writ
 pub use Rattle.event_loop.specs.Closing.{AreWithin, Closes, leaves, Cause, gives_way, freed_queue, is_silent}
 pub use Rattle.event_loop.specs.Coming.{opens, denies, fresh_place, finds_nobody, asks}
 pub use Rattle.event_loop.specs.Durable.{Carries, Onward, stays, onward, KeeperHolds, StandsBetween, IsWriteKept, MomentIsHeld, MomentStays}
-pub use Rattle.event_loop.specs.Ends.{CannotGoOn, no_wait, no_time, no_moment, not_kept, not_imaged, no_more}
+pub use Rattle.event_loop.specs.Ends.{CannotGoOn, no_wait, no_time, too_far, no_moment, not_kept, not_imaged, no_more}
 pub use Rattle.event_loop.specs.Giving.{GivesPieces, nothing, gives, cut_limit, AreBytesHeard, IsUnheard}
 pub use Rattle.event_loop.specs.GivingParts.{GivesOn, progress_of}
 pub use Rattle.event_loop.specs.Goes.{Running, Standing, Past, Duty, DoneAfter, ActsAt, IsReadyFor, state_of, to_read, to_write, LeadsOn, standing, LeavesOthers, HoldsAt, LeadsToActs, LeadsToTidy}

@@ -2,7 +2,7 @@
 use Rattle.std.specs.Prelude.{◌≡◌, ◌⊎◌, ◌≤◌, ◌<◌, ℕ, List, Option, Some, None}
 use Rattle.event_loop.specs.Names.{Journey, Reached, LoopFault, Ready, HeldMeanwhile, KeepsBasis, KeepsNot, TellsBasis}
 use Rattle.event_loop.specs.declared.clocks.Times.{Times}
-use Rattle.event_loop.specs.declared.fault.LoopFault.TheVariants.{Wait, Clock, Keep, Rounds}
+use Rattle.event_loop.specs.declared.fault.LoopFault.TheVariants.{Wait, Clock, ClockAhead, Keep, Rounds}
 use Rattle.event_loop.specs.declared.limits.Limits.{Limits}
 use Rattle.event_loop.specs.declared.tools.Tools.{Tools}
 use Rattle.event_loop.specs.Calls as call
@@ -10,6 +10,7 @@ use Rattle.event_loop.specs.Calls.{Keeping, IsDone}
 use Rattle.event_loop.specs.Done.{HaveDone}
 use Rattle.event_loop.specs.Durable.{Carries, Onward, KeeperHolds, IsWriteKept, IsDurable, IsDurableToEnd, MomentIsHeld, MomentStays}
 use Rattle.event_loop.specs.Places.{AllFree}
+use Rattle.event_loop.specs.Moments.{seconds_too_far}
 use Rattle.event_loop.specs.LoopStates.{Promises, LoopState, IsAllKept, IsUnkept, with_call}
 use Rattle.event_loop.specs.Answered.{IsAllAnswered}
 use Rattle.event_loop.specs.Served.{IsFirst, LoopStep, MayWait, Served, Shuts, TellsLast}
@@ -18,8 +19,8 @@ use Rattle.event_loop.specs.Served.{IsFirst, LoopStep, MayWait, Served, Shuts, T
 abbrev pub rounds_limit : ℕ
 rounds_limit = 18446744073709551615
 
--- why it goes on no more: a wait failed; behind a wait the clocks told nothing, or their moment could not be kept, and what it
--- found was not looked at; what is unkept could not be kept; an image could not be put, and what was kept may be lost; or so
+-- why it goes on no more: a wait failed; behind a wait the clocks told nothing, or a moment that is too far ahead of the greatest
+-- that was kept, or one that could not be kept, and what it found was not looked at; what is unkept could not be kept; an image could not be put, and what was kept may be lost; or so
 -- many rounds were made as can be counted
 pub data CannotGoOn {N C J K H : Type 0} (p : Promises N C J K H) (s : LoopState N C J K H) : LoopFault → LoopState N C J K H → Type 0 where
   no_wait : (limit : Option ℕ) (room : ℕ) (n : N) → MayWait p s limit room → p.sockets.does s.sockets (call.WaitFailed limit room) n →
@@ -27,8 +28,13 @@ pub data CannotGoOn {N C J K H : Type 0} (p : Promises N C J K H) (s : LoopState
   no_time : (limit : Option ℕ) (room : ℕ) (found : List Ready) (n : N) (c : C) → MayWait p s limit room →
       p.sockets.does s.sockets (call.Waited limit room found) n → p.clocks.tells s.clocks None c →
       CannotGoOn p s Clock (record (with_call s (call.Waited limit room found) n) { clocks = c; found = found })
+  too_far : (limit : Option ℕ) (room : ℕ) (found : List Ready) (n : N) (times : Times) (c : C) (seconds : ℕ) → MayWait p s limit room →
+      p.sockets.does s.sockets (call.Waited limit room found) n → p.clocks.tells s.clocks (Some times) c →
+      seconds_too_far s.limits.ahead (Some times) s.held ≡ Some seconds →
+      CannotGoOn p s (ClockAhead seconds) (record (with_call s (call.Waited limit room found) n) { clocks = c; found = found })
   no_moment : (limit : Option ℕ) (room : ℕ) (found : List Ready) (n : N) (times : Times) (c : C) (keeper : K) → MayWait p s limit room →
       p.sockets.does s.sockets (call.Waited limit room found) n → p.clocks.tells s.clocks (Some times) c →
+      seconds_too_far s.limits.ahead (Some times) s.held ≡ None →
       HeldMeanwhile p.keeping.crashes s.keeper keeper → TellsBasis p.keeping.crashes s.keeper keeper → p.keeping.has_failed keeper →
       CannotGoOn p s Keep (record (with_call s (call.Waited limit room found) n) { clocks = c; keeper = keeper; found = found })
   not_kept : (keeper : K) (unkept : IsUnkept s.progress.journey.world) → ¬ (IsDone Keeping s.calls) →

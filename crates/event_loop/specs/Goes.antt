@@ -61,6 +61,7 @@ state_of now found past = record {
   found = found;
   queue = now.service.queue;
   times = now.service.times;
+  held = now.service.held;
   told = now.service.told;
   refused = now.service.refused;
   began = now.service.began;

@@ -24,8 +24,9 @@ promises sockets clocks journal keeping hosting = record { sockets = sockets; cl
 
 -- What the loop works with: sockets, clocks, a journal, a keeper, and an edge with its draws, on its progress. What it knows:
 -- its limits, its places, what the last wait found and was not looked at yet, who waits to be accepted, what the clocks
--- told last, when a fault was noted last, and the journal was told last what the server does, in which second an image was
--- refused last, in which it began, and how many connections came. What was done so far, the last call first.
+-- told last, the greatest moment that was kept or with which it began, when a fault was noted last, and the journal was told
+-- last what the server does, in which second an image was refused last, in which it began, and how many connections came.
+-- What was done so far, the last call first.
 pub record LoopState (N C J K H : Type 0) : Type 0 where
   pub sockets : N
   pub clocks : C
@@ -37,6 +38,7 @@ pub record LoopState (N C J K H : Type 0) : Type 0 where
   pub found : List Ready
   pub queue : Queue
   pub times : Times
+  pub held : ℕ
   pub told : LastTold
   pub refused : Option ℕ
   pub began : ℕ

@@ -1,5 +1,5 @@
 -- All that the loop does, step by step.
-use Rattle.std.specs.Prelude.{◌≡◌, ◌≢◌, ◌⊎◌, ◌<◌, ◌≤◌, ◌-◌, ℕ, Bool, true, false, ◌||◌, List, [], ◌∷◌, Option, Some, None, IsSome, slice_get, length}
+use Rattle.std.specs.Prelude.{◌≡◌, ◌≢◌, ◌⊎◌, ◌<◌, ◌≤◌, ◌-◌, max, ℕ, Bool, true, false, ◌||◌, List, [], ◌∷◌, Option, Some, None, IsSome, slice_get, length}
 use Rattle.event_loop.specs.Names.{Told, Empty, Barred, Waits, Ready, Keeps, KeepsBasis, SeenEdge, GoesOn, Connection, Notice, Reported}
 use Rattle.event_loop.specs.declared.clocks.Times.{Times}
 use Rattle.event_loop.specs.declared.place.Place.{Place}
@@ -15,7 +15,7 @@ use Rattle.event_loop.specs.Reading.{ReadsPlace}
 use Rattle.event_loop.specs.Writing.{WritesPlace}
 use Rattle.event_loop.specs.Closing.{AreWithin, Cause, Closes}
 use Rattle.event_loop.specs.Reporting.{IsDue, Tells, TellsRefusal, is_long_ago}
-use Rattle.event_loop.specs.Moments.{KeepsTimes}
+use Rattle.event_loop.specs.Moments.{KeepsTimes, seconds_too_far}
 use Rattle.event_loop.specs.declared.report.LastTold.{LastTold}
 use Rattle.event_loop.specs.declared.report.Report.{Report}
 
@@ -67,14 +67,17 @@ abbrev pub told_place : Place → Bool → Bool → Bool → Place
 told_place place readable writable hung =
     record place { readable = place.readable || readable; writable = place.writable || writable; hung = place.hung || hung }
 
--- One step: a wait with a look at the clocks behind it, whose moment is kept, a look at what the wait found, something done
+-- One step: a wait with a look at the clocks behind it, whose moment is kept where it is not too far ahead of the greatest
+-- before it, a look at what the wait found, something done
 -- for connections, the journal is told what is due, what is unkept is kept, or an image is put in the place of what is kept,
 -- or refused. Between two waits a place is read at most once, and written to at most once, and it is kept at most once.
 -- Nothing is written, and no image is put, while something is unkept.
 pub data LoopStep {N C J K H : Type 0} (p : Promises N C J K H) (s : LoopState N C J K H) : LoopState N C J K H → Type 0 where
   waits : (limit : Option ℕ) (room : ℕ) (found : List Ready) (n : N) (times : Times) (c : C) (keeper : K) → MayWait p s limit room →
-      p.sockets.does s.sockets (call.Waited limit room found) n → p.clocks.tells s.clocks (Some times) c → KeepsTimes p.keeping.crashes times s.keeper keeper →
-      LoopStep p s (record (with_call s (call.Waited limit room found) n) { clocks = c; keeper = keeper; found = found; times = times })
+      p.sockets.does s.sockets (call.Waited limit room found) n → p.clocks.tells s.clocks (Some times) c →
+      seconds_too_far s.limits.ahead (Some times) s.held ≡ None → KeepsTimes p.keeping.crashes times s.keeper keeper →
+      LoopStep p s (record (with_call s (call.Waited limit room found) n)
+      { clocks = c; keeper = keeper; found = found; times = times; held = max s.held times.moment })
   hears_of_listener : (more : List Ready) → s.found ≡ ready.Listener ∷ more → LoopStep p s (record s { found = more; queue = told_queue s.queue })
   hears_of : (k : ℕ) (readable writable hung : Bool) (more : List Ready) (place place' : Place) → s.found ≡ ready.Connection k readable writable hung ∷ more →
       slice_get s.places k ≡ Some place → place' ≡ told_place place readable writable hung → LoopStep p s (record (with_place s k place') { found = more })
@@ -111,6 +114,7 @@ pub record IsFirst {N C J K H : Type 0} (p : Promises N C J K H) (s : LoopState 
   pub free : AllFree s.places
   pub found : s.found ≡ []
   pub noted : s.noted.last ≡ None
+  pub held : s.held ≡ s.progress.journey.world.greatest
   pub told : s.told ≡ record { report = s.times.steady; full = None }
   pub refused : s.refused ≡ None
   pub began : s.began ≡ s.times.steady

@@ -26,7 +26,7 @@ mod tools;
 mod turn;
 mod write;
 
-pub use clocks::{Clocks, Times};
+pub use clocks::{Clocks, Times, too_far};
 pub use fault::{ConnectionFault, LoopFault};
 pub use journal::Journal;
 pub use limits::{Limits, PLACES, READ_LIMIT};

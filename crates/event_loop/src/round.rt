@@ -3,7 +3,7 @@ ghost use Rattle.std.specs.Prelude.{◌≡◌, ◌≤◌, length, true, false, O
 ghost use Rattle.event_loop.specs.Places.{AllFree};
 ghost use Rattle.event_loop.specs.Goes.{IsBusy, IsLimit, MayRest, LeadsRound, LeadsWrong, running, keeping, promises};
 
-use crate::clocks::Clocks;
+use crate::clocks::{Clocks, Times, later};
 use crate::fault::LoopFault;
 use crate::limits::PLACES;
 use crate::queue::Queue;
@@ -61,7 +61,7 @@ impl Service {
 
 impl<N: Sockets, C: Clocks, J: Journal, K: ImageKeeper, H: HookHost> Tools<N, C, J, K, H> {
     /// Puts an image in the place of what is kept, where that is long. Then waits once, looks at the clocks, whose moment is
-    /// kept, notes what was found, reads each place, keeps what changed, writes to each, closes and accepts, and then tells
+    /// kept where it is not too far ahead, notes what was found, reads each place, keeps what changed, writes to each, closes and accepts, and then tells
     /// the journal what is due.
     pub(crate) fn round(
         &mut self,
@@ -82,11 +82,16 @@ impl<N: Sockets, C: Clocks, J: Journal, K: ImageKeeper, H: HookHost> Tools<N, C,
         let Some(times) = self.clocks.read() else {
             return Err(LoopFault::Clock);
         };
-        let Ok(()) = self.keeper.keep_moment(times.moment) else {
+        let Times { moment, steady } = times;
+        if let Some(seconds) = service.seconds_too_far(Times { moment, steady }) {
+            return Err(LoopFault::ClockAhead(seconds));
+        }
+        let Ok(()) = self.keeper.keep_moment(moment) else {
             return Err(LoopFault::Keep);
         };
-        let is_same_second = times.steady == service.times.steady;
-        service.times = times;
+        let is_same_second = steady == service.times.steady;
+        service.times = Times { moment, steady };
+        service.held = later(service.held, moment);
         self.hear_all(service, &found[..count]);
         self.read_all(service);
         if let Err(fault) = self.keep_all() {

@@ -23,7 +23,7 @@ impl<N: Sockets, C: Clocks, J: Journal, K: ImageKeeper, H: HookHost> Tools<N, C,
     }
 }
 
-/// Serves up to 64 connections at once, until a wait fails, the clocks tell nothing, or changes or a moment can't be kept, and
+/// Serves up to 64 connections at once, until a wait fails, the clocks tell nothing or are too far ahead, or changes or a moment can't be kept, and
 /// says which. Then each connection that is left is closed and forgotten, and where reports are wanted, there is a last one.
 pub fn serve_all<N: Sockets, C: Clocks, J: Journal, K: ImageKeeper, H: HookHost>(
     tools: &mut Tools<N, C, J, K, H>,
@@ -34,7 +34,7 @@ pub fn serve_all<N: Sockets, C: Clocks, J: Journal, K: ImageKeeper, H: HookHost>
     let Some(times) = tools.clocks.read() else {
         return LoopFault::Clock;
     };
-    let mut service = Service::new(limits, times);
+    let mut service = Service::new(limits, times, tools.edge.server().moment());
     let fault = tools.rounds(&mut service);
     tools.leave_all(&mut service);
     tools.tell_last(&service);

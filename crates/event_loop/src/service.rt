@@ -3,13 +3,15 @@ ghost use Rattle.std.specs.Prelude.{◌≡◌, ◌<◌, None, Some, length, slic
 ghost use Rattle.event_loop.specs.declared.queue.Queue.TheVariants.{Empty};
 ghost use Rattle.event_loop.specs.Places.{AllFree};
 ghost use Rattle.event_loop.specs.Goes.{IsDueNowhere};
+ghost use Rattle.event_loop.specs.Moments.{seconds_too_far};
 
-use crate::clocks::Times;
+use crate::clocks::{Times, too_far};
 use crate::due::DuePlaces;
 use crate::limits::{Limits, READ_LIMIT};
 use crate::place::{FREE_PLACE, Place};
 use crate::queue::Queue;
 use crate::report::LastTold;
+use consent::Moment;
 
 /// What the loop knows.
 #[derive(Drop)]
@@ -22,6 +24,8 @@ pub struct Service {
     pub(crate) limits: Limits,
     // What the clocks told last.
     pub(crate) times: Times,
+    // The greatest moment that was kept, or with which it began.
+    pub(crate) held: Moment,
     pub(crate) queue: Queue,
     // In which second a fault was noted last.
     pub(crate) noted: Option<u64>,
@@ -39,11 +43,12 @@ pub struct Service {
 
 impl Service {
     /// At first no connection is there.
-    pub(crate) fn new(limits: Limits, times: Times) -> Service
+    pub(crate) fn new(limits: Limits, times: Times, held: Moment) -> Service
         ensures size { length result.places ≡ 64 }
         ensures free { AllFree result.places }
         ensures limits { result.limits ≡ limits }
         ensures times { result.times ≡ times }
+        ensures held { result.held ≡ held }
         ensures due { IsDueNowhere result }
         ensures queue { result.queue ≡ Empty }
         ensures noted { result.noted ≡ None }
@@ -59,6 +64,7 @@ impl Service {
             buffer: [0; READ_LIMIT],
             limits,
             times,
+            held,
             queue: Queue::Empty,
             noted: None,
             began: steady,
@@ -70,6 +76,13 @@ impl Service {
             },
             refused: None,
         }
+    }
+
+    /// By how many seconds these times are ahead of the greatest moment that was kept, where that is more than it may be.
+    pub(crate) fn seconds_too_far(&self, times: Times) -> Option<u64>
+        ensures { result ≡ seconds_too_far self.now.limits.ahead (Some times) self.now.held }
+    {
+        too_far(self.limits.ahead, Some(times), self.held)
     }
 
     /// What is known of a place.

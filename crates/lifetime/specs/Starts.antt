@@ -3,7 +3,8 @@ use Rattle.std.specs.Prelude.{◌≡◌, ◌⊎◌, ℕ, nat_lt, List, [], ◌�
 use Rattle.lifetime.specs.Names.{Times, Journal, SeenKeeper, IsPutOn}
 use Rattle.event_loop.specs.declared.report.Notice.{Notice}
 use Rattle.event_loop.specs.declared.report.Notice.TheVariants.{Ahead, Narrowed, SetAside}
-use Rattle.lifetime.specs.Clocks.{seconds_ahead, seconds_too_far}
+use Rattle.event_loop.specs.Moments.{seconds_too_far}
+use Rattle.lifetime.specs.Clocks.{seconds_ahead}
 use Rattle.lifetime.specs.Given.{Given, LifePromises}
 use Rattle.lifetime.specs.Plans.{IsPlanOf}
 use Rattle.lifetime.specs.declared.means.Means.{Means}
@@ -24,7 +25,7 @@ pub record LooksAt {D N C J : Type 0} (p : LifePromises D N C J) (given : Given 
 
 -- how many seconds the clocks are too far ahead, if they are
 abbrev pub too_far_at : {D N C J : Type 0} → Given D N C J → Outlook C → Option ℕ
-too_far_at given outlook = seconds_too_far given.means.ahead outlook.now outlook.plan.prepared.moment
+too_far_at given outlook = seconds_too_far given.means.limits.ahead outlook.now outlook.plan.prepared.moment
 
 -- WHAT IS TOLD
 

@@ -11,7 +11,6 @@ pub struct Means<N, C, J> {
     pub journal: J,
     /// Its draws.
     pub generator: ChaCha20Rng,
+    /// Those by which it serves. A life begins by the same limit of the clock, beside the moment of its state.
     pub limits: Limits,
-    /// By how many seconds the clock may be ahead of the state that a life begins with, where that is limited.
-    pub ahead: Option<u64>,
 }

@@ -72,6 +72,7 @@ fn servers_that_stop(rt: HostRuntime) -> Result<(), Fail> {
     for (fault, text) in [
         (LoopFault::Wait, "stopped: Wait"),
         (LoopFault::Clock, "stopped: Clock"),
+        (LoopFault::ClockAhead(7), "stopped: ClockAhead 7"),
         (LoopFault::Keep, "stopped: State"),
         (LoopFault::Rounds, "stopped: Rounds"),
     ] {

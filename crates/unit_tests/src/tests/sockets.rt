@@ -319,6 +319,7 @@ pub(super) fn limits(report: Option<u64>) -> Limits {
         idle: u64::MAX,
         crowded: u64::MAX,
         report,
+        ahead: None,
     }
 }
 

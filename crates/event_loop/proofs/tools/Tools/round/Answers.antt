@@ -1,7 +1,8 @@
-use Rattle.std.proofs.Common.{rules, add-one, ap, ◌≤◌, ◌-◌, ◌∷◌, take, arith, length, ◌≡◌, subst, sym, ◌∙◌, []}
-use Rattle.event_loop.proofs.Names.{eqb-true, promises, Service, Accepting, IsDone, goes, Past, running, state_of, no_wait, no_time, no_moment, keeping}
+use Rattle.std.proofs.Common.{rules, add-one, ap, ◌≤◌, ◌-◌, ◌∷◌, take, arith, length, ◌≡◌, subst, sym, ◌∙◌, [], Some, None, ℕ}
+use Rattle.event_loop.proofs.Names.{eqb-true, promises, Service, Accepting, IsDone, goes, Past, running, state_of, Served, no_wait, no_time, no_moment, too_far, keeping}
 use Rattle.event_loop.specs.Served.{waits}
 use Rattle.event_loop.specs.Calls as call
+use Rattle.event_loop.specs.Moments.{seconds_too_far}
 use Rattle.event_loop.proofs.Answering.{served_answered}
 use Rattle.event_loop.proofs.Leading.{to_then, kept_then}
 use Rattle.event_loop.proofs.Leaving.{may_wait, calm_told, told_or_not}
@@ -34,8 +35,8 @@ returns-in_default-read-clause-wrong g c = λ first past begun was_ready.
       fails = no_time c.wait_limit-limit.result (length c.wait.new.found) heard c.wait.new.self c.read.new.self may.1.1 c.in-Some.ensures.done c.in_default-read.ensures;
     }
 
-pub returns-in_default-keep_moment-clause-wrong : goal.returns-in_default-keep_moment-clause-wrong
-returns-in_default-keep_moment-clause-wrong g c = λ first past begun was_ready.
+pub returns-in-Some-seconds_too_far-clause-wrong : goal.returns-in-Some-seconds_too_far-clause-wrong
+returns-in-Some-seconds_too_far-clause-wrong g c = λ first past begun was_ready.
     let heard = take c.in-Some.count c.wait.new.found in
     let size : length c.args.service.now.places ≡ 64 = search rules in
     let room : 65 ≤ length c.wait.new.found = search (rules, arith, c.requires.room) in
@@ -45,7 +46,22 @@ returns-in_default-keep_moment-clause-wrong g c = λ first past begun was_ready.
       served = may.0;
       found = heard;
       next = record past { calls = call.Waited c.wait_limit-limit.result (length c.wait.new.found) heard ∷ past.calls };
-      fails = no_moment c.wait_limit-limit.result (length c.wait.new.found) heard c.wait.new.self c.in-Some-read.times c.read.new.self c.keep_moment.new.self may.1.1 c.in-Some.ensures.done c.in-Some-read.ensures c.in_default-keep_moment.ensures.lost c.keep_moment.ensures.meanwhile c.in_default-keep_moment.ensures.fails;
+      fails = too_far c.wait_limit-limit.result (length c.wait.new.found) heard c.wait.new.self c.in-Some-read.times c.read.new.self c.in-Some-seconds_too_far.seconds may.1.1 c.in-Some.ensures.done c.in-Some-read.ensures (search rules);
+    }
+
+pub returns-in_default-keep_moment-clause-wrong : goal.returns-in_default-keep_moment-clause-wrong
+returns-in_default-keep_moment-clause-wrong g c = λ first past begun was_ready.
+    let heard = take c.in-Some.count c.wait.new.found in
+    let size : length c.args.service.now.places ≡ 64 = search rules in
+    let room : 65 ≤ length c.wait.new.found = search (rules, arith, c.requires.room) in
+    let may = may_wait (promises g.N.Sockets g.C.Clocks g.J.Journal (keeping g.K.Keeper g.K.ImageKeeper) g.H.HookHost) c.args.service.now c.put_image.new.service c.args.self.now c.put_image.new.self c.wait_limit-limit.result (length c.wait.new.found) size c.in_default.ensures.same c.wait_limit-limit.ensures room c.in_default.ensures.put first past begun was_ready in
+    let near : seconds_too_far c.put_image.new.service.limits.ahead (Some c.in-Some-read.times) c.put_image.new.service.held ≡ None = search rules in
+    record {
+      last = state_of (running c.put_image.new.service c.put_image.new.self) [] past;
+      served = may.0;
+      found = heard;
+      next = record past { calls = call.Waited c.wait_limit-limit.result (length c.wait.new.found) heard ∷ past.calls };
+      fails = no_moment c.wait_limit-limit.result (length c.wait.new.found) heard c.wait.new.self c.in-Some-read.times c.read.new.self c.keep_moment.new.self may.1.1 c.in-Some.ensures.done c.in-Some-read.ensures near c.in_default-keep_moment.ensures.lost c.keep_moment.ensures.meanwhile c.in_default-keep_moment.ensures.fails;
     }
 
 pub returns-in-Err-keep_all-clause-wrong : goal.returns-in-Err-keep_all-clause-wrong
@@ -54,8 +70,13 @@ returns-in-Err-keep_all-clause-wrong g c = λ first past begun was_ready.
     let size : length c.args.service.now.places ≡ 64 = search rules in
     let room : 65 ≤ length c.wait.new.found = search (rules, arith, c.requires.room) in
     let may = may_wait (promises g.N.Sockets g.C.Clocks g.J.Journal (keeping g.K.Keeper g.K.ImageKeeper) g.H.HookHost) c.args.service.now c.put_image.new.service c.args.self.now c.put_image.new.self c.wait_limit-limit.result (length c.wait.new.found) size c.in_default.ensures.same c.wait_limit-limit.ensures room c.in_default.ensures.put first past begun was_ready in
-    let waited = goes may.0 (waits c.wait_limit-limit.result (length c.wait.new.found) heard c.wait.new.self c.in-Some-read.times c.read.new.self c.keep_moment.new.self may.1.1 c.in-Some.ensures.done c.in-Some-read.ensures (record { holds = c.in-Ok.ensures.kept; basis = c.in-Ok.ensures.basis; told = c.in-Ok.ensures.told })) in
+    let near : seconds_too_far c.put_image.new.service.limits.ahead (Some c.in-Some-read.times) c.put_image.new.service.held ≡ None = search rules in
+    let stepped = goes may.0 (waits c.wait_limit-limit.result (length c.wait.new.found) heard c.wait.new.self c.in-Some-read.times c.read.new.self c.keep_moment.new.self may.1.1 c.in-Some.ensures.done c.in-Some-read.ensures near (record { holds = c.in-Ok.ensures.kept; basis = c.in-Ok.ensures.basis; told = c.in-Ok.ensures.told })) in
     let since : Past g.row.H.Denot = record past { calls = call.Waited c.wait_limit-limit.result (length c.wait.new.found) heard ∷ past.calls } in
+    let waited = subst (λ (m : ℕ). Served (promises g.N.Sockets g.C.Clocks g.J.Journal (keeping g.K.Keeper g.K.ImageKeeper) g.H.HookHost) first
+    (state_of (running (record c.put_image.new.service { times = c.in-Some-read.times; held = m })
+    (record c.put_image.new.self { sockets = c.wait.new.self; clocks = c.read.new.self; keeper = c.keep_moment.new.self })) heard since))
+    (sym c.later.ensures) stepped in
     let told = c.hear_all.ensures.hears first since waited (λ k less. (may.1.0.settled k less).rested) in
     let read = c.read_all.ensures first [] since (λ kind is. is) told.1 told.0 in
     record {
@@ -73,8 +94,13 @@ returns-clause-goes g c = λ first past begun was_ready.
     let size : length c.args.service.now.places ≡ 64 = search rules in
     let room : 65 ≤ length c.wait.new.found = search (rules, arith, c.requires.room) in
     let may = may_wait (promises g.N.Sockets g.C.Clocks g.J.Journal (keeping g.K.Keeper g.K.ImageKeeper) g.H.HookHost) c.args.service.now c.put_image.new.service c.args.self.now c.put_image.new.self c.wait_limit-limit.result (length c.wait.new.found) size c.in_default.ensures.same c.wait_limit-limit.ensures room c.in_default.ensures.put first past begun was_ready in
-    let waited = goes may.0 (waits c.wait_limit-limit.result (length c.wait.new.found) heard c.wait.new.self c.in-Some-read.times c.read.new.self c.keep_moment.new.self may.1.1 c.in-Some.ensures.done c.in-Some-read.ensures (record { holds = c.in-Ok.ensures.kept; basis = c.in-Ok.ensures.basis; told = c.in-Ok.ensures.told })) in
+    let near : seconds_too_far c.put_image.new.service.limits.ahead (Some c.in-Some-read.times) c.put_image.new.service.held ≡ None = search rules in
+    let stepped = goes may.0 (waits c.wait_limit-limit.result (length c.wait.new.found) heard c.wait.new.self c.in-Some-read.times c.read.new.self c.keep_moment.new.self may.1.1 c.in-Some.ensures.done c.in-Some-read.ensures near (record { holds = c.in-Ok.ensures.kept; basis = c.in-Ok.ensures.basis; told = c.in-Ok.ensures.told })) in
     let since : Past g.row.H.Denot = record past { calls = call.Waited c.wait_limit-limit.result (length c.wait.new.found) heard ∷ past.calls } in
+    let waited = subst (λ (m : ℕ). Served (promises g.N.Sockets g.C.Clocks g.J.Journal (keeping g.K.Keeper g.K.ImageKeeper) g.H.HookHost) first
+    (state_of (running (record c.put_image.new.service { times = c.in-Some-read.times; held = m })
+    (record c.put_image.new.self { sockets = c.wait.new.self; clocks = c.read.new.self; keeper = c.keep_moment.new.self })) heard since))
+    (sym c.later.ensures) stepped in
     let told = c.hear_all.ensures.hears first since waited (λ k less. (may.1.0.settled k less).rested) in
     let read = c.read_all.ensures first [] since (λ kind is. is) told.1 told.0 in
     let written = kept_then p first [] since _ c.read_all.new.service c.write_all.new.service _ c.read_all.new.self c.keep_all.new.self c.write_all.new.self read c.in_default-keep_all.ensures.kept c.write_all.ensures in
