@@ -7,7 +7,7 @@ use Rattle.command_line.specs.declared.call_files.CallFiles.{CallFiles}
 use Rattle.commands.specs.declared.named_file.NamedFile.{NamedFile}
 use Rattle.command_line.specs.declared.service.ServeWords.{ServeWords}
 use Rattle.command_line.specs.declared.service.Service.{Service}
-use Rattle.command_line.specs.Faults.{IsNotOpened, IsOfListening}
+use Rattle.command_line.specs.Faults.{IsNotOpened, IsOfService}
 use Rattle.hook_commands.specs.File.{File}
 use Rattle.command_line.specs.Hooks.{AreFactsOf, HookInFile, in_file, RefusesHooks, TakesHooks}
 use Rattle.command_line.specs.Services.{address_of, config_of}
@@ -43,7 +43,7 @@ pub record IsDeaf (service : Service) (file : File) (fault : CommandFault) : Typ
   pub registry : RegistryRecord
   pub held : HoldsRegistry file registry
   pub cause : ListenFault
-  pub fault_is : IsOfListening (address_of service) cause fault
+  pub fault_is : IsOfService service cause fault
 
 -- the hooks of `start` are not all taken, and this is the first one's fault
 pub record LacksHook (service : Service) (files : ServiceFiles) (fault : CommandFault) : Type 0 where

@@ -3,7 +3,7 @@
 ghost use Rattle.std.specs.Prelude.{◌≡◌, ◌⊎◌, OnOk, IfErr};
 ghost use Rattle.daemon.specs.Starts.{handed_anew};
 ghost use Rattle.command_line.specs.Endings.{EndsCall, EndsWords};
-ghost use Rattle.command_line.specs.Faults.{IsNotOpened, IsOfListening};
+ghost use Rattle.command_line.specs.Faults.{IsNotOpened, IsOfListening, IsOfServing};
 ghost use Rattle.daemon.specs.Listening.{Announces};
 ghost use Rattle.command_line.specs.Listening.{EndsService, FailsService, files_in, ServeEnded};
 ghost use Rattle.commands.specs.Outputs.{output, outputs};
@@ -16,7 +16,7 @@ use crate::call_files::{CallFiles, read_files};
 use crate::hook_files::{HooksTaken, kept_hooks, take_hooks};
 use crate::service::{ServeWords, Service};
 use crate::state_performing::perform_state;
-use crate::stopping::{deaf, end_of, unopened};
+use crate::stopping::{deaf, end_of, unheard, unopened};
 use batch_file::device::Device;
 use batch_file::disk_file::DiskFile;
 use clients::Registry;
@@ -55,11 +55,11 @@ fn serve_count<'w, R: Net + Clock + AllocGlobal, W: Printer>(
     out: &mut W,
 ) -> Result<(), CommandFault<'w>>
     ensures done { OnOk result (Announces (W.contents out.old) (W.contents out.new)) }
-    ensures refused { IfErr result (λ fault. (cause : ListenFault) × IsOfListening given.now.address.now cause fault) }
+    ensures refused { IfErr result (λ fault. (cause : ListenFault) × IsOfServing cause fault) }
 {
     match serve(rt, given.address, registry, given.seed, given.count, out) {
         Ok(()) => Ok(()),
-        Err(fault) => Err(deaf(given.address, fault)),
+        Err(fault) => Err(unheard(fault)),
     }
 }
 

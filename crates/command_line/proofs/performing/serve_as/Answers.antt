@@ -29,8 +29,8 @@ returns-in_default-clause-fault g c =
     } in
     elim c.start_anew.ensures [
       | inl not ↦ not_heard _ c.args.service.now (files_in c.args.files) c.start_anew.result
-          (outputs (output g.W.Write.contents g.W.Printer.writes c.args.out.now c.start_anew.new.out) (output g.E.Write.contents g.E.Printer.writes c.args.err.now c.start_anew.new.err)) c.in_ok-registry.registry c.in-Start.given.address.now not.1
-          c.in_ok-registry.ensures.found (rw c.in-Start.is) not.0 not.2
+          (outputs (output g.W.Write.contents g.W.Printer.writes c.args.out.now c.start_anew.new.out) (output g.E.Write.contents g.E.Printer.writes c.args.err.now c.start_anew.new.err)) c.in_ok-registry.registry not.1
+          c.in_ok-registry.ensures.found not.0 (rw c.in-Start.is not.2)
       | inr ends ↦ inr (ended_anew _ c.args.service.now (files_in c.args.files) c.start_anew.result (output g.W.Write.contents g.W.Printer.writes c.args.out.now c.start_anew.new.out) all c.limits_of.result none c.limits_of.ensures ends)
     ]
 
