@@ -19,6 +19,7 @@ pub use by_count::serve;
 pub use call_log::CallLog;
 pub use fault::{ListenFault, OpeningFault, SocketFault};
 pub use line_journal::LineJournal;
+pub use machine_clock::MachineClock;
 pub use machine_clocks::MachineClocks;
 pub use report_line::report_text;
 pub use sockets::MachineSockets;
