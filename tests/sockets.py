@@ -39,16 +39,20 @@ client = rules["clients"][0]
 secrets = [rules["operator"], *rules["owners"], *(each["secret"] for each in rules["clients"])]
 
 
-def introspection(token="x"):
-    """A request of the first client, about a token that there is not."""
+def request_of(client, path, body):
+    """A request of a client."""
     words = f"{client['id']}:{client['secret']}".encode()
-    body = f"token={token}".encode()
     head = (
-        "POST /introspect HTTP/1.1\r\nHost: oauthd\r\n"
+        f"POST {path} HTTP/1.1\r\nHost: oauthd\r\n"
         f"Authorization: Basic {base64.b64encode(words).decode()}\r\n"
         f"Content-Type: application/x-www-form-urlencoded\r\nContent-Length: {len(body)}\r\n\r\n"
     )
-    return head.encode() + body
+    return (head + body).encode()
+
+
+def introspection(token="x"):
+    """A request of the first client, about a token that there is not."""
+    return request_of(client, "/introspect", f"token={token}")
 
 
 class Wrong(Exception):
@@ -528,6 +532,30 @@ def stalled_pipe():
         return f"{after[0].decode()}; no request took longer than {1000 * longest:.0f} ms"
 
 
+def token_of(server):
+    """A token that a client is given for itself."""
+    asking = next(each for each in rules["clients"] if "client_credentials" in each["grants"])
+    connection = server.connect()
+    connection.sendall(request_of(asking, "/token", "grant_type=client_credentials"))
+    head = b""
+    while not head.endswith(b"\r\n\r\n"):
+        byte = connection.recv(1)
+        want(byte, f"the connection ended behind {head!r}")
+        head += byte
+    length = next(int(line.split(b":")[1]) for line in head.split(b"\r\n") if line.startswith(b"Content-Length:"))
+    return json.loads(receive(connection, length))["access_token"]
+
+
+def other_draws():
+    """Two starts, and two connections of each: no token comes twice."""
+    tokens = []
+    for _ in range(2):
+        with Server() as server:
+            tokens += [token_of(server), token_of(server)]
+    want(len(set(tokens)) == 4, f"of the first tokens of two starts some are alike: {tokens}")
+    return "the first two tokens of two starts are four"
+
+
 CHECKS = {
     "63-idle-and-one-active": sixty_three_idle,
     "64-idle-and-a-65th": a_sixty_fifth,
@@ -543,6 +571,7 @@ CHECKS = {
     "whole-replies": whole_replies,
     "reports": reports,
     "stalled-pipe": stalled_pipe,
+    "other-draws": other_draws,
 }
 
 

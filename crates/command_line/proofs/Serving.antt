@@ -4,31 +4,32 @@ use Rattle.command_line.specs.Names.{HoldsRegistry, Announces, ListenFault}
 use Rattle.command_line.proofs.Names.{RegistryRecord, IsUntouched, Output, Outputs, HookFact, FailsService, HasAll, HasEnded, ServeEnded, ServiceFiles, handed, registry_bytes}
 use Rattle.command_line.proofs.Names.{address_of, limits_of, EndsAnew, EndsOn, EndsStart, Startings, CommandFault, ServeWords, Service, Serve}
 use Rattle.std.specs.Prelude.{OnOk, IfErr}
+use Rattle.daemon.specs.ByCount.{handed_count}
 use Rattle.daemon.specs.Starts.{handed_anew, handed_on}
 use Rattle.daemon.specs.declared.fault.OpeningFault.{OpeningFault}
 use Rattle.event_loop.specs.declared.limits.Limits.{Limits}
-use Rattle.command_line.specs.Faults.{IsOfListening, IsOfOpening}
+use Rattle.command_line.specs.Faults.{IsOfOpening, IsOfService, IsOfServing}
 
 -- its server does not listen
 pub not_heard : {W E : Type 0} (starts : Startings) (service : Service) (files : ServiceFiles) (fault : CommandFault) (to : Outputs W E) (registry : RegistryRecord)
-    (address : List ℕ) (cause : ListenFault) → HoldsRegistry (registry_bytes files) registry → address_of service ≡ address → IsUntouched to.err →
-    IsOfListening address cause fault → FailsService starts service files fault to
-not_heard starts service files fault to registry address cause held there told is =
-    inl (told, inr (inr (inl (record { registry = registry; held = held; cause = cause; fault_is = rw there is }))))
+    (cause : ListenFault) → HoldsRegistry (registry_bytes files) registry → IsUntouched to.err → IsOfService service cause fault → FailsService starts service files fault to
+not_heard starts service files fault to registry cause held told is =
+    inl (told, inr (inr (inl (record { registry = registry; held = held; cause = cause; fault_is = is }))))
 
 -- so many connections were served, or none
-pub served : {W T : Type 0} (r : Result T CommandFault) (service : Service) (files : ServiceFiles) (out : Output W) (registry : RegistryRecord) (given : ServeWords) →
-    HoldsRegistry (registry_bytes files) registry → service ≡ Serve given → OnOk r (Announces (out.seen out.old) (out.seen out.new)) → OnOk r (ServeEnded service files out)
-served (Ok u) service files out registry given held is announced =
-    record { listened = record { registry = registry; held = held; announced = announced }; given = given; service_is = is }
-served (Err f) service files out registry given held is announced = tt
+pub served : {W T : Type 0} (r : Result T CommandFault) (starts : Startings) (service : Service) (files : ServiceFiles) (out : Output W) (registry : RegistryRecord)
+    (given : ServeWords) → HoldsRegistry (registry_bytes files) registry → service ≡ Serve given → OnOk r (Announces (out.seen out.old) (out.seen out.new)) →
+    OnOk r (starts.by_count (handed_count registry given.seed given.count)) → OnOk r (ServeEnded starts service files out)
+served (Ok u) starts service files out registry given held is announced done =
+    record { listened = record { registry = registry; held = held; announced = announced }; given = given; service_is = is; served = done }
+served (Err f) starts service files out registry given held is announced done = tt
 
 pub not_served : {W E T : Type 0} (r : Result T CommandFault) (starts : Startings) (service : Service) (files : ServiceFiles) (to : Outputs W E) (registry : RegistryRecord)
     (given : ServeWords) → HoldsRegistry (registry_bytes files) registry → service ≡ Serve given → IsUntouched to.err →
-    IfErr r (λ fault. (cause : ListenFault) × IsOfListening given.address.now cause fault) → IfErr r (λ fault. FailsService starts service files fault to)
+    IfErr r (λ fault. (cause : ListenFault) × IsOfServing cause fault) → IfErr r (λ fault. FailsService starts service files fault to)
 not_served (Ok u) starts service files to registry given held is same deaf = tt
 not_served (Err f) starts service files to registry given held is same deaf =
-    not_heard starts service files f to registry given.address.now deaf.0 held (rw is) same deaf.1
+    not_heard starts service files f to registry deaf.0 held same (rw is deaf.1)
 
 -- it was started anew, by all that it has
 pub ended_anew : {W : Type 0} (starts : Startings) (service : Service) (files : ServiceFiles) (fault : CommandFault) (out : Output W) (all : HasAll service files)

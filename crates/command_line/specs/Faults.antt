@@ -1,7 +1,8 @@
 -- What a fault of a layer below is to a service: want of memory is told alike wherever it comes.
 use Rattle.std.specs.Prelude.{◌≡◌, ℕ, List}
-use Rattle.command_line.specs.Names.{CannotListen, CannotWrite, ClockAhead, NoSeed, OutOfMemory, Stopped, Unopened, ListenFault, LifeEnd, CommandFault}
+use Rattle.command_line.specs.Names.{CannotListen, CannotWrite, ClockAhead, NoSeed, NoSocket, OutOfMemory, Stopped, Unopened, ListenFault, LifeEnd, CommandFault, Serve, Start}
 use Rattle.batch_file.specs.declared.disk_file.OpenFault.TheVariants as opening
+use Rattle.command_line.specs.declared.service.Service.{Service}
 use Rattle.commands.specs.Faults.{IsOfState}
 use Rattle.daemon.specs.declared.fault.ListenFault.TheVariants as listen
 use Rattle.daemon.specs.declared.fault.OpeningFault.{OpeningFault}
@@ -15,6 +16,18 @@ IsOfListening address (listen.NoSocket why) (CannotListen named told) = (named.n
 IsOfListening address (listen.NoSocket why) fault = ⊥
 IsOfListening address listen.Unwritten fault = fault ≡ CannotWrite
 IsOfListening address listen.Memory fault = fault ≡ OutOfMemory
+
+-- `serve` tells no more of it
+abbrev pub IsOfServing : ListenFault → CommandFault → Type 0
+IsOfServing listen.NoSeed fault = fault ≡ NoSeed
+IsOfServing (listen.NoSocket why) fault = fault ≡ NoSocket
+IsOfServing listen.Unwritten fault = fault ≡ CannotWrite
+IsOfServing listen.Memory fault = fault ≡ OutOfMemory
+
+-- by the service for which no socket is had
+abbrev pub IsOfService : Service → ListenFault → CommandFault → Type 0
+IsOfService (Serve given) cause fault = IsOfServing cause fault
+IsOfService (Start given) cause fault = IsOfListening given.address.now cause fault
 
 -- or the file at the path is not opened
 abbrev pub IsOfOpening : List ℕ → List ℕ → OpeningFault → CommandFault → Type 0

@@ -7,7 +7,8 @@ use Rattle.command_line.specs.declared.call_files.CallFiles.{CallFiles}
 use Rattle.commands.specs.declared.named_file.NamedFile.{NamedFile}
 use Rattle.command_line.specs.declared.service.ServeWords.{ServeWords}
 use Rattle.command_line.specs.declared.service.Service.{Service}
-use Rattle.command_line.specs.Faults.{IsNotOpened, IsOfListening}
+use Rattle.command_line.specs.Faults.{IsNotOpened, IsOfService}
+use Rattle.daemon.specs.ByCount.{handed_count}
 use Rattle.hook_commands.specs.File.{File}
 use Rattle.command_line.specs.Hooks.{AreFactsOf, HookInFile, in_file, RefusesHooks, TakesHooks}
 use Rattle.command_line.specs.Services.{address_of, config_of}
@@ -32,18 +33,19 @@ pub record HasListened {W : Type 0} (file : File) (out : Output W) : Type 0 wher
   pub held : HoldsRegistry file registry
   pub announced : Announces (out.seen out.old) (out.seen out.new)
 
--- `serve` served its connections
-pub record ServeEnded {W : Type 0} (service : Service) (files : ServiceFiles) (out : Output W) : Type 0 where
+-- `serve` served as many connections as it was told, by draws of its seed
+pub record ServeEnded {W : Type 0} (starts : Startings) (service : Service) (files : ServiceFiles) (out : Output W) : Type 0 where
   pub listened : HasListened (registry_bytes files) out
   pub given : ServeWords
   pub service_is : service ≡ Serve given
+  pub served : starts.by_count (handed_count listened.registry given.seed given.count)
 
 -- a service's file holds a registry, and its server does not listen at its address, for this fault
 pub record IsDeaf (service : Service) (file : File) (fault : CommandFault) : Type 0 where
   pub registry : RegistryRecord
   pub held : HoldsRegistry file registry
   pub cause : ListenFault
-  pub fault_is : IsOfListening (address_of service) cause fault
+  pub fault_is : IsOfService service cause fault
 
 -- the hooks of `start` are not all taken, and this is the first one's fault
 pub record LacksHook (service : Service) (files : ServiceFiles) (fault : CommandFault) : Type 0 where
@@ -99,4 +101,4 @@ pub record TellsEnd {W E : Type 0} (starts : Startings) (service : Service) (fil
 -- A service ends, with what it prints and what it tells: it served, or it is told why it serves nothing, or its server ended.
 abbrev pub EndsService : {W E : Type 0} → Startings → Service → ServiceFiles → Status → Outputs W E → Type 0
 EndsService starts service files status to =
-    ((status ≡ Done) × ServeEnded service files to.out) ⊎ TellsFault (CannotServe service files) status to.err ⊎ TellsEnd starts service files status to
+    ((status ≡ Done) × ServeEnded starts service files to.out) ⊎ TellsFault (CannotServe service files) status to.err ⊎ TellsEnd starts service files status to

@@ -1,18 +1,22 @@
 -- How a server is started: anew, or on the file of its state.
-use Rattle.std.specs.Prelude.{◌≡◌, ℕ, List, map, Option, Some, None}
-use Rattle.command_line.specs.Names.{RegistryRecord, Output, Announces, IsToldBy, Named, HookFact, hook_fact, LifeEnd, Said, CommandFault, Stopped}
+use Rattle.std.specs.Prelude.{◌≡◌, ⊤, ℕ, List, map, Option, Some, None}
+use Rattle.command_line.specs.Names.{RegistryRecord, Output, Announces, IsToldBy, Named, HookFact, hook_fact, LifeEnd, Said, CommandFault, ListenFault, Stopped}
 use Rattle.std.specs.declared.fs.File.{File}
 use Rattle.batch_file.specs.declared.device.Device.{Ghosts as Device}
 use Rattle.batch_file.specs.declared.disk_file.DiskFile.{DiskFile}
+use Rattle.daemon.specs.ByCount.{HandedCount, ServesCount}
 use Rattle.daemon.specs.Starts.{HandedAnew, HandedOn, LivesOn, ServesAnew, handed_anew, handed_on}
 use Rattle.daemon.specs.declared.line_journal.LineJournal.{LineJournal}
+use Rattle.daemon.specs.declared.machine_clock.MachineClock.{MachineClock}
 use Rattle.daemon.specs.declared.starting.Lived.{Lived}
 use Rattle.daemon.specs.declared.starting.Served.{Served}
 use Rattle.daemon.specs.declared.starting.StateTerms.{StateTerms}
 use Rattle.daemon.specs.declared.starting.Terms.{Terms}
 use Rattle.event_loop.specs.declared.fault.LoopFault.{LoopFault}
 use Rattle.event_loop.specs.declared.journal.Journal.{Ghosts as Journal}
-use Rattle.command_line.specs.Faults.{IsOfEnd}
+use Rattle.serving.specs.declared.clock.Clock.{Ghosts as Clock}
+use Rattle.serving.specs.declared.stream.Stream.{Ghosts as Stream}
+use Rattle.command_line.specs.Faults.{IsNotOpened, IsOfEnd, IsOfListening}
 use Rattle.command_line.specs.Services.{limits_of}
 
 -- what a server is started with: its registry, its hooks as they stand in their chain, the code of each, and its options
@@ -22,15 +26,22 @@ pub record Handed : Type 0 where
   pub codes : List HookFact
   pub options : Said
 
--- what comes of a server that is started anew, and of one that is started on the file of its state, until it can't go on
+-- what comes of a server that serves so many connections; of one that is started anew, and of one that is started on the file of
+-- its state, until it can't go on
 pub record Startings : Type 1 where
+  pub by_count : HandedCount → Type 0
   pub anew : HandedAnew → LoopFault → Type 0
   pub on_state : HandedOn → LifeEnd → Type 0
 
--- Over the machine's sockets and clocks, and a file of it: a server that is started anew keeps nothing, and one that is started on
--- the file of its state lives one life.
-abbrev pub startings : {R E : Type 0} → Device (DiskFile R File) → Journal (LineJournal E) → Startings
-startings {R} {E} disk journal = record {
+-- the machine's clock may tell anything
+abbrev pub machine_clock : (R : Type 0) → Clock (MachineClock R)
+machine_clock R = record { tells = λ _ _ _. ⊤ }
+
+-- Over the machine's sockets and clocks, and a file of it: one serves connection after connection, a server that is started anew
+-- keeps nothing, and one that is started on the file of its state lives one life.
+abbrev pub startings : {R E S : Type 0} → Device (DiskFile R File) → Journal (LineJournal E) → Stream S → Startings
+startings {R} {E} disk journal streams = record {
+  by_count = ServesCount streams (machine_clock R);
   anew = λ handed cause. (served : Served R) × (served.fault ≡ cause) × ServesAnew journal handed served;
   on_state = λ handed end. (lived : Lived R) × (lived.end ≡ end) × LivesOn disk journal handed lived;
 }
@@ -43,6 +54,13 @@ EndsAnew starts handed fault out =
 -- it is started on the file at the path, and prints where it listens, once it serves
 abbrev pub EndsOn : {W : Type 0} → Startings → List ℕ → HandedOn → CommandFault → Output W → Type 0
 EndsOn starts path handed fault out = (end : LifeEnd) × starts.on_state handed end × IsOfEnd path end fault × IsToldBy out.seen out.old end out.new
+
+-- no socket is had where it is to listen; or the file of its state is not opened
+abbrev pub IsNotHeard : Terms → CommandFault → Type 0
+IsNotHeard terms fault = (cause : ListenFault) × IsOfListening terms.address.now cause fault
+
+abbrev pub IsUnopened : Terms → StateTerms → CommandFault → Type 0
+IsUnopened terms state fault = IsNotOpened terms.address.now state.path.now fault
 
 -- what a server is handed by a registry, by where and how it serves, and by the file of its state
 abbrev pub handed_by : RegistryRecord → Terms → StateTerms → HandedOn

@@ -1,29 +1,33 @@
 //! The program without its surroundings: words in, lines and a status out.
 
 ghost use Rattle.std.specs.Prelude.{◌≡◌, ◌⊎◌, OnOk, IfErr};
+ghost use Rattle.daemon.specs.ByCount.{ServesCount, handed_count};
 ghost use Rattle.daemon.specs.Starts.{handed_anew};
 ghost use Rattle.command_line.specs.Endings.{EndsCall, EndsWords};
-ghost use Rattle.command_line.specs.Faults.{IsNotOpened, IsOfListening};
+ghost use Rattle.command_line.specs.Faults.{IsOfServing};
 ghost use Rattle.daemon.specs.Listening.{Announces};
 ghost use Rattle.command_line.specs.Listening.{EndsService, FailsService, files_in, ServeEnded};
 ghost use Rattle.commands.specs.Outputs.{output, outputs};
 ghost use Rattle.commands.specs.Performed.{IsUnwritten};
 ghost use Rattle.command_line.specs.Services.{limits_of};
-ghost use Rattle.command_line.specs.Startings.{EndsAnew, EndsOn, handed_by, startings};
+ghost use Rattle.command_line.specs.Startings.{EndsAnew, EndsOn, IsNotHeard, IsUnopened, handed_by, startings};
 
 use crate::call::Call;
 use crate::call_files::{CallFiles, read_files};
 use crate::hook_files::{HooksTaken, kept_hooks, take_hooks};
 use crate::service::{ServeWords, Service};
 use crate::state_performing::perform_state;
-use crate::stopping::{deaf, end_of, unopened};
+use crate::stopping::{deaf, end_of, unheard, unopened};
 use batch_file::device::Device;
 use batch_file::disk_file::DiskFile;
 use clients::Registry;
 use commands::{CommandFault, Printer, Status, moment_now, perform_command, registry_of, told};
-use daemon::{LineJournal, ListenFault, OpeningFault, StateTerms, Terms, serve, start, start_on};
+use daemon::{
+    LineJournal, ListenFault, MachineClock, OpeningFault, StateTerms, Terms, serve, start, start_on,
+};
 use event_loop::{Journal, Limits};
 use hook_chain::Chain;
+use serving::Stream;
 use start_words::Options;
 use std::fs::File;
 use std::net::Net;
@@ -49,18 +53,20 @@ fn limits_of(options: &Options<'_>) -> Limits
 }
 
 /// Serves so many connections.
-fn serve_count<'w, R: Net + Clock + AllocGlobal, W: Printer>(
-    rt: &R,
+fn serve_count<'r, 'w, R: Net + Clock + AllocGlobal, W: Printer>(
+    rt: &'r R,
     given: &ServeWords<'w>,
     registry: Registry,
     out: &mut W,
 ) -> Result<(), CommandFault<'w>>
     ensures done { OnOk result (Announces (W.contents out.old) (W.contents out.new)) }
-    ensures refused { IfErr result (λ fault. (cause : ListenFault) × IsOfListening given.now.address.now cause fault) }
+    ensures served { OnOk result (ServesCount ⟦<R::Stream as Stream>⟧ ⟦<MachineClock<'r, R> as serving::Clock>⟧
+        (handed_count registry given.now.seed given.now.count)) }
+    ensures refused { IfErr result (λ fault. (cause : ListenFault) × IsOfServing cause fault) }
 {
     match serve(rt, given.address, registry, given.seed, given.count, out) {
         Ok(()) => Ok(()),
-        Err(fault) => Err(deaf(given.address, fault)),
+        Err(fault) => Err(unheard(fault)),
     }
 }
 
@@ -80,8 +86,8 @@ fn start_anew<
     out: &mut W,
     err: &mut E,
 ) -> CommandFault<'w>
-    ensures { ((err.new ≡ err.old) × (cause : ListenFault) × IsOfListening terms.entry.address.now cause result)
-        ⊎ EndsAnew (startings ⟦<DiskFile<'r, R> as Device>⟧ ⟦<Lines<'e, E> as Journal>⟧)
+    ensures { ((err.new ≡ err.old) × IsNotHeard terms.entry result)
+        ⊎ EndsAnew (startings ⟦<DiskFile<'r, R> as Device>⟧ ⟦<Lines<'e, E> as Journal>⟧ ⟦<R::Stream as Stream>⟧)
         (handed_anew registry hooks terms.entry.limits) result (output W.contents W.writes out.old out.new) }
 {
     match start(rt, terms, registry, hooks, out, err) {
@@ -106,8 +112,8 @@ fn start_on_state<
     out: &mut W,
     err: &mut E,
 ) -> CommandFault<'w>
-    ensures { ((err.new ≡ err.old) × IsNotOpened terms.entry.address.now state.entry.path.now result)
-        ⊎ EndsOn (startings ⟦<DiskFile<'r, R> as Device>⟧ ⟦<Lines<'e, E> as Journal>⟧) state.entry.path.now
+    ensures { ((err.new ≡ err.old) × IsUnopened terms.entry state.entry result)
+        ⊎ EndsOn (startings ⟦<DiskFile<'r, R> as Device>⟧ ⟦<Lines<'e, E> as Journal>⟧ ⟦<R::Stream as Stream>⟧) state.entry.path.now
         (handed_by registry terms.entry state.entry) result (output W.contents W.writes out.old out.new) }
 {
     match start_on(rt, terms, state, registry, out, err) {
@@ -131,9 +137,10 @@ fn serve_as<
     out: &mut W,
     err: &mut E,
 ) -> Result<(), CommandFault<'w>>
-    ensures done { OnOk result (ServeEnded service.now (files_in files.entry) (output W.contents W.writes out.old out.new)) }
+    ensures done { OnOk result (ServeEnded (startings ⟦<DiskFile<'r, R> as Device>⟧ ⟦<Lines<'e, E> as Journal>⟧ ⟦<R::Stream as Stream>⟧)
+        service.now (files_in files.entry) (output W.contents W.writes out.old out.new)) }
     ensures fault { IfErr result (λ fault.
-        FailsService (startings ⟦<DiskFile<'r, R> as Device>⟧ ⟦<Lines<'e, E> as Journal>⟧)
+        FailsService (startings ⟦<DiskFile<'r, R> as Device>⟧ ⟦<Lines<'e, E> as Journal>⟧ ⟦<R::Stream as Stream>⟧)
         service.now (files_in files.entry) fault
         (outputs (output W.contents W.writes out.old out.new) (output E.contents E.writes err.old err.new))) }
 {
@@ -169,7 +176,7 @@ pub fn perform_service<
     E: Printer + 'e,
 >(rt: &'r R, service: &Service<'_>, files: CallFiles<'_>, out: &mut W, err: &mut E) -> Status
     ensures { let to = outputs (output W.contents W.writes out.old out.new) (output E.contents E.writes err.old err.new) in
-        IsUnwritten result to ⊎ EndsService (startings ⟦<DiskFile<'r, R> as Device>⟧ ⟦<Lines<'e, E> as Journal>⟧)
+        IsUnwritten result to ⊎ EndsService (startings ⟦<DiskFile<'r, R> as Device>⟧ ⟦<Lines<'e, E> as Journal>⟧ ⟦<R::Stream as Stream>⟧)
         service.now (files_in files.entry) result to }
 {
     match serve_as(rt, service, files, out, err) {
@@ -187,7 +194,7 @@ fn perform_call<
     E: Printer + 'e,
 >(rt: &'r R, call: &Call<'_>, files: CallFiles<'_>, out: &mut W, err: &mut E) -> Status
     ensures { let to = outputs (output W.contents W.writes out.old out.new) (output E.contents E.writes err.old err.new) in
-        IsUnwritten result to ⊎ EndsCall (startings ⟦<DiskFile<'r, R> as Device>⟧ ⟦<Lines<'e, E> as Journal>⟧)
+        IsUnwritten result to ⊎ EndsCall (startings ⟦<DiskFile<'r, R> as Device>⟧ ⟦<Lines<'e, E> as Journal>⟧ ⟦<R::Stream as Stream>⟧)
         call.now (files_in files.entry) result to }
 {
     match call {
@@ -210,7 +217,7 @@ pub fn perform<
     E: Printer + 'e,
 >(rt: &'r R, words: &[String], out: &mut W, err: &mut E) -> Status
     ensures { let to = outputs (output W.contents W.writes out.old out.new) (output E.contents E.writes err.old err.new) in
-        IsUnwritten result to ⊎ EndsWords (startings ⟦<DiskFile<'r, R> as Device>⟧ ⟦<Lines<'e, E> as Journal>⟧)
+        IsUnwritten result to ⊎ EndsWords (startings ⟦<DiskFile<'r, R> as Device>⟧ ⟦<Lines<'e, E> as Journal>⟧ ⟦<R::Stream as Stream>⟧)
         words.now result to }
 {
     let call = match Call::from_words(rt.alloc(), words) {

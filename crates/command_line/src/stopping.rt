@@ -1,6 +1,6 @@
 //! What the faults of a server are to the service that it is.
 
-ghost use Rattle.command_line.specs.Faults.{IsOfEnd, IsOfListening, IsOfOpening};
+ghost use Rattle.command_line.specs.Faults.{IsOfEnd, IsOfListening, IsOfOpening, IsOfServing};
 
 use batch_file::disk_file::OpenFault;
 use commands::CommandFault;
@@ -14,6 +14,18 @@ pub(crate) fn deaf<'w>(address: &'w str, fault: ListenFault) -> CommandFault<'w>
     match fault {
         ListenFault::NoSeed => CommandFault::NoSeed,
         ListenFault::NoSocket(fault) => CommandFault::CannotListen(address, fault),
+        ListenFault::Unwritten => CommandFault::CannotWrite,
+        ListenFault::Memory => CommandFault::OutOfMemory,
+    }
+}
+
+/// The fault of `serve` where no socket is had for it.
+pub(crate) fn unheard<'w>(fault: ListenFault) -> CommandFault<'w>
+    ensures { IsOfServing fault result }
+{
+    match fault {
+        ListenFault::NoSeed => CommandFault::NoSeed,
+        ListenFault::NoSocket(_) => CommandFault::NoSocket,
         ListenFault::Unwritten => CommandFault::CannotWrite,
         ListenFault::Memory => CommandFault::OutOfMemory,
     }

@@ -53,6 +53,8 @@ pub enum CommandFault<'w> {
     Hook(&'w str, HookFault),
     /// There is no socket at this address.
     CannotListen(&'w str, SocketFault),
+    /// There is no socket, of which no more is told.
+    NoSocket,
     /// The system gives no random bytes.
     NoSeed,
     /// A server that served can't go on; and why it can't keep its state, where that is so and it is known.
@@ -124,6 +126,7 @@ impl<'w> CommandFault<'w> {
             CommandFault::CannotListen(address, fault) => {
                 write!(f, "cannot listen on {address}: {fault}")
             }
+            CommandFault::NoSocket => write!(f, "cannot listen"),
             CommandFault::NoSeed => write!(f, "no random bytes"),
             CommandFault::Stopped(fault, why) => write_stop(fault, why.as_ref(), f),
             CommandFault::OutOfMemory => write!(f, "out of memory"),

@@ -1,6 +1,6 @@
 -- Beside Calls: only the contracts of this crate's own parts and their proofs cite this, no public clause.
 use Rattle.event_loop.specs.Calls.{Asked, Closed, Tried, read_call, wait_call, write_call}
-use Rattle.daemon.specs.Calls.{Logged, Did, Told}
+use Rattle.daemon.specs.Calls.{Logged, Did, Told, Gave}
 use Rattle.daemon.specs.declared.call_log.SystemCall.{SystemCall}
 use Rattle.daemon.specs.declared.call_log.SystemCall.TheVariants as made
 
@@ -13,3 +13,4 @@ call_made (made.Read place came buffer) = Did (read_call came place buffer.now)
 call_made (made.Write place took bytes) = Did (write_call took place bytes.now)
 call_made (made.Close place) = Did (Closed place)
 call_made (made.Look times) = Told times.now
+call_made (made.Draw bytes) = Gave bytes.now

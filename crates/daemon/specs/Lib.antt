@@ -3,6 +3,7 @@ pub mod Listening
 pub mod Calls
 pub mod Noting
 pub mod Begun
+pub mod ByCount
 pub mod ReportTokens
 pub mod NoticeTexts
 pub mod Starts

@@ -1,6 +1,7 @@
 -- What comes of a server that is started on the machine.
-use Rattle.std.specs.Prelude.{◌≡◌, List, []}
+use Rattle.std.specs.Prelude.{◌≡◌, ℕ, List, [], ◌∷◌, Some, length}
 use Rattle.std.specs.declared.fs.File.{File}
+use Rattle.rand_chacha.specs.ChaCha.{ChaCha, of_seed}
 use Rattle.batch_file.specs.Calls.{only_opened}
 use Rattle.batch_file.specs.declared.device.Device.{Ghosts as Device}
 use Rattle.batch_file.specs.declared.disk_file.DiskFile.{DiskFile}
@@ -19,9 +20,11 @@ use Rattle.lifetime.specs.Anew.{IsLifeAnew, keeping_nothing}
 use Rattle.lifetime.specs.Given.{given, life_promises}
 use Rattle.lifetime.specs.Lives.{IsLife}
 use Rattle.lifetime.specs.declared.means.Means.{Means}
+use Rattle.daemon.specs.Calls.{Gave}
 use Rattle.daemon.specs.Noting.{NotesCall, NotesTimes}
 use Rattle.daemon.specs.declared.line_journal.LineJournal.{LineJournal}
 use Rattle.daemon.specs.declared.machine_clocks.MachineClocks.{MachineClocks}
+use Rattle.daemon.specs.declared.machine_random.MachineRandom.{MachineRandom}
 use Rattle.daemon.specs.declared.sockets.MachineSockets.{MachineSockets}
 use Rattle.daemon.specs.declared.starting.Lived.{Lived}
 use Rattle.daemon.specs.declared.starting.Served.{Served}
@@ -39,6 +42,13 @@ pub record IsFresh {R J : Type 0} (means : Means MachineSockets (MachineClocks R
   pub untold : means.clocks.log.calls ≡ []
   pub limits_are : means.limits ≡ limits
 
+-- the generator's seed is 32 bytes that the random source gave, which gave nothing else
+pub record IsSeeded {R : Type 0} (random : MachineRandom R) (generator : ChaCha) : Type 0 where
+  pub seed : List ℕ
+  pub size : length seed ≡ 32
+  pub given : random.log.calls ≡ Gave (Some seed) ∷ []
+  pub generator_is : generator ≡ of_seed seed
+
 -- ANEW
 
 -- what a server is started with: its registry, its hooks as they stand in their chain, and its limits
@@ -54,6 +64,7 @@ handed_anew registry hooks limits = record { registry = registry; hooks = hooks;
 pub record ServesAnew {R E : Type 0} (journal : Journal (LineJournal E)) (handed : HandedAnew) (served : Served R) : Type 0 where
   pub means : Means MachineSockets (MachineClocks R) (LineJournal E)
   pub fresh : IsFresh means handed.limits
+  pub seeded : IsSeeded served.random means.generator
   pub lines : LineJournal E
   pub life : IsLifeAnew (promises noting_sockets noting_clocks journal keeping_nothing chain.ghosts) (outset_of handed.registry handed.hooks) means
       (record { fault = served.fault; sockets = served.sockets; clocks = served.clocks; journal = lines })
@@ -76,6 +87,7 @@ pub record LivesOn {R E : Type 0} (disk : Device (DiskFile R File)) (journal : J
   pub is_opened : opened.device.log.calls ≡ only_opened opened.bytes.items
   pub means : Means MachineSockets (MachineClocks R) (LineJournal E)
   pub fresh : IsFresh means handed.limits
+  pub seeded : IsSeeded lived.random means.generator
   pub lines : LineJournal E
   pub life : IsLife (life_promises disk noting_sockets noting_clocks journal) (given opened.device opened.bytes.items handed.registry handed.hooks means)
       (record { end = lived.end; device = lived.device; sockets = lived.sockets; clocks = lived.clocks; journal = lines })

@@ -1,9 +1,9 @@
 //! So many connections, one after the other.
 
 ghost use Rattle.std.specs.Prelude.{OnOk};
-ghost use Rattle.http_edge.specs.Reached.{Journey, Reached};
-ghost use Rattle.serving.specs.Served.{LeadsOn};
+ghost use Rattle.serving.specs.Served.{stream_service};
 ghost use Rattle.daemon.specs.Begun.{IsNewEdge};
+ghost use Rattle.daemon.specs.ByCount.{ServesCount, ServesEach, between, handed_count};
 ghost use Rattle.daemon.specs.Listening.{Announces};
 
 use crate::fault::ListenFault;
@@ -16,11 +16,11 @@ use hook_host::HookHost;
 use http_edge::{ConnectionNo, Edge};
 use rand_chacha::ChaCha20Rng;
 use rand_core::SeedableRng;
-use serving::serve_one;
+use serving::{Clock, Stream, serve_one};
 use std::alloc::Global;
 use std::io::Write;
 use std::net::{Net, OpenStream};
-use std::rt::Clock;
+use std::rt;
 
 /// The number under which each connection is served. The one before is forgotten when the next comes.
 pub const NUMBER: u32 = 1;
@@ -34,46 +34,40 @@ pub fn new_edge(alloc: Global, registry: Registry, hooks: Chain) -> Edge<Chain>
 }
 
 /// Serves so many connections of a listener, one after the other. The fault of one ends that one alone.
-pub fn serve_each<R: Net + Clock, H: HookHost>(
-    rt: &R,
+pub fn serve_each<'r, R: Net + rt::Clock, H: HookHost>(
+    clock: &mut MachineClock<'r, R>,
     listener: &R::Listener,
     count: u32,
     edge: &mut Edge<H>,
     rng: &mut ChaCha20Rng,
-)
-    ensures { (journey : Journey H) → Reached H.HookHost edge.old journey → LeadsOn H.HookHost edge.new journey }
+) -> Result<(), ListenFault>
+    ensures { OnOk result (ServesEach (stream_service H.HookHost ⟦<R::Stream as Stream>⟧.does NUMBER) ⟦<MachineClock<'r, R> as Clock>⟧.tells
+        (between edge.old clock.old rng.old) count (between edge.new clock.new rng.new)) }
 {
-    let mut clock = MachineClock(rt);
-    for _ in 0..count {
-        let Some(mut stream) = next_connection(rt, listener) else {
-            return;
-        };
+    for served in 0..count {
+        let mut stream = next_connection(clock.0, listener)?;
         let _ = stream.set_nodelay(true);
-        let _ = serve_one(
-            edge,
-            ConnectionNo::new(NUMBER),
-            &mut stream,
-            &mut clock,
-            rng,
-        );
+        let _ = serve_one(edge, ConnectionNo::new(NUMBER), &mut stream, clock, rng);
         see_off(&mut stream);
     }
+    Ok(())
 }
 
 /// Listens at an address, tells where, and serves so many connections, one after the other, with draws by a seed.
-pub fn serve<R: Net + Clock + AllocGlobal, W: Write>(
-    rt: &R,
+pub fn serve<'r, R: Net + rt::Clock + AllocGlobal, W: Write>(
+    rt: &'r R,
     address: &str,
     registry: Registry,
     seed: [u8; 32],
     count: u32,
     out: &mut W,
 ) -> Result<(), ListenFault>
-    ensures { OnOk result (Announces (W.contents out.old) (W.contents out.new)) }
+    ensures announced { OnOk result (Announces (W.contents out.old) (W.contents out.new)) }
+    ensures served { OnOk result (ServesCount ⟦<R::Stream as Stream>⟧ ⟦<MachineClock<'r, R> as Clock>⟧ (handed_count registry seed count)) }
 {
     let listener = listen(rt, address, out)?;
     let mut edge = new_edge(rt.alloc(), registry, Chain::new(rt.alloc()));
     let mut rng = ChaCha20Rng::from_seed(seed);
-    serve_each(rt, &listener, count, &mut edge, &mut rng);
+    serve_each(&mut MachineClock(rt), &listener, count, &mut edge, &mut rng)?;
     Ok(())
 }

@@ -1,4 +1,4 @@
-//! The calls that were made of the system's sockets and clocks, as a list that only clauses read and that takes no memory.
+//! The calls that were made of the system's sockets, clocks and random source, as a list that only clauses read and that takes no memory.
 
 ghost use Rattle.std.specs.Prelude.{◌≡◌, List, [], ◌∷◌};
 ghost use Rattle.std.specs.Borrow.{ftrue};
@@ -42,6 +42,8 @@ pub(crate) enum SystemCall<'b> {
     },
     /// The clocks were read.
     Look(&'b Option<Times>),
+    /// The source of random bytes was asked for 32.
+    Draw(&'b Option<[u8; 32]>),
 }
 
 /// The calls, the last one first.

@@ -5,7 +5,7 @@ ghost use Rattle.std.specs.Io.KnownBytes.{Appends};
 ghost use Rattle.daemon.specs.Listening.{listening_text, Announces};
 ghost use Rattle.daemon.specs.declared.fault.ListenFault.TheVariants.{Unwritten};
 
-use crate::fault::ListenFault;
+use crate::fault::{ListenFault, SocketFault};
 use std::io::{self, Read, Write};
 use std::net::{Net, OpenListener, OpenStream, Shutdown, SocketAddr, TcpListener};
 use std::rt::Clock;
@@ -43,15 +43,19 @@ pub fn announce<W: Write>(out: &mut W, address: SocketAddr) -> io::Result<()>
     out.flush()
 }
 
-/// The next connection of a listener. Where one can't be accepted, the next is waited for a moment later.
-pub fn next_connection<R: Clock, L: OpenListener>(rt: &R, listener: &L) -> Option<L::Stream> {
+/// The next connection of a listener. Where one can't be accepted, the next is waited for a moment later. Where the system
+/// has refused more of them than can be counted, it refuses the socket.
+pub fn next_connection<R: Clock, L: OpenListener>(
+    rt: &R,
+    listener: &L,
+) -> Result<L::Stream, ListenFault> {
     for stream in listener.incoming() {
         match stream {
-            Ok(stream) => return Some(stream),
+            Ok(stream) => return Ok(stream),
             Err(_) => thread::sleep(rt, Duration::from_millis(PAUSE)),
         }
     }
-    None
+    Err(ListenFault::NoSocket(SocketFault::Other))
 }
 
 /// Reads at most so many pieces, as far as they come at once, and drops them.

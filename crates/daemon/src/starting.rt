@@ -1,8 +1,8 @@
 //! Connections until the program is stopped.
 
-ghost use Rattle.std.specs.Prelude.{◌≡◌, ◌≢◌, OnOk, OnErr, IfOk, IfErr, map};
+ghost use Rattle.std.specs.Prelude.{◌≡◌, ◌≢◌, [], OnOk, OnErr, IfOk, IfErr, map};
 ghost use Rattle.daemon.specs.Listening.{Announces, IsToldBy};
-ghost use Rattle.daemon.specs.Starts.{IsFresh, LivesOn, ServesAnew, handed_anew, handed_on};
+ghost use Rattle.daemon.specs.Starts.{IsFresh, IsSeeded, LivesOn, ServesAnew, handed_anew, handed_on};
 ghost use Rattle.daemon.specs.declared.fault.ListenFault.TheVariants.{Unwritten};
 ghost use Rattle.event_loop.specs.declared.fault.LoopFault.TheVariants.{Keep};
 ghost use Rattle.image_codec.specs.Facts.{hook_fact};
@@ -11,6 +11,7 @@ use crate::announcement::Announcement;
 use crate::fault::{ListenFault, OpeningFault};
 use crate::line_journal::LineJournal;
 use crate::machine_clocks::MachineClocks;
+use crate::machine_random::MachineRandom;
 use crate::ports::Ports;
 use crate::sockets::MachineSockets;
 use batch_file::device::Device;
@@ -49,6 +50,7 @@ pub struct Served<'r, R> {
     pub fault: LoopFault,
     pub sockets: MachineSockets,
     pub clocks: MachineClocks<'r, R>,
+    pub random: MachineRandom<'r, R>,
 }
 
 /// What is left of a server on the file of its state, that was not started or can't go on.
@@ -58,6 +60,7 @@ pub struct Lived<'r, R> {
     pub device: DiskFile<'r, R>,
     pub sockets: MachineSockets,
     pub clocks: MachineClocks<'r, R>,
+    pub random: MachineRandom<'r, R>,
 }
 
 /// A listener, and draws by random bytes of the system.
@@ -67,10 +70,15 @@ struct Begun {
     generator: ChaCha20Rng,
 }
 
-/// Draws by random bytes of the system, and a listener at an address.
-fn begin<R: Net + RandomSource + AllocGlobal>(rt: &R, address: &str) -> Result<Begun, ListenFault> {
-    let mut seed = [0; 32];
-    let Ok(()) = rt.fill_bytes(&mut seed) else {
+/// Draws by bytes of a random source that gave none yet, and a listener at an address.
+fn begin<R: Net + RandomSource + AllocGlobal>(
+    rt: &R,
+    address: &str,
+    random: &mut MachineRandom<'_, R>,
+) -> Result<Begun, ListenFault>
+    ensures { random.old.log.calls ≡ [] → IfOk result (λ begun. IsSeeded random.new begun.generator) }
+{
+    let Some(seed) = random.seed() else {
         return Err(ListenFault::NoSeed);
     };
     Ok(Begun {
@@ -86,7 +94,8 @@ fn means_of<'r, 'e, R: Clock, E>(
     limits: Limits,
     journal: LineJournal<'e, E>,
 ) -> Means<MachineSockets, MachineClocks<'r, R>, LineJournal<'e, E>>
-    ensures { IsFresh result limits }
+    ensures fresh { IsFresh result limits }
+    ensures drawn { result.generator ≡ begun.generator }
 {
     Means {
         sockets: MachineSockets::new(begun.ports),
@@ -114,7 +123,8 @@ pub fn start<'r, 'e, R: Net + Clock + RandomSource + AllocGlobal, W: Write, E: W
     ensures silent { IfErr result (λ fault. fault ≢ Unwritten → out.new ≡ out.old) }
     ensures quiet { OnErr result (err.new ≡ err.old) }
 {
-    let begun = begin(rt, terms.address)?;
+    let mut random = MachineRandom::new(rt);
+    let begun = begin(rt, terms.address, &mut random)?;
     let mut told = Announcement {
         address: begun.ports.address(),
         out,
@@ -134,6 +144,7 @@ pub fn start<'r, 'e, R: Net + Clock + RandomSource + AllocGlobal, W: Write, E: W
         fault,
         sockets,
         clocks,
+        random,
     })
 }
 
@@ -161,7 +172,8 @@ pub fn start_on<
     ensures silent { OnErr result (out.new ≡ out.old) }
     ensures quiet { OnErr result (err.new ≡ err.old) }
 {
-    let begun = begin(rt, terms.address)?;
+    let mut random = MachineRandom::new(rt);
+    let begun = begin(rt, terms.address, &mut random)?;
     let Opened { device, bytes } = DiskFile::open(rt, state.path)?;
     let mut told = Announcement {
         address: begun.ports.address(),
@@ -189,5 +201,6 @@ pub fn start_on<
         device,
         sockets,
         clocks,
+        random,
     })
 }

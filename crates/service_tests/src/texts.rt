@@ -64,6 +64,7 @@ fn sockets_that_the_system_refuses(rt: HostRuntime) -> Result<(), Fail> {
         let text = format!(in rt.alloc(); "cannot listen on a:1: {text}")?;
         assert_told(&rt, CommandFault::CannotListen("a:1", reason), &text)?;
     }
+    assert_told(&rt, CommandFault::NoSocket, "cannot listen")?;
     assert_told(&rt, CommandFault::NoSeed, "no random bytes")
 }
 

@@ -96,7 +96,7 @@ oauthd help has each of the first fourteen:
     Topic {
         name: "cannot listen",
         text: "\
-cannot listen on ADDR: WHY: no socket can be had at the address, for the system's reason WHY. address in use: another program listens there. permission denied: its port is below 1024, and reserved. address not available: its host is not of this machine. An address is an IP address or a host's name, a colon and a port.
+cannot listen on ADDR: WHY: no socket can be had at the address, for the system's reason WHY. address in use: another program listens there. permission denied: its port is below 1024, and reserved. address not available: its host is not of this machine. An address is an IP address or a host's name, a colon and a port. serve says no more than cannot listen.
 
   oauthd start 8080 registry.json      oauthd start 127.0.0.1:8080 registry.json
 ",

@@ -5,8 +5,8 @@ use Rattle.command_line.proofs.performing.serve_as.Goals as goal
 
 pub returns-in-Serve-clause-done : goal.returns-in-Serve-clause-done
 returns-in-Serve-clause-done g c =
-    served c.serve_count.result c.args.service.now (files_in c.args.files) _ c.in_ok-registry.registry c.in-Serve.given c.in_ok-registry.ensures.found c.in-Serve.is
-    c.serve_count.ensures.done
+    served c.serve_count.result _ c.args.service.now (files_in c.args.files) _ c.in_ok-registry.registry c.in-Serve.given c.in_ok-registry.ensures.found c.in-Serve.is
+    c.serve_count.ensures.done c.serve_count.ensures.served
 
 pub returns-in-Serve-clause-fault : goal.returns-in-Serve-clause-fault
 returns-in-Serve-clause-fault g c =
@@ -29,8 +29,8 @@ returns-in_default-clause-fault g c =
     } in
     elim c.start_anew.ensures [
       | inl not ↦ not_heard _ c.args.service.now (files_in c.args.files) c.start_anew.result
-          (outputs (output g.W.Write.contents g.W.Printer.writes c.args.out.now c.start_anew.new.out) (output g.E.Write.contents g.E.Printer.writes c.args.err.now c.start_anew.new.err)) c.in_ok-registry.registry c.in-Start.given.address.now not.1
-          c.in_ok-registry.ensures.found (rw c.in-Start.is) not.0 not.2
+          (outputs (output g.W.Write.contents g.W.Printer.writes c.args.out.now c.start_anew.new.out) (output g.E.Write.contents g.E.Printer.writes c.args.err.now c.start_anew.new.err)) c.in_ok-registry.registry not.1.0
+          c.in_ok-registry.ensures.found not.0 (rw c.in-Start.is not.1.1)
       | inr ends ↦ inr (ended_anew _ c.args.service.now (files_in c.args.files) c.start_anew.result (output g.W.Write.contents g.W.Printer.writes c.args.out.now c.start_anew.new.out) all c.limits_of.result none c.limits_of.ensures ends)
     ]
 

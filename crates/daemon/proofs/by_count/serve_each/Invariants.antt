@@ -1,6 +1,11 @@
-use Rattle.http_edge.specs.Reached.{Journey, Reached}
-use Rattle.serving.specs.Served.{LeadsOn}
+use Rattle.std.proofs.Common.{⊤}
+use Rattle.serving.specs.Served.{stream_service}
+use Rattle.serving.specs.Streams.{does_by}
+use Rattle.daemon.specs.ByCount.{ServesEach, between}
 use Rattle.daemon.proofs.by_count.serve_each.Given as goal
 
-abbrev pub invariant-loop : goal.invariant-loop
-invariant-loop g l = (journey : Journey _) → Reached g.H.HookHost l.initial.edge journey → LeadsOn g.H.HookHost l.edge journey
+-- those that were served so far
+abbrev pub invariant-loop-served : goal.invariant-loop-served
+invariant-loop-served g l =
+    ServesEach (stream_service g.H.HookHost (does_by g.R.Stream.Read.remaining g.R.Stream.Write.contents) 1) (λ _ _ _. ⊤)
+    (between l.fn.edge l.fn.clock l.fn.rng) l.served (between l.edge l.clock l.rng)
