@@ -9,7 +9,7 @@ import tempfile
 from concurrent.futures import ThreadPoolExecutor
 from dataclasses import dataclass
 
-from crashes import Client, Server
+from crashes import Client, Gone, Refused, Server
 from state_format import MARK, batches_of
 
 # Tokens live for so many seconds, so that none expires while a trial runs.
@@ -35,6 +35,19 @@ class Start:
         """Kills the server: what it wrote to standard error."""
         self.process.send_signal(signal.SIGKILL)
         return self.process.communicate()[1]
+
+
+def gone(begun, client):
+    """A server that ends by itself once it is asked: its status, and what it wrote to standard error."""
+    try:
+        client.own_token()
+    except (Gone, Refused, OSError):
+        pass
+    try:
+        told = begun.process.communicate(timeout=PATIENCE)[1]
+    except subprocess.TimeoutExpired:
+        return "goes on", begun.end()
+    return begun.process.returncode, told
 
 
 @dataclass
