@@ -261,7 +261,7 @@ def main():
         all_trials = [
             (tries_narrower_registries, content, registry), (tries_the_first_kind, content), (tries_moments, content, registry),
             (state_paths.tries_new_files,), (state_paths.tries_other_files,), (state_paths.tries_what_is_no_file, content),
-            (state_paths.tries_two_names,), (state_paths.tries_owners, content), (state_paths.tries_order,),
+            (state_paths.tries_two_names,), (state_paths.tries_moved_away,), (state_paths.tries_owners, content), (state_paths.tries_order,),
             *((it,) for it in state_clocks.all_trials()), *((it, content) for it in state_disks.all_trials()),
             (tries_a_damaged_front, content), (tries_every_byte, content), (tries_every_front, content), (tries_draws, content, random.Random(seed), draws),
         ]

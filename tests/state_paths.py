@@ -6,7 +6,7 @@ import signal
 import sqlite3
 
 from state_format import CLOSED, HEADER
-from state_trials import bytes_of, is_named
+from state_trials import bytes_of, gone, is_named
 
 
 def tries_new_files(trials):
@@ -96,6 +96,40 @@ def tries_two_names(trials):
     begun.end()
     trials.path_refused("a file with a second name", state, "SecondLink")
     os.remove(f"{room}/second")
+
+
+def tries_moved_away(trials):
+    """A server whose file or lock is moved, removed or another one acknowledges nothing more, and ends by that name."""
+    def moved(path):
+        os.rename(path, f"{path}.away")
+
+    def linked(path):
+        moved(path)
+        os.symlink(f"{path}.away", path)
+
+    def another(path):
+        moved(path)
+        shutil.copy(f"{path}.away", path)
+
+    for name in ("", ".lock"):
+        for number, away in enumerate((moved, another, os.remove) if name else (moved, linked, another, os.remove)):
+            path = trials.make(f"{trials.room}/moved{number}{name}")
+            begun, client = trials.served("a file that will move", path)
+            token, kept = client.own_token(), bytes_of(path)
+            away(path + name)
+            status, told = gone(begun, client)
+            if (status, told) != (2, "oauthd: stopped: State: Displaced\n"):
+                trials.wrong(f"state{name}: {away.__name__}", f"status {status}, {told!r}")
+            if away is os.remove and not name:
+                continue
+            if os.path.lexists(f"{path}.away"):
+                os.replace(f"{path}.away", path)
+            if bytes_of(path) != kept:
+                trials.wrong(f"state{name}: {away.__name__}", "it was written to")
+            begun, client = trials.served("a file that is back", path)
+            if not client.is_active(token):
+                trials.wrong(f"state{name}: {away.__name__}", "a token is gone")
+            begun.end()
 
 
 def tries_owners(trials, content):

@@ -1,6 +1,6 @@
 //! A file of batches: they are added one by one, or another file is put in the place of all.
 
-ghost use Rattle.std.specs.Prelude.{◌≡◌, ◌<◌, ◌≤◌, ◌^◌, ◌+◌, ◌++◌, [], ◌∷◌, length, IfOk, IfErr, OnOk, IsErrOf};
+ghost use Rattle.std.specs.Prelude.{◌≡◌, ◌<◌, ◌≤◌, ◌^◌, ◌+◌, ◌++◌, [], ◌∷◌, true, false, length, IfOk, IfErr, OnOk, IsErrOf};
 ghost use Rattle.batch_file.specs.Crashes.{HasCause, IsFailure, IsReplaceFailure, IsUnplaced, IsWrittenAt, LeavesOnly, Only, Torn};
 ghost use Rattle.batch_file.specs.Faults.{of_device};
 ghost use Rattle.batch_file.specs.Frames.{file_size, limit, recovered, IsAsBefore, IsBeforeOrAfter, IsOldOrNew, IsBatchFailure, IsOnDisk, IsReadable, IsReadableOrChance};
@@ -28,6 +28,8 @@ pub enum BatchFault {
     Full,
     /// The batch has `2^23` bytes or more.
     TooLong,
+    /// The file, or what locks it, was moved or removed.
+    Displaced,
 }
 
 impl Display for BatchFault {
@@ -112,12 +114,18 @@ impl<D: Device> BatchFile<D> {
         ensures failed { IfErr result (λ fault. IsBatchFailure fault → D.faults self.old.device < D.faults self.new.device) }
         ensures full { IsErrOf result BatchFault.Full → 2 ^ 60 ≤ self.old.end }
         ensures too_long { IsErrOf result BatchFault.TooLong → limit ≤ length batch.now }
+        // It is added only where the file stands where it was opened.
+        ensures in_place { OnOk result (D.tells_place self.old.device true) }
+        ensures displaced { IsErrOf result BatchFault.Displaced → D.tells_place self.old.device false }
     {
         if batch.len() >= LIMIT {
             return Err(BatchFault::TooLong);
         }
         if self.end >= MAX_END {
             return Err(BatchFault::Full);
+        }
+        if !self.device.is_in_place() {
+            return Err(BatchFault::Displaced);
         }
         let head = head_of(&self.last, batch);
         write_behind(&mut self.device, self.end + 1, &head.bytes, batch)?;

@@ -1,6 +1,6 @@
 //! A file as a `BatchFile` sees it: what a read would return, and what a crash may leave.
 
-ghost use Rattle.std.specs.Prelude.{◌≡◌, ◌≤◌, List, ℕ, length, OnOk, IfErr};
+ghost use Rattle.std.specs.Prelude.{◌≡◌, ◌≤◌, Bool, List, ℕ, length, OnOk, IfErr};
 ghost use Rattle.batch_file.specs.declared.device.DeviceFault.TheVariants.{Memory};
 ghost use Rattle.batch_file.specs.declared.device.ReplaceFault.TheVariants as replacing;
 ghost use Rattle.batch_file.specs.Crashes.{Elapses, ComesOfStep, HasCause, IsFailure, IsUnplaced, IsReplaceFailure, IsWrittenAt, Only, Swapped, Torn};
@@ -72,6 +72,13 @@ pub trait Device {
 
     /// How often the disk has failed.
     ghost faults: { Self → ℕ };
+
+    /// What it may tell of whether its file stands where it was opened.
+    ghost tells_place: { Self → Bool → Type 0 };
+
+    /// Whether the file, and what locks it, stand where they were opened: neither was moved or removed, as far as the system tells.
+    fn is_in_place(&self) -> bool
+        ensures { tells_place self.now result };
 
     /// Writes over what is there, and past the end. Until a sync, a crash may leave any bytes in the range.
     fn write_at(&mut self, at: usize, bytes: &[u8]) -> Result<(), DeviceFault>

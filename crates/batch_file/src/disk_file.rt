@@ -4,7 +4,7 @@
 //! The lock is held on a file of its own beside it, since the file itself is another one after a replacement. All names of the
 //! file lead to that lock: links to the file are refused, and one that is mounted by itself can't be replaced.
 
-ghost use Rattle.std.specs.Prelude.{◌≡◌, length, bit_and, IfOk, IfErr, OnOk, IfSome, IfNone, IsTrue, ◌↔◌, Some};
+ghost use Rattle.std.specs.Prelude.{◌≡◌, ⊤, length, bit_and, IfOk, IfErr, OnOk, IfSome, IfNone, IsTrue, ◌↔◌, Some};
 ghost use Rattle.std.specs.Fs.{file_type, metadata_mode, IsFile, IsSymlink};
 ghost use Rattle.std.specs.Io.KnownBytes.{IsAtEnd};
 ghost use Rattle.std.specs.Path.{path_bytes};
@@ -154,6 +154,7 @@ pub struct DiskFile<'r, R, F = File> {
     folder: F,
     lock: F,
     path: String,
+    lock_path: String,
     next_path: String,
     torn_path: String,
     log: CallLog,
@@ -246,6 +247,14 @@ fn open_checked<R: Files>(rt: &R, path: &str) -> Result<R::File, OpenFault> {
     Ok(file)
 }
 
+/// Whether what the system tells of a path is told of this open file.
+fn is_same<F: OpenFile>(found: io::Result<Metadata>, file: &F) -> bool {
+    let (Ok(found), Ok(opened)) = (found, file.metadata()) else {
+        return false;
+    };
+    (opened.dev(), opened.ino()) == (found.dev(), found.ino())
+}
+
 /// Makes a new file with these bytes in a folder, on the disk, or none.
 fn make_file<R: Files>(rt: &R, folder: &R::File, path: &str, bytes: &[u8]) -> io::Result<()> {
     let mut file = options().create_new(true).open(rt, path)?;
@@ -298,6 +307,7 @@ impl<'r, F: SystemFile, R: Files<File = F> + AllocGlobal> DiskFile<'r, R, F> {
             folder,
             lock,
             path,
+            lock_path,
             next_path,
             torn_path,
             log,
@@ -353,6 +363,14 @@ impl<'r, F: SystemFile, R: Files<File = F> + AllocGlobal> Device for DiskFile<'r
     ghost counts_now = { λ device t left le now. counts_now_of device.log.calls t left le now };
 
     ghost only_now = { λ device left since. only_now_of device.log.calls left since };
+
+    // The system promises nothing of what it tells of a path.
+    ghost tells_place = { λ _ _. ⊤ };
+
+    fn is_in_place(&self) -> bool {
+        is_same(fs::symlink_metadata(self.rt, self.path.as_str()), &self.file)
+            && is_same(fs::metadata(self.rt, self.lock_path.as_str()), &self.lock)
+    }
 
     fn write_at(&mut self, at: usize, bytes: &[u8]) -> Result<(), DeviceFault> {
         let at = at as u64;

@@ -85,6 +85,7 @@ fn servers_that_stop(rt: HostRuntime) -> Result<(), Fail> {
         (full, "stopped: State: no storage space"),
         (BatchFault::Full, "stopped: State: Full"),
         (BatchFault::TooLong, "stopped: State: TooLong"),
+        (BatchFault::Displaced, "stopped: State: Displaced"),
     ] {
         let stopped = CommandFault::Stopped(LoopFault::Keep, Some(cause));
         assert_told(&rt, stopped, text)?;

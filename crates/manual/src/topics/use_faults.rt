@@ -116,7 +116,7 @@ connection ended: FAULT: a connection of start was closed before its client ende
     Topic {
         name: "stopped",
         text: "\
-stopped: FAULT: start served, and can't go on. Wait is a wait for connections that fails, Clock is a clock of the machine that can't be read, ClockAhead N is one that jumped ahead by N seconds, more than a year (set it first; oauthd help ClockAhead), Rounds are more rounds than can be counted, and State: WHY is a state that can't be written to its file, for the system's reason WHY: make room on the disk, or look what is wrong with it. All connections were closed; what was acknowledged is in the file. Start it again.
+stopped: FAULT: start served, and can't go on. Wait is a wait for connections that fails, Clock is a clock of the machine that can't be read, ClockAhead N is one that jumped ahead by N seconds, more than a year (set it first; oauthd help ClockAhead), Rounds are more rounds than can be counted, and State: WHY is a state that can't be written to its file, for the system's reason WHY (Displaced: the file or its lock was moved or removed): make room on the disk, or look what is wrong with it. All connections were closed; what was acknowledged is in the file. Start it again.
 ",
     },
     Topic {
