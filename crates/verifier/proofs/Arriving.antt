@@ -1,9 +1,9 @@
 -- One instruction, passed in the cases that wait at its slot; and what is known at the slot that a walk has come to.
-use Rattle.std.proofs.Common.{Fits, w64, FitsSigned, w32, ◌≡◌, ◌≢◌, ℕ, ℤ, pos, suc, ◌+◌, ◌<◌, ◌≤◌, ◌++◌, List, [], ◌∷◌, Option, Some, None, Ok, refl, sym, ap, ◌∙◌, arith, get_or, length, inl, inr, ◌⊎◌, zero, ◌-◌, take, drop, set, subst}
+use Rattle.std.proofs.Common.{Fits, w64, Bool, true, false, is_some, FitsSigned, w32, ◌≡◌, ◌≢◌, ℕ, ℤ, pos, suc, ◌+◌, ◌<◌, ◌≤◌, ◌++◌, List, [], ◌∷◌, Option, Some, None, Ok, refl, sym, ap, ◌∙◌, arith, get_or, length, inl, inr, ◌⊎◌, zero, ◌-◌, take, drop, set, subst}
 use Rattle.verifier.proofs.Names.{InStates, option_to_list, ints, append-nil, append_assoc, get_or-set_other, get_or-set_same, length-set, cases_eq, cases_lt, All, All-push, SLOT_LIMIT}
-use Rattle.verifier.proofs.Names.{slot_count, Insn, Layout, WalkFault, slots_of, walk_fault_at, look_verdict, Known, Test, LeavesKnown, AreBothPushed, BranchGoesOn, IsTestSettled, EachGoesOn, GoesOn}
+use Rattle.verifier.proofs.Names.{slot_count, Insn, Layout, WalkFault, slots_of, walk_fault_at, look_verdict, Known, Test, LeavesKnown, AreBothTold, IsTestTold, IsWayPushed, IsWayTold, onward_of, onward_of_each, onward_from}
 use Rattle.verifier.proofs.Names.{IsPassed, IsPushed, IsRefusedAt, IsRefusedHere, IsTaken, IsVisited, PassesEach, either, nowhere, IsBegun, IsCopy, IsFar, IsLastPassage, IsPassage}
-use Rattle.verifier.proofs.Names.{IsNoted, IsVisit, exit_ends, Reaches, step, steps, Config, IsRecord, start, StateFits, AreToldOnward, IsAcceptance, IsExplained, IsKnownAt, NoneComesTo}
+use Rattle.verifier.proofs.Names.{IsVisit, IsToldOnward, ahead_alone, behind_alone, slot_unless, slots_of_bounds, unreached_by, exit_ends, Reaches, step, steps, Config, IsRecord, start, StateFits, IsAcceptance, IsExplained, IsKnownAt, NoneComesTo}
 use Rattle.std.proofs.Math.Bool.{or_assoc}
 use Rattle.verifier.specs.declared.walk.Onward.{Onward}
 use Rattle.verifier.specs.declared.walk.Passage.{Passage}
@@ -12,20 +12,16 @@ use Rattle.verifier.proofs.Names.{look_fault, first_found, begins_at, places, le
 use Rattle.std.proofs.lemmas.List.Sums.{sum_by-cons}
 use Rattle.insn.specs.declared.verify_fault.VerifyFault.{VerifyFault}
 use Rattle.verifier.specs.Verdicts.{GetsTo, IsRefusal}
-use Rattle.std.specs.Prelude.{Contains}
-use Rattle.verifier.specs.declared.known.Flow.TheVariants.{Branch, Exit}
+use Rattle.std.specs.Prelude.{Contains, IfOk, Result, Err}
+use Rattle.verifier.specs.declared.known.Flow.TheVariants.{Branch, Exit, Jump, Next}
 use Rattle.verifier.specs.declared.explain.Refusal.{Refusal}
 use Rattle.verifier.specs.declared.walk.Upshot.TheVariants.{Passed, Refused}
 use Rattle.verifier.proofs.ShapeLaws.{bind_some}
 use Rattle.verifier.proofs.Waits.{has_first, has_later, has_middle, has_none, middle_or_around}
-use Rattle.verifier.proofs.Ways.{Typed, behind_it, later, never_refused, none_first, none_verdict, same_reached, writes_low}
+use Rattle.verifier.proofs.Ways.{Typed, later, never_refused, none_first, none_verdict, same_reached, writes_low}
 use Rattle.verifier.specs.declared.walk.Passage.TheVariants as passage
 
 -- ---- one case more
-
-passes_more : (layout : Layout) (i : Insn) (slot : ℕ) (cases : List Known) (known : Known) (v mid w' : List (List Known)) → PassesEach layout i slot cases v mid → IsPassed layout i slot known mid w' → PassesEach layout i slot (cases ++ known ∷ []) v w'
-passes_more layout i slot [] known v mid w' p q = (w', rw (← p) q, refl)
-passes_more layout i slot (a ∷ rest) known v mid w' p q = (p.0, p.1, passes_more layout i slot rest known p.0 mid w' p.2 q)
 
 either_assoc : (a b c : Onward) → either (either a b) c ≡ either a (either b c)
 either_assoc a b c = rw (or_assoc a.behind b.behind c.behind, or_assoc a.ahead b.ahead c.ahead) refl
@@ -33,11 +29,16 @@ either_assoc a b c = rw (or_assoc a.behind b.behind c.behind, or_assoc a.ahead b
 either_nowhere : (b : Onward) → either b nowhere ≡ b
 either_nowhere b = grind (arith)
 
-goes_more : (layout : Layout) (i : Insn) (cases : List Known) (known : Known) (a b : Onward) → EachGoesOn layout i cases a → GoesOn layout i known b → EachGoesOn layout i (cases ++ known ∷ []) (either a b)
-goes_more layout i [] known a b g h = rw g (b, nowhere, h, refl, sym (either_nowhere b))
-goes_more layout i (c ∷ rest) known a b g h =
-    let more = goes_more layout i rest known g.1 b g.3 h in
-    (g.0, either g.1 b, g.2, more, ap (λ (o : Onward). either o b) g.4 ∙ either_assoc g.0 g.1 b)
+-- it is passed in one case more, and it is told where it goes on in each
+passes_more : (layout : Layout) (i : Insn) (slot : ℕ) (cases : List Known) (known : Known) (v mid w' : List (List Known)) (onward here : Onward) (p : PassesEach layout i slot cases v mid) → onward ≡ onward_of_each layout i slot cases v mid p
+    → (q : IsPassed layout i slot known mid w') × (here ≡ onward_of q) → (r : PassesEach layout i slot (cases ++ known ∷ []) v w') × (either onward here ≡ onward_of_each layout i slot (cases ++ known ∷ []) v w' r)
+passes_more layout i slot [] known v mid w' onward here p e q =
+    let both : (q : IsPassed layout i slot known v w') × (here ≡ onward_of q) = rw (← p) q in
+    ((w', both.0, refl), rw e (both.1 ∙ sym (either_nowhere (onward_of both.0))))
+passes_more layout i slot (a ∷ rest) known v mid w' onward here p e q =
+    let others = onward_of_each layout i slot rest p.0 mid p.2 in
+    let more = passes_more layout i slot rest known p.0 mid w' others here p.2 refl q in
+    ((p.0, p.1, more.0), rw e (either_assoc (onward_of p.1) others here ∙ ap (λ (o : Onward). either (onward_of p.1) o) more.1))
 
 -- ---- the loop over the cases that wait
 
@@ -47,7 +48,7 @@ pub record Visiting (layout : Layout) (i : Insn) (slot : ℕ) (old : List (List 
   pub between : List (List Known)
   pub taken : IsTaken old slot (before ++ left) between
   pub passed : PassesEach layout i slot before between now
-  pub goes : EachGoesOn layout i before onward
+  pub goes : onward ≡ onward_of_each layout i slot before between now passed
   pub copied : (left ≡ []) ⊎ (kept ≡ before)
   pub long : length now ≡ length old
 
@@ -65,14 +66,14 @@ module _ (layout : Layout) (i : Insn) (slot : ℕ) (old : List (List Known)) (le
     by (inr e) = e
 
   -- one more is passed
-  pub one_visited : (now' : List (List Known)) (here : Onward) (copy : Option Known) (kept' : List Known) → IsPassed layout i slot known now now' × GoesOn layout i known here → IsCopy known rest copy → kept' ≡ kept ++ option_to_list copy
+  pub one_visited : (now' : List (List Known)) (here : Onward) (copy : Option Known) (kept' : List Known) → (p : IsPassed layout i slot known now now') × (here ≡ onward_of p) → IsCopy known rest copy → kept' ≡ kept ++ option_to_list copy
       → Visiting layout i slot old rest kept' now' (either onward here)
-  one_visited now' here copy kept' p c k = record {
+  one_visited now' here copy kept' p c k = let more = passes_more layout i slot v.before known v.between now now' onward here v.passed v.goes p in record {
     before = v.before ++ known ∷ [];
     between = v.between;
     taken = rw (append_assoc v.before (known ∷ []) rest) taken_here;
-    passed = passes_more layout i slot v.before known v.between now now' v.passed p.0;
-    goes = goes_more layout i v.before known onward here v.goes p.1;
+    passed = more.0;
+    goes = more.1;
     copied = keeps rest copy c k;
     long = passes_long layout i slot known now now' p.0 ∙ v.long;
   } where
@@ -89,18 +90,18 @@ module _ (layout : Layout) (i : Insn) (slot : ℕ) (old : List (List Known)) (le
   )
 
 -- all have been passed
-pub all_visited : (layout : Layout) (i : Insn) (slot : ℕ) (old : List (List Known)) (left kept : List Known) (now : List (List Known)) (onward : Onward) → left ≡ [] → Visiting layout i slot old left kept now onward → IsVisited layout i slot old now × EachGoesOn layout i (get_or old slot []) onward
+pub all_visited : (layout : Layout) (i : Insn) (slot : ℕ) (old : List (List Known)) (left kept : List Known) (now : List (List Known)) (onward : Onward) → left ≡ [] → Visiting layout i slot old left kept now onward → (v : IsVisited layout i slot old now) × (onward ≡ onward_from v)
 all_visited layout i slot old left kept now onward none v =
     let taken : IsTaken old slot v.before v.between = rw (none, append-nil v.before) at v.taken in
-    (record { there = v.before; between = v.between; taken = taken; goes = v.passed }, rw taken.here v.goes)
+    (record { there = v.before; between = v.between; taken = taken; goes = v.passed }, v.goes)
 
 -- ---- a case that waits alone
 
 module _ (layout : Layout) (i : Insn) (slot : ℕ) (old between : List (List Known)) (cases : List Known) (known : Known) (one : cases ≡ known ∷ []) (taken : IsTaken old slot cases between) where
-  pub passed_alone : (now : List (List Known)) (here : Onward) → IsPassed layout i slot known between now × GoesOn layout i known here → IsVisited layout i slot old now × EachGoesOn layout i (get_or old slot []) here
+  pub passed_alone : (now : List (List Known)) (here : Onward) → (p : IsPassed layout i slot known between now) × (here ≡ onward_of p) → (v : IsVisited layout i slot old now) × (here ≡ onward_from v)
   passed_alone now here p =
       let all : IsTaken old slot (known ∷ []) between = rw one at taken in
-      (record { there = known ∷ []; between = between; taken = all; goes = (now, p.0, refl) }, rw all.here (here, nowhere, p.1, refl, sym (either_nowhere here)))
+      (record { there = known ∷ []; between = between; taken = all; goes = (now, p.0, refl) }, p.1 ∙ sym (either_nowhere (onward_of p.0)))
 
   pub refused_alone : (before : Known) (fault : WalkFault) (others : List Known) → others ≡ [] → IsRefusedAt layout i slot known (length between) fault × (before ≡ known)
       → (r : IsRefusedHere layout i slot old (walk_fault_at fault slot)) × (r.known ≡ before) × (others ≡ r.before ++ r.after)
@@ -111,20 +112,48 @@ module _ (layout : Layout) (i : Insn) (slot : ℕ) (old between : List (List Kno
 
 -- a passage behind which there is no slot leaves what waits as it is
 pub last_passed : (layout : Layout) (i : Insn) (slot slots : ℕ) (known : Known) (old : List (List Known)) (r : Passage) → slots ≡ length old → IsLastPassage layout i slot slots known r → IsPassage layout i slot known old old r
-last_passed layout i slot slots known old (passage.Passed onward) all h = (record { after = h.0; flow = Exit; row = h.1; settled = refl }, record { after = h.0; flow = Exit; row = h.1; goes = h.2 })
+last_passed layout i slot slots known old (passage.Passed onward) all h = (record { after = h.0; flow = Exit; row = h.1; settled = refl }, h.2)
 last_passed layout i slot slots known old (passage.Refused fault before) all h = (rw all at h.0, h.1)
 
--- a conditional jump goes on behind it or further on
-pub settled_near : (d : ℤ) (test : Test) (behind : ℕ) (known : Known) (old now : List (List Known)) → d ≡ pos 0 → IsPushed old behind known now → IsTestSettled d test behind known old now
-settled_near d test behind known old now near p = inl (near, p)
+-- what is told of each way of a conditional jump is told of both
+pub both_told : (old between now : List (List Known)) (behind to : ℕ) (test : Test) (known known' : Known) (passes jumps : Bool) → known' ≡ known → IsWayTold old to test true known between jumps → IsWayTold between behind test false known' now passes → AreBothTold old behind to test known now (record { behind = passes; ahead = jumps })
+both_told old between now behind to test known known' passes jumps same jump pass = by jump.0 pass'.0 jump.1 pass'.1 where
+  pass' : IsWayTold between behind test false known now passes
+  pass' = rw same at pass
 
-pub settled_far : (d : ℤ) (test : Test) (behind to slots : ℕ) (known : Known) (old now : List (List Known)) → (far : IsFar (Some d) behind slots) → d ≢ pos 0 → ((k : ℕ) → d ≡ pos k → to ≡ behind + k) → AreBothPushed old behind to test known now → IsTestSettled d test behind known old now
-settled_far d test behind to slots known old now far h1 h2 h3 = grind (arith)
+  by : (taken : IsWayPushed old to test true known between) (passed : IsWayPushed between behind test false known now) → jumps ≡ is_some taken.there → passes ≡ is_some passed.there → AreBothTold old behind to test known now (record { behind = passes; ahead = jumps })
+  by taken passed t p = (record { between = between; taken = taken; passed = passed }, rw (p, t) refl)
+
+-- a conditional jump goes on behind it or further on
+pub told_near : (d : ℤ) (test : Test) (behind : ℕ) (known : Known) (old now : List (List Known)) → d ≡ pos 0 → IsPushed old behind known now → IsTestTold d test behind known old now behind_alone
+told_near d test behind known old now near p = (inl (near, p), refl)
+
+pub told_far : (d : ℤ) (test : Test) (behind to slots : ℕ) (known : Known) (old now : List (List Known)) (onward : Onward) → (far : IsFar (Some d) behind slots) → d ≢ pos 0 → ((k : ℕ) → d ≡ pos k → to ≡ behind + k) → AreBothTold old behind to test known now onward → IsTestTold d test behind known old now onward
+told_far d test behind to slots known old now onward (k, is, less) far at both =
+    let there : AreBothTold old behind (behind + k) test known now onward = subst (λ (t : ℕ). AreBothTold old behind t test known now onward) (at k is) both in
+    (inr (k, is, λ none. far (is ∙ ap pos none), there.0), there.1)
+
+-- the same, where memory may be refused
+pub told_far_if : {E : Type 0} (d : ℤ) (test : Test) (behind to slots : ℕ) (known : Known) (old now : List (List Known)) (r : Result Onward E) → (far : IsFar (Some d) behind slots) → d ≢ pos 0 → ((k : ℕ) → d ≡ pos k → to ≡ behind + k) → IfOk r (AreBothTold old behind to test known now) → IfOk r (IsTestTold d test behind known old now)
+told_far_if d test behind to slots known old now (Ok onward) far apart at both = told_far d test behind to slots known old now onward far apart at both
+told_far_if d test behind to slots known old now (Err fault) far apart at both = tt
+
+-- where a passage goes on
+pub passed_exit : (layout : Layout) (i : Insn) (slot : ℕ) (known after : Known) (old : List (List Known)) → LeavesKnown layout i known after (Ok Exit) → (p : IsPassed layout i slot known old old) × (nowhere ≡ onward_of p)
+passed_exit layout i slot known after old row = (record { after = after; flow = Exit; row = row; settled = refl }, refl)
+
+pub passed_next : (layout : Layout) (i : Insn) (slot : ℕ) (known after : Known) (old now : List (List Known)) → LeavesKnown layout i known after (Ok Next) → slot + slots_of i < length old → IsPushed old (slot + slots_of i) after now → (p : IsPassed layout i slot known old now) × (behind_alone ≡ onward_of p)
+passed_next layout i slot known after old now row inside pushed = (record { after = after; flow = Next; row = row; settled = (inside, pushed) }, refl)
+
+pub passed_jump : (layout : Layout) (i : Insn) (slot : ℕ) (known after : Known) (d : ℤ) (to slots : ℕ) (old now : List (List Known)) → LeavesKnown layout i known after (Ok (Jump d)) → IsFar (Some d) (slot + slots_of i) slots → ((k : ℕ) → d ≡ pos k → to ≡ slot + slots_of i + k) → IsPushed old to after now
+    → (p : IsPassed layout i slot known old now) × (ahead_alone ≡ onward_of p)
+passed_jump layout i slot known after d to slots old now row (k, is, less) at pushed =
+    (record { after = after; flow = Jump d; row = row; settled = (k, is, subst (λ (t : ℕ). IsPushed old t after now) (at k is) pushed) }, refl)
 
 -- what a test leaves is where a passage goes on
-pub passed_test : (layout : Layout) (i : Insn) (slot : ℕ) (known after : Known) (d : ℤ) (test : Test) (onward : Onward) (old now : List (List Known)) → LeavesKnown layout i known after (Ok (Branch d test)) → slot + slots_of i < length old → IsTestSettled d test (slot + slots_of i) after old now → BranchGoesOn d test after onward
-    → IsPassed layout i slot known old now × GoesOn layout i known onward
-passed_test layout i slot known after d test onward old now row inside settled goes = (record { after = after; flow = Branch d test; row = row; settled = (inside, settled) }, record { after = after; flow = Branch d test; row = row; goes = goes })
+pub passed_test : (layout : Layout) (i : Insn) (slot : ℕ) (known after : Known) (d : ℤ) (test : Test) (onward : Onward) (old now : List (List Known)) → LeavesKnown layout i known after (Ok (Branch d test)) → slot + slots_of i < length old → IsTestTold d test (slot + slots_of i) after old now onward
+    → (p : IsPassed layout i slot known old now) × (onward ≡ onward_of p)
+passed_test layout i slot known after d test onward old now row inside told = (record { after = after; flow = Branch d test; row = row; settled = (inside, told.0) }, told.1)
 
 -- a jump that stays in a program is not far
 pub fits_far : (o : Option ℤ) (d : ℤ) (behind slots : ℕ) → o ≡ Some d → IsFar o behind slots → slots ≤ SLOT_LIMIT → FitsSigned w32 d
@@ -195,23 +224,34 @@ module _ (layout : Layout) (program : List Insn) (slot : ℕ) (rest : List Insn)
         named x (inl e) = rw (← e) (has_first known (before ++ after))
         named x (inr h) = has_later known x (before ++ after) h
 
--- what the loop keeps: no run has come to the slots that it notes, and it has told where walks go on from those before
+-- a walk has come there, by which these slots are unreached, and it is told where it went on
+pub record Came (layout : Layout) (program : List Insn) (slot : ℕ) (rest : List Insn) (w : List (List Known)) (noted : List ℕ) (onward : List Onward) : Type 0 where
+  pub walked : HasWalked layout program slot rest w
+  pub unreached : noted ≡ unreached_by walked
+  pub told : IsToldOnward onward walked
+
+-- where a walk went on stays told where more is told from the slot on that it has come to
+told_more : (layout : Layout) (program : List Insn) (slot : ℕ) (rest : List Insn) (w : List (List Known)) (onward : List Onward) (at : ℕ) (here : Onward) (h : HasWalked layout program slot rest w) → slot ≤ at → IsToldOnward onward h → IsToldOnward (set onward at here) h
+told_more layout program slot rest w onward at here (Begun b) low told = tt
+told_more layout program slot rest w onward at here (Visited {slot = k} {i = i} before v) low (told, one) =
+    let some = slots_of_bounds i in
+    (told_more layout program k (i ∷ rest) _ onward at here before (omega arith) told, get_or-set_other onward at k here nowhere (λ e. omega arith) ∙ one)
+
+-- what the loop keeps: a walk that came there, whose unreached slots it notes, to which no run comes
 pub record Exploring (layout : Layout) (program : List Insn) (slot : ℕ) (rest : List Insn) (w : List (List Known)) (unreached : List ℕ) (onward : List Onward) : Type 0 where
   pub walked : Walked layout program slot rest w
   pub fine : first_found (look_fault program) slot rest ≡ None
-  pub came : HasWalked layout program slot rest w
+  pub came : Came layout program slot rest w unreached onward
   pub none : All (NoneComesTo layout program) unreached
   pub long : length onward ≡ slot_count program
-  pub told : AreToldOnward layout program slot onward
 
 pub begins_exploring : (layout : Layout) (program : List Insn) (w : List (List Known)) (onward : List Onward) → 1 ≤ slot_count program → look_verdict program ≡ None → IsBegun (slot_count program) w → length onward ≡ slot_count program → Exploring layout program 0 program w [] onward
 begins_exploring layout program w onward some none b long = record {
   walked = walk_start layout program w some b;
   fine = none_verdict _ none;
-  came = Begun b;
+  came = record { walked = Begun b; unreached = refl; told = tt };
   none = λ k d lt. absurd (omega arith);
   long = long;
-  told = λ k i lt begins. absurd (omega arith);
 }
 
 module _ (layout : Layout) (program : List Insn) (slot : ℕ) (rest : List Insn) (w : List (List Known)) (d : Insn) (some : 1 ≤ length rest) (unreached : List ℕ) (onward : List Onward) (h : Exploring layout program slot rest w unreached onward) where
@@ -224,7 +264,7 @@ module _ (layout : Layout) (program : List Insn) (slot : ℕ) (rest : List Insn)
   walked_here : Walked layout program slot (now ∷ others) w
   walked_here = rw (first_rest rest d some) h.walked
 
-  came_here : HasWalked layout program slot (now ∷ others) w
+  came_here : Came layout program slot (now ∷ others) w unreached onward
   came_here = rw (first_rest rest d some) h.came
 
   fine_here : (look_fault program (slot + slots_of now) now ≡ None) × (first_found (look_fault program) (slot + slots_of now) others ≡ None)
@@ -255,28 +295,21 @@ module _ (layout : Layout) (program : List Insn) (slot : ℕ) (rest : List Insn)
   pub told_inside : slot < length onward
   told_inside = omega (arith, slot_inside, h.long)
 
-  noted : (cases : List Known) (after : List ℕ) → get_or w slot [] ≡ cases → IsNoted slot cases unreached after → All (NoneComesTo layout program) after
-  noted [] after here n = rw n (All-push (NoneComesTo layout program) unreached slot h.none (none_comes layout program slot rest w h.walked here))
-  noted (known ∷ others) after here n = rw n h.none
+  noted : (cases : List Known) → get_or w slot [] ≡ cases → All (NoneComesTo layout program) (unreached ++ slot_unless slot cases)
+  noted [] here = All-push (NoneComesTo layout program) unreached slot h.none (none_comes layout program slot rest w h.walked here)
+  noted (known ∷ others) here = rw (append-nil unreached) h.none
 
-  pub one_explored : (w' : List (List Known)) (here : Onward) (after : List ℕ) → IsVisit layout now slot w w' (Passed here) → IsNoted slot (get_or w slot []) unreached after → Exploring layout program (slot + slots_of now) others w' after (set onward slot here)
+  pub one_explored : (w' : List (List Known)) (here : Onward) (after : List ℕ) → IsVisit layout now slot w w' (Passed here) → after ≡ unreached ++ slot_unless slot (get_or w slot []) → Exploring layout program (slot + slots_of now) others w' after (set onward slot here)
   one_explored w' here after v n = record {
     walked = passed layout program slot now others w v.0.between w' v.0.there fine_here.0 walked_here v.0.taken v.0.goes;
     fine = fine_here.1;
-    came = Visited came_here v.0;
-    none = noted (get_or w slot []) after refl n;
+    came = record {
+      walked = Visited came_here.walked v.0;
+      unreached = n ∙ ap (λ (l : List ℕ). l ++ slot_unless slot (get_or w slot [])) came_here.unreached ∙ ap (λ (cases : List Known). unreached_by came_here.walked ++ slot_unless slot cases) v.0.taken.here;
+      told = (told_more layout program slot (now ∷ others) w onward slot here came_here.walked (omega arith) came_here.told, get_or-set_same onward slot here nowhere told_inside ∙ v.1);
+    };
+    none = rw n (noted (get_or w slot []) refl);
     long = length-set onward slot here ∙ h.long;
-    told = λ k i lt begins.
-        elim (cases_eq k slot) [
-          | inl same ↦
-              let there : get_or (set onward slot here) slot nowhere ≡ here = get_or-set_same onward slot here nowhere told_inside in
-              rw (same, there) (record { insn = now; rest = others; waiting = w; walked = came_here; goes = v.1 })
-          | inr other ↦
-              elim (cases_lt slot k) [
-                | inl less ↦ absurd (omega (arith, behind_it program slot k now i others walked_here.stands begins less))
-                | inr ge ↦ rw (get_or-set_other onward slot k here nowhere other) (h.told k i (omega arith) begins)
-              ]
-        ];
   }
 
   refusal_of : (fault : VerifyFault) → IsRefusedHere layout now slot w fault → IsRefusal layout program fault
@@ -288,7 +321,7 @@ module _ (layout : Layout) (program : List Insn) (slot : ℕ) (rest : List Insn)
     begins = begins_now;
     rest = others;
     waiting = w;
-    walked = came_here;
+    walked = came_here.walked;
     refused = r;
     runs = λ bytes is. so_far bytes (walked_here.runs bytes is);
     right = λ u. refused_right layout program slot now others w r.known walked_here waits writes u r.wrong r.refused;
@@ -310,9 +343,9 @@ module _ (layout : Layout) (program : List Insn) (slot : ℕ) (rest : List Insn)
     waits = sym v.1;
     others = v.2;
     known = rw (slots, v.2, ← v.1) (one_comes layout program slot rest w h.walked v.0.before v.0.after v.0.known v.0.taken.here);
-    onward = rw (slots, onwards) h.told;
+    onward = rw onwards came_here.told;
   })
 
 pub ends_exploring : (layout : Layout) (program : List Insn) (slot : ℕ) (rest : List Insn) (w : List (List Known)) (unreached : List ℕ) (onward : List Onward) → length rest < 1 → Exploring layout program slot rest w unreached onward → IsAcceptance layout program unreached
-ends_exploring layout program slot [] w unreached onward none h = record { safe = walk_end layout program slot w h.walked; passed = record { slot = slot; waiting = w; walked = h.came }; unreached = h.none }
+ends_exploring layout program slot [] w unreached onward none h = record { safe = walk_end layout program slot w h.walked; passed = record { slot = slot; waiting = w; walked = h.came.walked }; unreached = h.came.unreached; none = h.none }
 ends_exploring layout program slot (i ∷ rest) w unreached onward none h = absurd (omega arith)

@@ -53,7 +53,7 @@ pub use Rattle.std.specs.Int.{cast_unsigned}
 pub use Rattle.std.specs.List.{list_any, cons_option}
 pub use Rattle.std.specs.Option.{option_to_list, option_or}
 pub use Rattle.std.specs.Prelude.{All, ◌+ℤ◌, not, IsSome, IfSome, is_some, slice_get, nat_lt}
-pub use Rattle.verifier.specs.Findings.{AreToldOnward, IsAcceptance, IsExplained, IsKnownAt, NoneComesTo}
+pub use Rattle.verifier.specs.Findings.{IsAcceptance, IsExplained, IsKnownAt, NoneComesTo}
 pub use Rattle.verifier.specs.Fits.{InStates, AsShape, IsWholePointer, Reading, RegIs, WhereSet, StackIs, StackShows, StateFits, is_exact}
 pub use Rattle.verifier.specs.Follows.{FlowFits, FlowIs, Follows, WritesNoR10, reg_of, FlowOf, comparison_of, FlowTo, IsOperand, IsEntry, IsJoined, test_answer, IsFaulty, goes_behind}
 pub use Rattle.verifier.specs.Kinds.{LeavesKnown, IsLinked, LeavesRow, IsSoundRow, Receives, flow_where, test_of, Extends, GivenAt, StoredAt, StoredOf, StoredWhere, kept_in_record, put_at}
@@ -64,9 +64,10 @@ pub use Rattle.verifier.specs.Links.{copied, difference_from, less, link_kept, l
 pub use Rattle.verifier.specs.LinksParts.{IsEqualKept, AreNumbersRefined, IsLinkRefined, IsNarrowed, IsNarrowedOrNone}
 pub use Rattle.verifier.specs.Shapes.{effects, shape_of, MovesNone, NoMovedPointer, both_ways, branch_in, blank_cell, blank_value, OnWay, shape_config, IsStuckShape, Uniform, ways, ways_from}
 pub use Rattle.verifier.specs.Typing.{IsNoMoreThan, HasTyping, IsTyping, GoesTyped, MayCome, IsNeverStuck, UniformIsTyped}
-pub use Rattle.verifier.specs.Waits.{AreBothPushed, BranchGoesOn, IsTestSettled, EachGoesOn, GoesOn, IsPassed, IsPushed, IsRefusedAt, IsRefusedHere, IsTaken, IsVisited, PassesEach}
+pub use Rattle.verifier.specs.Waits.{AreBothPushed, IsTestSettled, IsPassed, IsPushed, IsRefusedAt, IsRefusedHere, IsTaken, IsToldOnward, IsVisited, PassesEach}
+pub use Rattle.verifier.specs.Waits.{ahead_alone, behind_alone, onward_by_both, onward_of, onward_of_each, onward_from, slot_unless, unreached_by}
 pub use Rattle.verifier.specs.Waits.{either, nowhere, IsBegun, IsAdded, IsSettled, IsWayPushed, MayPush, HasWalked, Begun, Visited, IsJoinedIn, StandsBeside, IsMerged}
-pub use Rattle.verifier.specs.WaitsParts.{IsCopy, IsFar, IsLastPassage, IsPassage, IsNoted, IsVisit, IsFirst, IsFirstPlace, IsRoomFor}
+pub use Rattle.verifier.specs.WaitsParts.{AreBothTold, IsCopy, IsFar, IsLastPassage, IsPassage, IsTestTold, IsVisit, IsWayTold, IsFirst, IsFirstPlace, IsRoomFor}
 pub use Rattle.verifier.specs.declared.known.Known.{Known}
 pub use Rattle.verifier.specs.declared.known.Test.{Test}
 pub use Rattle.verifier.specs.declared.link.Link.{Link}

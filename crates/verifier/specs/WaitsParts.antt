@@ -1,21 +1,36 @@
 -- Beside Waits: only the contracts of this crate's own parts and their proofs cite this, no public clause.
-use Rattle.std.specs.Prelude.{◌≡◌, ◌⊎◌, ℕ, ℤ, pos, ◌+◌, ◌<◌, List, [], ◌∷◌, ◌++◌, Box, IsSome, Option, Some, None, Ok, length, map, slice_index_or, take}
+use Rattle.std.specs.Prelude.{◌≡◌, ◌⊎◌, Bool, ℕ, ℤ, pos, ◌+◌, ◌<◌, List, [], ◌∷◌, ◌++◌, Box, IsSome, is_some, Option, Some, None, Ok, length, map, slice_index_or, take}
 use Rattle.verifier.specs.Names.{box_value, filter_map, option_map, Insn, Layout, walk_fault_at, Exit}
 use Rattle.std.specs.declared.alloc.Global.{Global}
 use Rattle.verifier.specs.declared.cases.Held.{Held}
 use Rattle.verifier.specs.declared.cases.Held.TheVariants.{Nothing, One, Several}
 use Rattle.verifier.specs.declared.known.Known.{Known}
+use Rattle.verifier.specs.declared.known.Test.{Test}
+use Rattle.verifier.specs.declared.walk.Onward.{Onward}
 use Rattle.verifier.specs.declared.walk.Passage.{Passage}
 use Rattle.verifier.specs.declared.walk.Passage.TheVariants as passage
 use Rattle.verifier.specs.declared.walk.Upshot.{Upshot}
 use Rattle.verifier.specs.declared.walk.Upshot.TheVariants.{Passed, Refused}
 use Rattle.verifier.specs.Kinds.{LeavesKnown}
-use Rattle.verifier.specs.Waits.{EachGoesOn, GoesOn, IsJoinedIn, IsMerged, IsPassed, IsRefusedAt, IsRefusedHere, IsVisited, nowhere}
+use Rattle.verifier.specs.Waits.{AreBothPushed, IsJoinedIn, IsMerged, IsPassed, IsRefusedAt, IsRefusedHere, IsTestSettled, IsVisited, IsWayPushed, nowhere, onward_by_both, onward_by_test, onward_from, onward_of}
 
 -- a jump stays among so many slots
 abbrev pub IsFar : Option ℤ → ℕ → ℕ → Type 0
 IsFar None behind slots = Unit {0}
 IsFar (Some d) behind slots = (k : ℕ) × (d ≡ pos k) × (behind + k < slots)
+
+-- what is known where a test has an answer has come to a slot, and it is told whether anything is
+abbrev pub IsWayTold : List (List Known) → ℕ → Test → Bool → Known → List (List Known) → Bool → Type 0
+IsWayTold old to test answer known now may = (way : IsWayPushed old to test answer known now) × (may ≡ is_some way.there)
+
+-- what is known on both ways of a conditional jump has come to two slots, and it is told where that goes on
+abbrev pub AreBothTold : List (List Known) → ℕ → ℕ → Test → Known → List (List Known) → Onward → Type 0
+AreBothTold old behind to test known now onward = (both : AreBothPushed old behind to test known now) × (onward ≡ onward_by_both both)
+
+-- the same by the distance of the jump
+abbrev pub IsTestTold : ℤ → Test → ℕ → Known → List (List Known) → List (List Known) → Onward → Type 0
+IsTestTold d test behind known old now onward =
+    (settled : IsTestSettled d test behind known old now) × (onward ≡ onward_by_test d test behind known old now settled)
 
 -- what is found at an instruction behind which there is no slot, where this was known before it
 abbrev pub IsLastPassage : Layout → Insn → ℕ → ℕ → Known → Passage → Type 0
@@ -25,19 +40,14 @@ IsLastPassage layout i slot slots known (passage.Refused fault before) = IsRefus
 
 -- what is found at an instruction, where this was known before it
 abbrev pub IsPassage : Layout → Insn → ℕ → Known → List (List Known) → List (List Known) → Passage → Type 0
-IsPassage layout i slot known old now (passage.Passed onward) = IsPassed layout i slot known old now × GoesOn layout i known onward
+IsPassage layout i slot known old now (passage.Passed onward) = (p : IsPassed layout i slot known old now) × (onward ≡ onward_of p)
 IsPassage layout i slot known old now (passage.Refused fault before) = IsRefusedAt layout i slot known (length old) fault × (before.value ≡ known)
 
 -- what is found at an instruction
 abbrev pub IsVisit : Layout → Insn → ℕ → List (List Known) → List (List Known) → Upshot → Type 0
-IsVisit layout i slot old now (Passed onward) = IsVisited layout i slot old now × EachGoesOn layout i (slice_index_or old slot []) onward
+IsVisit layout i slot old now (Passed onward) = (v : IsVisited layout i slot old now) × (onward ≡ onward_from v)
 IsVisit layout i slot old now (Refused fault before others) =
     (r : IsRefusedHere layout i slot old (walk_fault_at fault slot)) × (r.known ≡ before.value) × (map box_value others.items ≡ r.before ++ r.after)
-
--- a slot is added where nothing waits there
-abbrev pub IsNoted : ℕ → List Known → List ℕ → List ℕ → Type 0
-IsNoted slot [] old new = new ≡ old ++ (slot ∷ [])
-IsNoted slot (known ∷ rest) old new = new ≡ old
 
 -- a copy of a case is kept, where others wait behind it
 abbrev pub IsCopy : Known → List Known → Option Known → Type 0

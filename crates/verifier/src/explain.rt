@@ -1,9 +1,9 @@
 //! What a look at a program finds, told at length: one walk, in order of slots.
 
-ghost use Rattle.std.specs.Prelude.{◌≡◌, ◌<◌, [], IfOk, IsErr, IsOk, None, length, slice_index_or};
+ghost use Rattle.std.specs.Prelude.{◌≡◌, ◌<◌, ◌++◌, [], IfOk, IsErr, None, OnOk, length, slice_index_or};
 ghost use Rattle.insn.specs.Refusals.{look_verdict};
 ghost use Rattle.verifier.specs.Findings.{IsFinding, IsWalkFinding};
-ghost use Rattle.verifier.specs.WaitsParts.{IsNoted};
+ghost use Rattle.verifier.specs.Waits.{slot_unless};
 
 use crate::known::Known;
 use crate::walk::{NOWHERE, Onward, Upshot, Waiting, visit};
@@ -55,7 +55,7 @@ impl Known {
 /// Adds a slot to those that no way reaches, where nothing waits there.
 fn note(unreached: &mut Vec<usize>, slot: usize, waiting: &Waiting) -> Result<(), AllocError>
     requires { slot < length waiting.now }
-    ensures { IsOk result → IsNoted slot (slice_index_or waiting.now slot []) unreached.old.items unreached.new.items }
+    ensures { OnOk result (unreached.new.items ≡ unreached.old.items ++ slot_unless slot (slice_index_or waiting.now slot [])) }
 {
     if !waiting.is_reached(slot) {
         unreached.push(slot)?;

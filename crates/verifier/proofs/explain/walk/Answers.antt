@@ -36,7 +36,7 @@ overflow_add-slot c =
 pub loop-rest-preserved : goal.loop-rest-preserved
 loop-rest-preserved c =
     rw c.slots-slot.ensures.value
-    (one_explored c.args.layout c.args.program.now c.loop-rest.slot c.loop-rest.rest.now c.loop-rest.waiting _ c.in-len1-up.len_at_least c.loop-rest.unreached.items c.loop-rest.onward.items c.loop-rest.invariant c.visit.new.waiting c.in-Passed.here _ (rw c.in-Passed.is at c.in_ok-here.ensures) (c.in_ok-note.ensures refl))
+    (one_explored c.args.layout c.args.program.now c.loop-rest.slot c.loop-rest.rest.now c.loop-rest.waiting _ c.in-len1-up.len_at_least c.loop-rest.unreached.items c.loop-rest.onward.items c.loop-rest.invariant c.visit.new.waiting c.in-Passed.here _ (rw c.in-Passed.is at c.in_ok-here.ensures) c.in_ok-note.ensures)
 
 pub returns : goal.returns
 returns c = ends_exploring c.args.layout c.args.program.now c.loop-rest.slot c.loop-rest.rest.now c.loop-rest.waiting _ _ c.in_default.len_below c.loop-rest.invariant

@@ -2,7 +2,7 @@ use Rattle.std.proofs.Common.{w32, ◌≡◌, ◌∙◌, ◌+◌, ◌<◌, Some,
 use Rattle.verifier.proofs.Names.{to_z-of_z, distance_of, slots_of, action_of}
 use mir.Val.{of_z, to_z}
 use Rattle.verifier.proofs.Steps.{refused_keeps}
-use Rattle.verifier.proofs.Arriving.{fits_far, last_passed, passed_test}
+use Rattle.verifier.proofs.Arriving.{fits_far, last_passed, passed_exit, passed_jump, passed_next, passed_test}
 use Rattle.verifier.proofs.Walks.{stuck_refused}
 use Rattle.verifier.proofs.walk.pass.Goals as goal
 
@@ -24,4 +24,21 @@ returns-in_ok-onward-in-Branch c =
     let read : to_z w32 (of_z w32 c.in-Branch.distance) ≡ c.in-Branch.distance =
     to_z-of_z w32 c.in-Branch.distance (fits_far (distance_of c.args.insn) c.in-Branch.distance (c.args.slot + slots_of c.args.insn) (length c.args.waiting.now) own c.requires.far c.requires.few) in
     passed_test c.args.layout c.args.insn c.args.slot c.args.known.value c.apply.new.self c.in-Branch.distance c.in-Branch.test c.in_ok-onward-in-Branch.onward c.args.waiting.now c.push_test.new.self
-    (rw (c.deref_mut.ensures.value, c.in-Branch.is) at c.in-Ok.ensures.kinds) inside (rw (c.slots.ensures.value, read) at (c.in_ok-onward-in-Branch.ensures.settled refl)) (rw read at c.in_ok-onward-in-Branch.ensures.goes)
+    (rw (c.deref_mut.ensures.value, c.in-Branch.is) at c.in-Ok.ensures.kinds) inside (rw (c.slots.ensures.value, read) at c.in_ok-onward-in-Branch.ensures)
+
+pub returns-in-Exit : goal.returns-in-Exit
+returns-in-Exit c = passed_exit c.args.layout c.args.insn c.args.slot c.args.known.value c.apply.new.self c.args.waiting.now (rw (c.deref_mut.ensures.value, c.in-Exit.is) at c.in-Ok.ensures.kinds)
+
+pub returns-in_ok-push-in-Jump : goal.returns-in_ok-push-in-Jump
+returns-in_ok-push-in-Jump c =
+    let own : distance_of c.args.insn ≡ Some c.in-Jump.distance = rw c.in-Jump.is at c.in-Ok.ensures.own in
+    let read : to_z w32 (of_z w32 c.in-Jump.distance) ≡ c.in-Jump.distance =
+    to_z-of_z w32 c.in-Jump.distance (fits_far (distance_of c.args.insn) c.in-Jump.distance (c.args.slot + slots_of c.args.insn) (length c.args.waiting.now) own c.requires.far c.requires.few) in
+    passed_jump c.args.layout c.args.insn c.args.slot c.args.known.value c.apply.new.self c.in-Jump.distance c.slot_behind.result (length c.args.waiting.now) c.args.waiting.now c.push.new.self
+    (rw (c.deref_mut.ensures.value, c.in-Jump.is) at c.in-Ok.ensures.kinds) (rw own at c.requires.far) (rw (c.slots.ensures.value, read) at c.slot_behind.ensures) (c.in_ok-push-in-Jump.ensures refl)
+
+pub returns-in_ok-push-in-Next : goal.returns-in_ok-push-in-Next
+returns-in_ok-push-in-Next c =
+    let inside : c.args.slot + slots_of c.args.insn < length c.args.waiting.now = let all = c.slots-slots.ensures in let less = c.if-behind-slots.false in let size = c.slots.ensures.value in omega arith in
+    passed_next c.args.layout c.args.insn c.args.slot c.args.known.value c.apply.new.self c.args.waiting.now c.push-in-Next.new.self
+    (rw (c.deref_mut.ensures.value, c.in-Next.is) at c.in-Ok.ensures.kinds) inside (rw c.slots.ensures.value at (c.in_ok-push-in-Next.ensures refl))
