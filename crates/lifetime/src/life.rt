@@ -6,6 +6,7 @@ ghost use Rattle.lifetime.specs.Given.{given, life_promises};
 ghost use Rattle.lifetime.specs.Lives.{IsLife, LivesBy};
 ghost use Rattle.lifetime.specs.Openings.{IsOpenedBy};
 
+use crate::clock::too_far;
 use crate::going_on::{Ending, serve_by};
 use crate::means::Means;
 use crate::opening::Opening;
@@ -14,7 +15,7 @@ use crate::settling::settle;
 use batch_file::appending::BatchFault;
 use batch_file::device::Device;
 use clients::Registry;
-use event_loop::{Clocks, Journal, LoopFault, Sockets, too_far};
+use event_loop::{Clocks, Journal, LoopFault, Sockets};
 use http_edge::Edge;
 use image_codec::KeptHook;
 use state_file::{NotStarted, Started, StateFault};
@@ -79,7 +80,7 @@ fn begin<D: Device + Drop, N: Sockets, C: Clocks, J: Journal, O: Opening>(
 {
     let mut means = means;
     let now = means.clocks.read();
-    if let Some(seconds) = too_far(means.limits.ahead, now, plan.prepared.moment()) {
+    if let Some(seconds) = too_far(means.limits.ahead, &now, plan.prepared.moment()) {
         return Life::of(LifeEnd::ClockAhead(seconds), device, means);
     }
     let started = match settle(device, plan, now, &mut means.journal) {
