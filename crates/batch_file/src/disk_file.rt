@@ -368,8 +368,10 @@ impl<'r, F: SystemFile, R: Files<File = F> + AllocGlobal> Device for DiskFile<'r
     ghost tells_place = { λ _ _. ⊤ };
 
     fn is_in_place(&self) -> bool {
-        is_same(fs::symlink_metadata(self.rt, self.path.as_str()), &self.file)
-            && is_same(fs::metadata(self.rt, self.lock_path.as_str()), &self.lock)
+        is_same(
+            fs::symlink_metadata(self.rt, self.path.as_str()),
+            &self.file,
+        ) && is_same(fs::metadata(self.rt, self.lock_path.as_str()), &self.lock)
     }
 
     fn write_at(&mut self, at: usize, bytes: &[u8]) -> Result<(), DeviceFault> {
