@@ -76,7 +76,7 @@ returns-in-Err-keep_all-clause-wrong g c = λ first past begun was_ready.
     let waited = subst (λ (m : ℕ). Served (promises g.N.Sockets g.C.Clocks g.J.Journal (keeping g.K.Keeper g.K.ImageKeeper) g.H.HookHost) first
     (state_of (running (record c.put_image.new.service { times = c.in-Some-read.times; held = m })
     (record c.put_image.new.self { sockets = c.wait.new.self; clocks = c.read.new.self; keeper = c.keep_moment.new.self })) heard since))
-    (sym c.later.ensures) stepped in
+    (sym c.later-service.ensures) stepped in
     let told = c.hear_all.ensures.hears first since waited (λ k less. (may.1.0.settled k less).rested) in
     let read = c.read_all.ensures first [] since (λ kind is. is) told.1 told.0 in
     record {
@@ -100,7 +100,7 @@ returns-clause-goes g c = λ first past begun was_ready.
     let waited = subst (λ (m : ℕ). Served (promises g.N.Sockets g.C.Clocks g.J.Journal (keeping g.K.Keeper g.K.ImageKeeper) g.H.HookHost) first
     (state_of (running (record c.put_image.new.service { times = c.in-Some-read.times; held = m })
     (record c.put_image.new.self { sockets = c.wait.new.self; clocks = c.read.new.self; keeper = c.keep_moment.new.self })) heard since))
-    (sym c.later.ensures) stepped in
+    (sym c.later-service.ensures) stepped in
     let told = c.hear_all.ensures.hears first since waited (λ k less. (may.1.0.settled k less).rested) in
     let read = c.read_all.ensures first [] since (λ kind is. is) told.1 told.0 in
     let written = kept_then p first [] since _ c.read_all.new.service c.write_all.new.service _ c.read_all.new.self c.keep_all.new.self c.write_all.new.self read c.in_default-keep_all.ensures.kept c.write_all.ensures in
