@@ -1,5 +1,5 @@
 -- What comes of a start, by what its parts say.
-use Rattle.std.proofs.Common.{◌≡◌, ⊎_elim, inl, inr, ℕ, List, [], None, refl, sym, ap, subst}
+use Rattle.std.proofs.Common.{◌≡◌, ⊎_elim, inl, inr, ℕ, List, [], None, Some, refl, sym, ap, subst}
 use Rattle.lifetime.proofs.Names.{RegistryRecord, Event, SeenServer, outset_of, Tools, Named, SeenEdge, HookFact, SeenKeeper, WasLived, IsOfDisk, IsOldOr, IsPutOn, IsUntouched, StateFault, Given}
 use Rattle.lifetime.proofs.Names.{LifePromises, in_loop, IsLife, LosesNothing, is_unopened, is_unsettled, IsPlanOf, begun_from, Begun, LooksAt, Outlook, Settles, too_far_at, Plan, Ending}
 use Rattle.batch_file.specs.Crashes.{LeavesOnly}
