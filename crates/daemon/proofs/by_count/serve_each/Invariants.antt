@@ -1,4 +1,4 @@
-use Rattle.std.proofs.Common.{⊤}
+use Rattle.std.specs.Prelude.{⊤}
 use Rattle.serving.specs.Served.{stream_service}
 use Rattle.serving.specs.Streams.{does_by}
 use Rattle.daemon.specs.ByCount.{ServesEach, between}
