@@ -113,7 +113,7 @@ def tries_moved_away(trials):
 
     for name in ("", ".lock"):
         for number, away in enumerate((moved, another, os.remove) if name else (moved, linked, another, os.remove)):
-            path = trials.make(f"{trials.room}/moved{number}{name}")
+            path = trials.make(f"{trials.room}/{'unlocked' if name else 'moved'}{number}")
             begun, client = trials.served("a file that will move", path)
             token, kept = client.own_token(), bytes_of(path)
             away(path + name)
