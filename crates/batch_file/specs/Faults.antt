@@ -15,6 +15,8 @@ use Rattle.batch_file.specs.declared.device.ReplaceFault.{ReplaceFault}
 use Rattle.batch_file.specs.declared.device.ReplaceFault.TheVariants as replacing
 use Rattle.batch_file.specs.declared.appending.BatchFault.{BatchFault}
 use Rattle.batch_file.specs.declared.appending.BatchFault.TheVariants as batch
+use Rattle.batch_file.specs.declared.appending.RenewFault.{RenewFault}
+use Rattle.batch_file.specs.declared.appending.RenewFault.TheVariants as renewing
 use Rattle.batch_file.specs.declared.disk_file.OpenFault.{OpenFault}
 use Rattle.batch_file.specs.declared.disk_file.OpenFault.TheVariants as opening
 use Rattle.batch_file.specs.declared.disk_file.MakeFault.{MakeFault}
@@ -53,6 +55,12 @@ of_device (device.Failed reason) = batch.Failed reason
 abbrev pub of_replacing : DeviceFault → ReplaceFault
 of_replacing device.Memory = replacing.Memory
 of_replacing (device.Failed reason) = replacing.Failed reason
+
+-- a fault of a replacement as one of putting another file in the place of a file of batches
+abbrev pub of_replacement : ReplaceFault → RenewFault
+of_replacement replacing.Memory = renewing.Memory
+of_replacement (replacing.Unplaced reason) = renewing.Unplaced reason
+of_replacement (replacing.Failed reason) = renewing.Failed reason
 
 -- why a file is not opened, by the error that the system gave; one that is not there has a name of its own
 abbrev pub of_kind : ErrorKind → SystemFault → OpenFault

@@ -7,6 +7,8 @@ use Rattle.batch_file.specs.Crashes.{Only}
 use Rattle.batch_file.specs.declared.appending.BatchFile.{BatchFile}
 use Rattle.batch_file.specs.declared.appending.BatchFault.{BatchFault}
 use Rattle.batch_file.specs.declared.appending.BatchFault.TheVariants as appending
+use Rattle.batch_file.specs.declared.appending.RenewFault.{RenewFault}
+use Rattle.batch_file.specs.declared.appending.RenewFault.TheVariants as renewing
 use Rattle.batch_file.specs.declared.framing.ReadFault.{ReadFault}
 use Rattle.batch_file.specs.declared.framing.ReadFault.TheVariants.{NotState, Version, Damaged}
 
@@ -17,7 +19,7 @@ abbrev pub header_of : ℕ → List ℕ
 header_of version = codes "oauthd state v" ++ (48 + version) ∷ 10 ∷ []
 
 abbrev pub header : List ℕ
-header = header_of 2
+header = header_of 3
 
 -- a batch's length in four bytes, the high one first, and its bytes
 abbrev pub body : List ℕ → List ℕ
@@ -153,7 +155,7 @@ pub record IsDamaged (number : ℕ) (file : List ℕ) : Type 0 where
 -- the file does not begin as a state file does, or as one of another version
 abbrev pub RefusesHeader : List ℕ → ReadFault → Type 0
 RefusesHeader file NotState = (version : ℕ) → IsVersion version file → ⊥
-RefusesHeader file (Version version) = IsVersion version file × (version ≢ 2)
+RefusesHeader file (Version version) = IsVersion version file × (version ≢ 3)
 RefusesHeader file fault = ⊥
 
 -- or is damaged
@@ -208,6 +210,15 @@ IsReadableOrChance old last batch file = IsReadable file ⊎ IsChance old last b
 abbrev pub IsBatchFailure : BatchFault → Type 0
 IsBatchFailure (appending.Failed reason) = Unit {0}
 IsBatchFailure fault = ⊥
+
+abbrev pub IsRenewFailure : RenewFault → Type 0
+IsRenewFailure (renewing.Failed reason) = Unit {0}
+IsRenewFailure fault = ⊥
+
+-- no other file was put in the place of the old one
+abbrev pub IsUnrenewed : RenewFault → Type 0
+IsUnrenewed (renewing.Failed reason) = ⊥
+IsUnrenewed fault = Unit {0}
 
 -- the batches, without where they lie in memory
 abbrev pub lists : List (Vec ℕ) → List (List ℕ)

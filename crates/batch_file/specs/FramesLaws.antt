@@ -171,9 +171,9 @@ damaged_is_none number file batches d some =
     d.no_end s.torn one.2 (subst (λ (l : List ℕ). IsTorn l s.torn) (sym one.1) s.ends)
 
 -- a file that begins with the header is of this version, and of no other
-other_version : (version : ℕ) (rest file : List ℕ) → file ≡ header ++ rest → IsVersion version file → version ≡ 2
+other_version : (version : ℕ) (rest file : List ℕ) → file ≡ header ++ rest → IsVersion version file → version ≡ 3
 other_version version rest file is (inl told) =
-    let digit : 48 + version ≡ 50 = ap (λ (l : List ℕ). get_or l 14 0) (sym told.1 ∙ ap (λ (l : List ℕ). take 16 l) is) in
+    let digit : 48 + version ≡ 51 = ap (λ (l : List ℕ). get_or l 14 0) (sym told.1 ∙ ap (λ (l : List ℕ). take 16 l) is) in
     omega (arith, digit)
 other_version version rest file is (inr first) =
     let latch : 1 ≡ 111 = ap (λ (l : List ℕ). get_or l 0 0) (sym first.1.1 ∙ is) in
@@ -182,7 +182,7 @@ other_version version rest file is (inr first) =
 -- so a file that is read is never refused
 pub readable_is_kept : (file : List ℕ) (fault : ReadFault) → IsReadable file → RefusesFile file fault → ⊥
 readable_is_kept file Memory readable refused = refused
-readable_is_kept file NotState readable refused = refused 2 (inl (omega arith, ap (λ (l : List ℕ). take 16 l) readable.1.is))
+readable_is_kept file NotState readable refused = refused 3 (inl (omega arith, ap (λ (l : List ℕ). take 16 l) readable.1.is))
 readable_is_kept file (Version version) readable refused = refused.1 (other_version version _ file readable.1.is refused.0)
 readable_is_kept file (Damaged number) readable refused = damaged_is_none number file (recovered file) refused readable
 

@@ -2,8 +2,8 @@
 
 ghost use Rattle.std.specs.Prelude.{◌≡◌, ◌<◌, ◌≤◌, ◌^◌, ◌+◌, ◌++◌, [], ◌∷◌, true, false, length, IfOk, IfErr, OnOk, IsErrOf};
 ghost use Rattle.batch_file.specs.Crashes.{HasCause, IsFailure, IsReplaceFailure, IsUnplaced, IsWrittenAt, LeavesOnly, Only, Torn};
-ghost use Rattle.batch_file.specs.Faults.{of_device};
-ghost use Rattle.batch_file.specs.Frames.{file_size, limit, recovered, IsAsBefore, IsBeforeOrAfter, IsOldOrNew, IsBatchFailure, IsOnDisk, IsReadable, IsReadableOrChance};
+ghost use Rattle.batch_file.specs.Faults.{of_device, of_replacement};
+ghost use Rattle.batch_file.specs.Frames.{file_size, limit, recovered, IsAsBefore, IsBeforeOrAfter, IsOldOrNew, IsBatchFailure, IsOnDisk, IsReadable, IsReadableOrChance, IsRenewFailure, IsUnrenewed};
 
 use crate::device::{Device, DeviceFault, ReplaceFault};
 use crate::frames::Frames;
@@ -48,6 +48,31 @@ impl From<DeviceFault> for BatchFault {
         match device {
             DeviceFault::Memory => BatchFault::Memory,
             DeviceFault::Failed(reason) => BatchFault::Failed(reason),
+        }
+    }
+}
+
+/// Why another file is not put in the place of a file of batches.
+#[derive(Clone, Copy, Debug, PartialEq, Eq)]
+pub enum RenewFault {
+    /// Memory was refused: the old file stands.
+    Memory,
+    /// The other file could not be written, or not be put there: the old file stands.
+    Unplaced(SystemFault),
+    /// The disk failed: which of the two stands is not known.
+    Failed(SystemFault),
+    /// The old file, or what locks it, was moved or removed: nothing was done.
+    Displaced,
+}
+
+impl From<ReplaceFault> for RenewFault {
+    ghost from_gives = { λ replacing fault. fault ≡ of_replacement replacing };
+
+    fn from(replacing: ReplaceFault) -> RenewFault {
+        match replacing {
+            ReplaceFault::Memory => RenewFault::Memory,
+            ReplaceFault::Unplaced(reason) => RenewFault::Unplaced(reason),
+            ReplaceFault::Failed(reason) => RenewFault::Failed(reason),
         }
     }
 }
@@ -135,9 +160,9 @@ impl<D: Device> BatchFile<D> {
         Ok(())
     }
 
-    /// Puts another file in the place of all that there is. At `Ok` each crash leaves it and nothing else. At `Memory` and
-    /// `Unplaced` it goes on as it was; at `Failed`, open the file again.
-    pub fn replace(&mut self, frames: Frames) -> Result<(), ReplaceFault>
+    /// Puts another file in the place of all that there is. At `Ok` each crash leaves it and nothing else. At `Memory`,
+    /// `Unplaced` and `Displaced` it goes on as it was; at `Failed`, open the file again.
+    pub fn replace(&mut self, frames: Frames) -> Result<(), RenewFault>
         requires { IsOnDisk D.seen D.may_leave D.faults self.old }
         ensures settled { OnOk result (IsOnDisk D.seen D.may_leave D.faults self.new) }
         ensures replaced { OnOk result (recovered (D.seen self.new.device) ≡ frames) }
@@ -146,9 +171,15 @@ impl<D: Device> BatchFile<D> {
         ensures any_moment { LeavesOnly D.moment D.left_since self.old.device self.new.device
             (IsOldOrNew (recovered (D.seen self.old.device)) frames) }
         ensures readable { LeavesOnly D.moment D.left_since self.old.device self.new.device IsReadable }
-        ensures untouched { IfErr result (λ fault. IsUnplaced fault → self.new ≡ self.old) }
-        ensures failed { IfErr result (λ fault. IsReplaceFailure fault → D.faults self.old.device < D.faults self.new.device) }
+        ensures untouched { IfErr result (λ fault. IsUnrenewed fault → self.new ≡ self.old) }
+        ensures failed { IfErr result (λ fault. IsRenewFailure fault → D.faults self.old.device < D.faults self.new.device) }
+        // It is put only in the place of a file that stands where it was opened.
+        ensures in_place { OnOk result (D.tells_place self.old.device true) }
+        ensures displaced { IsErrOf result RenewFault.Displaced → D.tells_place self.old.device false }
     {
+        if !self.device.is_in_place() {
+            return Err(RenewFault::Displaced);
+        }
         let (bytes, last) = frames.into_parts();
         self.device.replace(&bytes)?;
         self.end = bytes.len() - 1;

@@ -18,7 +18,7 @@ use std::alloc::{AllocError, AllocFailed, Global};
 const TITLE: [u8; 14] = *b"oauthd state v";
 
 /// What each file begins with.
-pub const HEADER: [u8; 16] = *b"oauthd state v2\n";
+pub const HEADER: [u8; 16] = *b"oauthd state v3\n";
 
 /// Behind a closed latch an append that was not finished leaves no more than this.
 const LONGEST_TORN: usize = (1 << 23) + 20;
@@ -121,7 +121,7 @@ fn find_front(alloc: Global, bytes: &[u8]) -> Result<Found, ReadFault>
     ensures refused { IfErr result (λ fault. (fault ≡ Memory) ⊎ RefusesHeader bytes.now fault) }
 {
     match version_of(bytes) {
-        Some(2) => {}
+        Some(3) => {}
         Some(version) => return Err(ReadFault::Version(version)),
         None => return Err(ReadFault::NotState),
     }
