@@ -11,7 +11,10 @@ use Rattle.consent.specs.declared.kept_consent.KeptConsent.{KeptConsent}
 use Rattle.wire.specs.declared.fault.Fault.TheVariants as faults
 use Rattle.wire.specs.Format.{Format, Decides, Picks, Same, only, picked, seen, fixed, ◌then◌, u32_format, u64_format, text_format, bytes_format}
 use Rattle.wire.specs.Lists.{told, ◌or◌, no_more, nothing}
-use Rattle.consent.specs.Facts.{GivenCode, Fact, Consented, CodeGiven, IssuedAlone, Issued, Spent, FamilyEnded, HookSet, HookGone}
+use Rattle.consent.specs.declared.parties.Parties.{Parties}
+use Rattle.consent.specs.Facts.{GivenCode}
+use Rattle.consent.specs.History.{Change}
+use Rattle.consent.specs.History.Change.{Consented, CodeGiven, Issued, Spent, FamilyEnded, HookSet, HookGone}
 
 pub from_1 : Decides (λ n. ltb 0 n) (λ n. 1 ≤ n)
 from_1 = record { holds = λ n e. ltb-true _ _ e; passes = λ n le. lt-ltb _ _ le }
@@ -93,49 +96,58 @@ as_code = record {
 unfoldable pub code_format : Format GivenCode
 code_format = seen as_code (party_format then (party_format then (u64_format then (text_format then text_format))))
 
+abbrev pub as_parties : Same (ℕ × ℕ) Parties
+as_parties = record {
+  to = λ p. record { owner = p.1; client = p.0 };
+  from = λ q. (q.client, q.owner);
+  from_to = λ _. refl;
+  to_from = λ _. refl;
+}
+
+-- a family's number, its client and its owner, who is 0 where there is none
+unfoldable pub home_format : Format (ℕ × Parties)
+home_format = u64_format then seen as_parties (party_format then u32_format)
+
 -- the fields of each variant, in its order
 abbrev pub Variants : Type 0
-Variants = (ℕ × (ℕ × ℕ)) ⊎ ((GivenCode × List ℕ) ⊎ ((ℕ × NewToken) ⊎ ((List ℕ × NewToken) ⊎ (List ℕ ⊎ (List ℕ ⊎ ((List ℕ × (RecordVersion × List ℕ)) ⊎ (List ℕ ⊎ ⊥)))))))
+Variants = (ℕ × (ℕ × ℕ)) ⊎ ((ℕ × (GivenCode × List ℕ)) ⊎ (((ℕ × Parties) × NewToken) ⊎ (List ℕ ⊎ (ℕ ⊎ ((List ℕ × (RecordVersion × List ℕ)) ⊎ (List ℕ ⊎ ⊥))))))
 
-abbrev pub fact_to : Variants → Fact
-fact_to (inl p) = Consented p.0 p.1.0 p.1.1
-fact_to (inr (inl p)) = CodeGiven p.0 p.1
-fact_to (inr (inr (inl p))) = IssuedAlone p.0 p.1
-fact_to (inr (inr (inr (inl p)))) = Issued p.0 p.1
-fact_to (inr (inr (inr (inr (inl digest))))) = Spent digest
-fact_to (inr (inr (inr (inr (inr (inl of)))))) = FamilyEnded of
-fact_to (inr (inr (inr (inr (inr (inr (inl p))))))) = HookSet p.0 p.1.0 p.1.1
-fact_to (inr (inr (inr (inr (inr (inr (inr (inl name)))))))) = HookGone name
-fact_to (inr (inr (inr (inr (inr (inr (inr (inr none)))))))) = absurd none
+abbrev pub change_to : Variants → Change
+change_to (inl p) = Consented p.0 p.1.0 p.1.1
+change_to (inr (inl p)) = CodeGiven p.0 p.1.0 p.1.1
+change_to (inr (inr (inl p))) = Issued p.0.0 p.0.1 p.1
+change_to (inr (inr (inr (inl digest)))) = Spent digest
+change_to (inr (inr (inr (inr (inl family))))) = FamilyEnded family
+change_to (inr (inr (inr (inr (inr (inl p)))))) = HookSet p.0 p.1.0 p.1.1
+change_to (inr (inr (inr (inr (inr (inr (inl name))))))) = HookGone name
+change_to (inr (inr (inr (inr (inr (inr (inr none))))))) = absurd none
 
-abbrev pub fact_from : Fact → Variants
-fact_from (Consented owner client mask) = inl (owner, (client, mask))
-fact_from (CodeGiven code digest) = inr (inl (code, digest))
-fact_from (IssuedAlone client token) = inr (inr (inl (client, token)))
-fact_from (Issued of token) = inr (inr (inr (inl (of, token))))
-fact_from (Spent digest) = inr (inr (inr (inr (inl digest))))
-fact_from (FamilyEnded of) = inr (inr (inr (inr (inr (inl of)))))
-fact_from (HookSet name version code) = inr (inr (inr (inr (inr (inr (inl (name, (version, code))))))))
-fact_from (HookGone name) = inr (inr (inr (inr (inr (inr (inr (inl name)))))))
+abbrev pub change_from : Change → Variants
+change_from (Consented owner client mask) = inl (owner, (client, mask))
+change_from (CodeGiven family code digest) = inr (inl (family, (code, digest)))
+change_from (Issued family parties token) = inr (inr (inl ((family, parties), token)))
+change_from (Spent digest) = inr (inr (inr (inl digest)))
+change_from (FamilyEnded family) = inr (inr (inr (inr (inl family))))
+change_from (HookSet name version code) = inr (inr (inr (inr (inr (inl (name, (version, code)))))))
+change_from (HookGone name) = inr (inr (inr (inr (inr (inr (inl name))))))
 
-pub fact_from_to : (v : Variants) → fact_from (fact_to v) ≡ v
-fact_from_to v = grind arith
+pub change_from_to : (v : Variants) → change_from (change_to v) ≡ v
+change_from_to v = grind arith
 
-pub fact_to_from : (f : Fact) → fact_to (fact_from f) ≡ f
-fact_to_from f = grind arith
+pub change_to_from : (c : Change) → change_to (change_from c) ≡ c
+change_to_from c = grind arith
 
-abbrev pub as_fact : Same Variants Fact
-as_fact = record { to = fact_to; from = fact_from; from_to = fact_from_to; to_from = fact_to_from }
+abbrev pub as_change : Same Variants Change
+as_change = record { to = change_to; from = change_from; from_to = change_from_to; to_from = change_to_from }
 
-unfoldable pub fact_format : Format Fact
-fact_format =
-    seen as_fact (told 1 (
+unfoldable pub change_format : Format Change
+change_format =
+    seen as_change (told 1 (
     (party_format then (party_format then u64_format))
-    or (code_format then fixed 32)
-    or (party_format then token_format)
-    or (fixed 32 then token_format)
+    or (u64_format then (code_format then fixed 32))
+    or (home_format then token_format)
     or fixed 32
-    or fixed 32
+    or u64_format
     or (text_format then (version_format then bytes_format))
     or text_format
-    or no_more 9 faults.Variant))
+    or no_more 8 faults.Variant))

@@ -1,5 +1,6 @@
 -- What public clauses cite. docs/DEFINITIONS.md says what to read in which order.
 pub mod Limits
+pub mod Owners
 pub mod Versions
 pub mod History
 pub mod Consents
@@ -18,4 +19,3 @@ pub mod GrowthLaws
 pub mod HistoryLaws
 pub mod CoveredLaws
 pub mod ConsentLaws
-pub mod ChangesLaws

@@ -1,15 +1,18 @@
 //! What changes are made of, as bytes.
 
 ghost use Rattle.std.specs.Prelude.{ℕ, List};
-ghost use Rattle.consent.specs.Formats.{party_format, moment_format, version_format, kind_format, token_format, code_format, fact_format, consent_format};
+ghost use Rattle.consent.specs.Formats.{party_format, moment_format, version_format, kind_format, token_format, code_format, home_format, change_format, consent_format};
 ghost use Rattle.wire.specs.Format.{u64_format, fixed};
 ghost use Rattle.consent.specs.declared.record_version.RecordVersion.{RecordVersion};
 ghost use Rattle.consent.specs.declared.grant.TokenKind.{TokenKind};
 ghost use Rattle.consent.specs.declared.change.NewToken.{NewToken};
-ghost use Rattle.consent.specs.Facts.{GivenCode, code_of, Fact, fact_of};
+ghost use Rattle.consent.specs.declared.parties.Parties.{Parties};
+ghost use Rattle.consent.specs.Facts.{GivenCode, code_of};
+ghost use Rattle.consent.specs.History as history;
+ghost use Rattle.consent.specs.Changes.{change_of, parties_of};
 ghost use Rattle.consent.specs.declared.kept_consent.KeptConsent.{KeptConsent};
 
-use crate::change::{Change, CodeFacts, NewToken};
+use crate::change::{Change, CodeFacts, Home, NewToken};
 use crate::digest::Digest;
 use crate::grant::TokenKind;
 use crate::kept_consent::KeptConsent;
@@ -224,13 +227,39 @@ impl<'a> FromWire<'a> for CodeFacts<'a> {
     }
 }
 
-#[tactic(auto, unfolding(crate::specs::Formats::fact_format))]
+#[tactic(auto, unfolding(crate::specs::Formats::home_format))]
+impl Wire for Home {
+    ghost Value = { ℕ × Parties };
+
+    ghost value = { λ home. (home.family, parties_of home) };
+
+    ghost format = { home_format };
+
+    fn put(&self, out: &mut Vec<u8>) -> Result<(), EncodeFault> {
+        self.family.put(out)?;
+        self.client.put(out)?;
+        OwnerNo::number_of(self.owner).put(out)
+    }
+}
+
+#[tactic(auto, unfolding(crate::specs::Formats::home_format))]
+impl<'a> FromWire<'a> for Home {
+    fn from_wire(from: &mut Reader<'a>) -> Result<Home, DecodeFault> {
+        Ok(Home {
+            family: u64::from_wire(from)?,
+            client: ClientNo::from_wire(from)?,
+            owner: OwnerNo::numbered(u32::from_wire(from)?),
+        })
+    }
+}
+
+#[tactic(auto, unfolding(crate::specs::Formats::change_format))]
 impl Wire for Change<'_> {
-    ghost Value = { Fact };
+    ghost Value = { history.Change };
 
-    ghost value = { fact_of };
+    ghost value = { change_of };
 
-    ghost format = { fact_format };
+    ghost format = { change_format };
 
     fn put(&self, out: &mut Vec<u8>) -> Result<(), EncodeFault> {
         match self {
@@ -244,48 +273,48 @@ impl Wire for Change<'_> {
                 client.put(out)?;
                 mask.put(out)
             }
-            Change::CodeGiven { facts, digest } => {
+            Change::CodeGiven {
+                family,
+                facts,
+                digest,
+            } => {
                 2u8.put(out)?;
+                family.put(out)?;
                 facts.put(out)?;
                 digest.put(out)
             }
-            Change::IssuedAlone { client, token } => {
+            Change::Issued { home, token } => {
                 3u8.put(out)?;
-                client.put(out)?;
-                token.put(out)
-            }
-            Change::Issued { of, token } => {
-                4u8.put(out)?;
-                of.put(out)?;
+                home.put(out)?;
                 token.put(out)
             }
             Change::Spent { digest } => {
-                5u8.put(out)?;
+                4u8.put(out)?;
                 digest.put(out)
             }
-            Change::FamilyEnded { of } => {
-                6u8.put(out)?;
-                of.put(out)
+            Change::FamilyEnded { family } => {
+                5u8.put(out)?;
+                family.put(out)
             }
             Change::HookSet {
                 name,
                 version,
                 code,
             } => {
-                7u8.put(out)?;
+                6u8.put(out)?;
                 name.put(out)?;
                 version.put(out)?;
                 code.put(out)
             }
             Change::HookGone { name } => {
-                8u8.put(out)?;
+                7u8.put(out)?;
                 name.put(out)
             }
         }
     }
 }
 
-#[tactic(auto, unfolding(crate::specs::Formats::fact_format))]
+#[tactic(auto, unfolding(crate::specs::Formats::change_format))]
 impl<'a> FromWire<'a> for Change<'a> {
     fn from_wire(from: &mut Reader<'a>) -> Result<Change<'a>, DecodeFault> {
         match from.byte()? {
@@ -294,33 +323,33 @@ impl<'a> FromWire<'a> for Change<'a> {
                 client: ClientNo::from_wire(from)?,
                 mask: ScopeSet::from_wire(from)?,
             }),
-            2 => match CodeFacts::from_wire(from) {
-                Ok(facts) => Ok(Change::CodeGiven {
-                    facts,
-                    digest: Digest::from_wire(from)?,
-                }),
-                Err(fault) => Err(fault),
-            },
-            3 => Ok(Change::IssuedAlone {
-                client: ClientNo::from_wire(from)?,
+            2 => {
+                let family = u64::from_wire(from)?;
+                match CodeFacts::from_wire(from) {
+                    Ok(facts) => Ok(Change::CodeGiven {
+                        family,
+                        facts,
+                        digest: Digest::from_wire(from)?,
+                    }),
+                    Err(fault) => Err(fault),
+                }
+            }
+            3 => Ok(Change::Issued {
+                home: Home::from_wire(from)?,
                 token: NewToken::from_wire(from)?,
             }),
-            4 => Ok(Change::Issued {
-                of: Digest::from_wire(from)?,
-                token: NewToken::from_wire(from)?,
-            }),
-            5 => Ok(Change::Spent {
+            4 => Ok(Change::Spent {
                 digest: Digest::from_wire(from)?,
             }),
-            6 => Ok(Change::FamilyEnded {
-                of: Digest::from_wire(from)?,
+            5 => Ok(Change::FamilyEnded {
+                family: u64::from_wire(from)?,
             }),
-            7 => Ok(Change::HookSet {
+            6 => Ok(Change::HookSet {
                 name: <&str>::from_wire(from)?,
                 version: RecordVersion::from_wire(from)?,
                 code: <&[u8]>::from_wire(from)?,
             }),
-            8 => Ok(Change::HookGone {
+            7 => Ok(Change::HookGone {
                 name: <&str>::from_wire(from)?,
             }),
             _ => Err(DecodeFault::Bytes(Fault::Variant)),
