@@ -1,13 +1,13 @@
 -- What was found under a digest, as the history has it.
 use Rattle.std.specs.Prelude.{◌≡◌, ◌&&◌, ℕ, List, Bool, not, Some}
-use Rattle.answers.specs.Names.{option_map_or, Event, Grant, grant_at, is_spent, has_ended, has_room, is_taken, Seen, found_seen, Found}
+use Rattle.answers.specs.Names.{Event, Grant, grant_at, is_spent, has_ended, has_room, is_taken, Seen, found_seen, Found}
 
--- what is seen, under its digest and in its family
-abbrev pub grant_seen : List ℕ → ℕ → Seen → Grant
-grant_seen digest family seen = record {
+-- what is seen, under its digest
+abbrev pub grant_seen : List ℕ → Seen → Grant
+grant_seen digest seen = record {
   digest = digest;
   kind = seen.kind;
-  family = family;
+  family = seen.family;
   client = seen.client;
   owner = seen.owner;
   scope = seen.scope;
@@ -17,19 +17,15 @@ grant_seen digest family seen = record {
   challenge = seen.challenge;
 }
 
--- the family of what the digest names
-abbrev pub family_at : List Event → List ℕ → ℕ → ℕ
-family_at history digest m = option_map_or (λ (g : Grant). g.family) (grant_at history digest m) 0
-
 -- the code or token that was found
-abbrev pub grant_found : List Event → List ℕ → ℕ → Found → Grant
-grant_found history digest m found = grant_seen digest (family_at history digest m) (found_seen found)
+abbrev pub grant_found : List ℕ → Found → Grant
+grant_found digest found = grant_seen digest (found_seen found)
 
 -- the digest names it, and is spent and has ended as in the history
 pub record IsFound (history : List Event) (digest : List ℕ) (m : ℕ) (found : Found) : Type 0 where
-  pub named : grant_at history digest m ≡ Some (grant_found history digest m found)
+  pub named : grant_at history digest m ≡ Some (grant_found digest found)
   pub spent_is : found.spent ≡ is_spent history digest m
-  pub ended_is : found.ended ≡ has_ended history (family_at history digest m)
+  pub ended_is : found.ended ≡ has_ended history found.family
 
 -- there is room for as many, and none of the digests is taken
 abbrev pub is_free : List Event → ℕ → List (List ℕ) → Bool

@@ -24,7 +24,7 @@ found_named history digest m found is =
     record { named = grind (arith, is, under); spent_is = grind (arith, is); ended_is = grind (arith, is) }
 
 pub all_named : (history : List Event) (digest : List ℕ) (m : ℕ) (o : Option Found) → option_map found_seen o ≡ seen_at history digest m →
-    option_map (grant_found history digest m) o ≡ grant_at history digest m
+    option_map (grant_found digest) o ≡ grant_at history digest m
 all_named history digest m None is = sym (none_named history digest m is)
 all_named history digest m (Some found) is = sym (found_named history digest m found is).named
 

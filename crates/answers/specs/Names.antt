@@ -25,5 +25,6 @@ pub use Rattle.messages.specs.declared.request.Draws.{Draws}
 pub use Rattle.params.specs.Scope.{scope_text, scope_mask}
 pub use Rattle.pkce.specs.Token.{token_text}
 pub use Rattle.std.specs.Option.{option_map_or}
-pub use Rattle.token_store.specs.Found.{found_seen, owner_number}
+pub use Rattle.consent.specs.Owners.{owner_number}
+pub use Rattle.token_store.specs.Found.{found_seen}
 pub use Rattle.token_store.specs.declared.found.Found.{Found}

@@ -1,5 +1,5 @@
 -- What a decision comes to.
-use Rattle.std.specs.Prelude.{◌≡◌, ℕ, List, Option, Some, option_map, Result, Ok, Err}
+use Rattle.std.specs.Prelude.{◌≡◌, ℕ, List, Option, Result, Ok, Err}
 use Rattle.answers.specs.Names.{Event, changes_of, as_list, Ask, Narrowed, HookFault, Halt}
 use Rattle.answers.specs.Outcomes.{Outcome}
 use Rattle.answers.specs.Halts.{Halts}
@@ -9,15 +9,13 @@ use Rattle.answers.specs.Views.{Shows, setting_of}
 use Rattle.answers.specs.declared.view.View.{View}
 use Rattle.answers.specs.declared.decision.Decision.{Decision}
 
--- the outcome that the decision is: none, where one of its changes means nothing
-abbrev pub outcome_told : Setting → Decision → Option Outcome
-outcome_told s d =
-    option_map (λ changes. record { reply = reply_of s.rules s.host.names d.answer; changes = changes })
-    (changes_of s.history s.moment (as_list d.changes))
+-- the outcome that the decision is
+abbrev pub outcome_told : Setting → Decision → Outcome
+outcome_told s d = record { reply = reply_of s.rules s.host.names d.answer; changes = changes_of (as_list d.changes) }
 
 -- the points come to the decision, or halt
 abbrev pub Decides : Setting → Result Decision Halt → Outcome → Type 0
-Decides s (Ok d) points = outcome_told s d ≡ Some points
+Decides s (Ok d) points = outcome_told s d ≡ points
 Decides s (Err halt) points = Halts halt points
 
 -- and so do those that ask the host, which answers so

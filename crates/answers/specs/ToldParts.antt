@@ -18,4 +18,4 @@ abbrev pub DecidesOf : View → List ℕ → Found → Result Decision Halt → 
 DecidesOf view digest found result points =
     (history : List Event) (host : HostSays) → Shows view history → IsFound history digest view.moment found →
     Decides (setting_of view history host) result
-    (points (setting_of view history host) (grant_found history digest view.moment found))
+    (points (setting_of view history host) (grant_found digest found))

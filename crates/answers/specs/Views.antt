@@ -34,4 +34,4 @@ known_of known = record { number = known.number; client = known.client.now }
 -- whatever history the view shows, what was found under the digest is what is wanted of it
 abbrev pub Finds : View → List ℕ → Option Found → (List Event → Option Grant) → Type 0
 Finds view digest found wanted =
-    (history : List Event) → Shows view history → option_map (grant_found history digest view.moment) found ≡ wanted history
+    (history : List Event) → Shows view history → option_map (grant_found digest) found ≡ wanted history

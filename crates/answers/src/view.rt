@@ -1,7 +1,7 @@
 //! What a request is decided by.
 ghost use Rattle.std.specs.Prelude.{◌≡◌, List, IfSome};
-ghost use Rattle.consent.specs.History.{Event, consented_scope, grant_at};
-ghost use Rattle.token_store.specs.Found.{owner_number};
+ghost use Rattle.consent.specs.History.{Event, consented_scope, grant_at, next_family};
+ghost use Rattle.consent.specs.Owners.{owner_number};
 ghost use Rattle.answers.specs.Found.{IsFound, is_free};
 ghost use Rattle.answers.specs.Views.{Finds, Shows};
 ghost use Rattle.answers.specs.Wants.{want_of};
@@ -46,6 +46,13 @@ impl<'a> View<'a> {
             result ≡ want_of (refusal history self.now.moment digests.now) }
     {
         want_of(self.store.refusal(digests, self.moment))
+    }
+
+    /// The number of the family that is opened next.
+    pub fn next_family(&self) -> Option<u64>
+        ensures { (history : List Event) → Shows self.now history → result ≡ next_family history }
+    {
+        self.store.next_family()
     }
 
     /// The scope that the owner, if there is one, consents to the client's having.

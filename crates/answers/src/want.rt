@@ -9,7 +9,7 @@ use token_store::StoreFault;
 pub enum Want {
     /// The system gave no memory.
     Memory,
-    /// As many codes and tokens are unexpired as may be.
+    /// As many codes and tokens are unexpired as may be, or no number is left for a family.
     StoreRoom,
     /// What was drawn names something unexpired, or was drawn twice.
     FreshDraw,

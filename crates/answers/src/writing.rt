@@ -3,7 +3,7 @@ ghost use Rattle.std.specs.Prelude.{◌≡◌, ◌≤◌, [], ◌∷◌, IfOk, I
 ghost use Rattle.std.specs.Option.{option_copied};
 ghost use Rattle.clients.specs.Limits.{identifier_limit, key_limit};
 ghost use Rattle.clients.specs.Owners.{sub_of};
-ghost use Rattle.token_store.specs.Found.{owner_number};
+ghost use Rattle.consent.specs.Owners.{owner_number};
 ghost use Rattle.hook_host.specs.Names.{AreHookNames};
 ghost use Rattle.messages.specs.Members.Member.{Texts};
 ghost use Rattle.messages.specs.Reply.{IsBare, consent_body, plain, refused_body};

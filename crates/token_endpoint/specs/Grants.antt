@@ -1,5 +1,5 @@
 -- What is asked of the host before a grant, and the tokens that are issued for it.
-use Rattle.std.specs.Prelude.{ℕ, List, [], ◌∷◌, length}
+use Rattle.std.specs.Prelude.{ℕ, List, [], ◌∷◌}
 use Rattle.token_endpoint.specs.Names.{sha256, Change, Grant, consented_scope, Spent, NewToken, Access, Ask, Narrowed, Draws, Extent, Outcome, unless_taken, access_reply, both_reply, KnownClient}
 use Rattle.token_endpoint.specs.Names.{Setting}
 use Rattle.consent.specs.Changes.{issued_with, token_issued}
@@ -32,9 +32,9 @@ left_by_host setting ask = met_with ask (setting.host.answer ask)
 abbrev pub new_token : TokenKind → List ℕ → Extent → NewToken
 new_token kind draw left = record { kind = kind; digest = sha256 draw; scope = left.scope; life = left.life }
 
--- an access token of the client's own, in a family of its own
-abbrev pub issued_alone : Setting → ℕ → Extent → Change
-issued_alone setting client left = token_issued (length setting.history) client 0 (new_token Access setting.draws.first left)
+-- an access token of the client's own, which opens the family
+abbrev pub issued_alone : Setting → ℕ → ℕ → Extent → Change
+issued_alone setting family client left = token_issued family client 0 (new_token Access setting.draws.first left)
 
 -- a token of the draw comes of the code or refresh token that is used
 abbrev pub access_issued : Grant → List ℕ → Extent → Change

@@ -2,7 +2,7 @@
 use Rattle.std.specs.Prelude.{ℕ, not, codes, bytes_eq}
 use Rattle.token_endpoint.specs.Names.{value_sent, proves, ClientRecord, grant_named, has_grant, GrantType, Grant, is_spent, has_ended, Ask, Code, Narrowed, InvalidRequest, InvalidGrant}
 use Rattle.token_endpoint.specs.Names.{InvalidScope, UnauthorizedClient, UnsupportedGrantType, Outcome, point, need, refuse, unless_denied, Parameters, KnownClient, Setting, code_of_client}
-use Rattle.token_store.specs.Found.{owner_number}
+use Rattle.consent.specs.Owners.{owner_number}
 use Rattle.token_endpoint.specs.ClientCredentials.{granted}
 use Rattle.token_endpoint.specs.Exchange.{ends_family, exchanged, spent_in_vain}
 use Rattle.token_endpoint.specs.Grants.{ask_for, both_for, left_by_host}

@@ -8,9 +8,9 @@ ghost use Rattle.token_endpoint.specs.ClientCredentials.{client_credentials, gra
 ghost use Rattle.token_endpoint.specs.Parts.{granted_by};
 
 use crate::granting::{Wish, access_token, ask_for};
-use answers::{Answer, Decision, Halt, KnownClient, View, scope_within};
+use answers::{Answer, Decision, Halt, KnownClient, View, Want, scope_within};
 use clients::ClientNo;
-use consent::{Change, Changes, ScopeSet};
+use consent::{Change, Changes, Home, ScopeSet};
 use hook_host::{HookHost, decided};
 use hook_record::{Kind, Narrowed};
 use messages::ErrorName;
@@ -21,6 +21,9 @@ fn issue_own<'c>(view: &View<'_>, client: ClientNo, scope: ScopeSet, life: u32) 
     ensures decides { DecidesBy view.now (Ok result) (λ s. granted s client (record { scope = scope; life = life })) }
     ensures short { IsShortAnswer result.answer }
 {
+    let Some(family) = view.next_family() else {
+        return Decision::unavailable(Want::StoreRoom);
+    };
     let token = access_token(view, scope, life);
     let first = token.digest;
     if !view.is_free(&[first]) {
@@ -32,7 +35,14 @@ fn issue_own<'c>(view: &View<'_>, client: ClientNo, scope: ScopeSet, life: u32) 
             scope,
             life,
         },
-        changes: Changes::One(Change::IssuedAlone { client, token }),
+        changes: Changes::One(Change::Issued {
+            home: Home {
+                family,
+                client,
+                owner: None,
+            },
+            token,
+        }),
     }
 }
 

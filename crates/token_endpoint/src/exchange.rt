@@ -108,7 +108,7 @@ fn exchange_at<'c, H: HookHost>(
         return Err(Halt::Refuse(ErrorName::InvalidGrant));
     };
     if code.spent {
-        return Ok(ending(sent.digest));
+        return Ok(ending(code.family));
     }
     if code.ended || sent.uri != code.redirect || !matches(sent.verifier, code.challenge) {
         return Err(Halt::Refuse(ErrorName::InvalidGrant));

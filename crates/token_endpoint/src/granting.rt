@@ -8,7 +8,7 @@ ghost use Rattle.token_endpoint.specs.Issuing.{access_token, refresh_token};
 ghost use Rattle.token_endpoint.specs.Parts.{wished};
 
 use answers::{Answer, Decision, KnownClient, View};
-use consent::{Change, Changes, Digest, NewToken, OwnerNo, ScopeSet, TokenKind};
+use consent::{Change, Changes, Digest, Home, NewToken, OwnerNo, ScopeSet, TokenKind};
 use hook_record::{Ask, Kind};
 use messages::ErrorName;
 use pkce::digest_of;
@@ -69,13 +69,24 @@ fn refresh_token(view: &View<'_>, scope: ScopeSet) -> NewToken
     }
 }
 
-// invalid_grant, with which the family of what the digest names ends.
-pub(crate) fn ending<'c>(of: Digest) -> Decision<'c>
-    ensures { result ≡ record { answer = Answer.Failure ErrorName.InvalidGrant; changes = Changes.One (Change.FamilyEnded of) } }
+// invalid_grant, with which the family ends.
+pub(crate) fn ending<'c>(family: u64) -> Decision<'c>
+    ensures { result ≡ record { answer = Answer.Failure ErrorName.InvalidGrant; changes = Changes.One (Change.FamilyEnded family) } }
 {
     Decision {
         answer: Answer::Failure(ErrorName::InvalidGrant),
-        changes: Changes::One(Change::FamilyEnded { of }),
+        changes: Changes::One(Change::FamilyEnded { family }),
+    }
+}
+
+// The family of what was found, and whose it is.
+fn home_of(found: &Found<'_>) -> Home
+    ensures { result ≡ record { family = found.now.family; client = found.now.client; owner = found.now.owner } }
+{
+    Home {
+        family: found.family,
+        client: found.client,
+        owner: found.owner,
     }
 }
 
@@ -104,6 +115,7 @@ pub(crate) fn access_for<'c>(
         },
         changes: Changes::Used {
             of: *digest,
+            home: home_of(used),
             access,
             refresh: None,
         },
@@ -111,7 +123,6 @@ pub(crate) fn access_for<'c>(
 }
 
 // And a refresh token of the scope that is kept.
-#[tactic(auto, using(crate::proofs::Meaning::both_meant))]
 pub(crate) fn both_for<'c>(
     view: &View<'_>,
     digest: &Digest,
@@ -139,6 +150,7 @@ pub(crate) fn both_for<'c>(
         },
         changes: Changes::Used {
             of: *digest,
+            home: home_of(used),
             access,
             refresh: Some(refresh),
         },

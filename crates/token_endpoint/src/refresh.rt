@@ -79,7 +79,7 @@ pub(crate) fn refresh<'c, H: HookHost>(
         return Err(Halt::Refuse(ErrorName::InvalidGrant));
     };
     if token.spent {
-        return Ok(ending(digest));
+        return Ok(ending(token.family));
     }
     if token.ended {
         return Err(Halt::Refuse(ErrorName::InvalidGrant));

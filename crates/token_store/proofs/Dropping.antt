@@ -1,6 +1,6 @@
 -- The tables without a record that has expired.
 use Rattle.std.proofs.Common.{◌≡◌, ◌<◌, ◌≤◌, ℕ, ◌+◌, List, [], Option, Some, None, Bool, true, false, cond, refl, ap, ◌∙◌, sym, arith}
-use Rattle.token_store.proofs.Names.{◌==◌, slice_index_or, count_by, unwrap_or, is_some, IsDistinct, IsPermutation, bytes_eq, lookup, remove_entry, values_of, keys_of, sum_by-remove_entry}
+use Rattle.token_store.proofs.Names.{◌==◌, family_numbered, count_by, unwrap_or, is_some, IsDistinct, IsPermutation, bytes_eq, lookup, remove_entry, values_of, keys_of, sum_by-remove_entry}
 use Rattle.token_store.proofs.Names.{sum_by_values_permutation, bytes_eq-Decides, Record, Shared, Kept, kept_at, kept_unexpired, shared_at, kept_in, kept_under, all_kept, member_count, IsCounted}
 use Rattle.token_store.proofs.Names.{is_live_at, HasLeft, TellsSame, is_unexpired, nat_tests}
 use Rattle.std.specs.Prelude.{option_map}
@@ -20,30 +20,35 @@ member_counted digest es r at =
     let sums = sum_by-remove_entry (λ (x : Record). cond {A = ℕ} (x.family == r.family) 1 0) (bytes_eq digest) es in
     grind (arith, nat_tests, sums, at)
 
-pub has_slot : (families : List (Option Shared)) (n : ℕ) → 0 < (shared_at families n).count → is_some (slice_index_or families n None) ≡ true
+pub has_slot : (families : List (ℕ × Shared)) (n : ℕ) → 0 < (shared_at families n).count → is_some (family_numbered families n) ≡ true
 has_slot families n some = grind arith
 
 -- the counts of the families are right again
-pub counted_without : (families families' : List (Option Shared)) (es es' : List (List ℕ × Record)) (digest : List ℕ) (r : Record) →
-    IsCounted families es [] → lookup (bytes_eq digest) es ≡ Some r →
-    IsPermutation (remove_entry (bytes_eq digest) es) es' → HasLeft families families' r.family → IsCounted families' es' []
+pub counted_without : (families families' : List (ℕ × Shared)) (es es' : List (List ℕ × Record)) (digest : List ℕ) (r : Record) →
+    IsCounted families es → lookup (bytes_eq digest) es ≡ Some r →
+    IsPermutation (remove_entry (bytes_eq digest) es) es' → HasLeft families families' r.family → IsCounted families' es'
 counted_without families families' es es' digest r counted at taken left n =
     let sums = count_without (λ x. x.family == n) digest es es' r at taken in
     let some = member_counted digest es r at in
     grind (arith, nat_tests, sums, some, counted n, counted r.family, left.others n, left.here)
 
+-- no family has more records
+pub fewer_members : (es es' : List (List ℕ × Record)) (digest : List ℕ) (r : Record) → lookup (bytes_eq digest) es ≡ Some r →
+    IsPermutation (remove_entry (bytes_eq digest) es) es' → (n : ℕ) → member_count es' n ≤ member_count es n
+fewer_members es es' digest r at taken n = let sums = count_without (λ x. x.family == n) digest es es' r at taken in omega (arith, sums)
+
 -- a family that is there still shares what it did
-pub same_shared : (families families' : List (Option Shared)) (n k : ℕ) (digest : List ℕ) (x : Record) → HasLeft families families' n →
+pub same_shared : (families families' : List (ℕ × Shared)) (n k : ℕ) (digest : List ℕ) (x : Record) → HasLeft families families' n →
     0 < (shared_at families' k).count → kept_under (shared_at families' k) digest x ≡ kept_under (shared_at families k) digest x
 same_shared families families' n k digest x left some = grind (arith, nat_tests, left.others k, left.here)
 
 -- counts of what is seen are counts of the records
-pub count_seen : (families : List (Option Shared)) (es : List (List ℕ × Record)) (t : ℕ) → kept_unexpired (all_kept families es) t ≡ count_by (is_live_at t) (values_of es)
+pub count_seen : (families : List (ℕ × Shared)) (es : List (List ℕ × Record)) (t : ℕ) → kept_unexpired (all_kept families es) t ≡ count_by (is_live_at t) (values_of es)
 count_seen families es t = count-map (kept_in families) (λ k. is_unexpired t k.grant) es ∙ sym (count-map (λ e. e.1) (is_live_at t) es)
 
 -- one is gone that had expired
-pub dropped_one : (families families' : List (Option Shared)) (es es' : List (List ℕ × Record)) (digest : List ℕ) (r : Record) (moment : ℕ) →
-    IsDistinct bytes_eq (keys_of es) → IsDistinct bytes_eq (keys_of es') → IsCounted families' es' [] →
+pub dropped_one : (families families' : List (ℕ × Shared)) (es es' : List (List ℕ × Record)) (digest : List ℕ) (r : Record) (moment : ℕ) →
+    IsDistinct bytes_eq (keys_of es) → IsDistinct bytes_eq (keys_of es') → IsCounted families' es' →
     lookup (bytes_eq digest) es ≡ Some r → r.moment + r.life ≤ moment → IsPermutation (remove_entry (bytes_eq digest) es) es' →
     ((d : List ℕ) → lookup (bytes_eq d) es' ≡ cond (bytes_eq digest d) None (lookup (bytes_eq d) es)) → HasLeft families families' r.family →
     TellsSame (all_kept families es) (all_kept families' es') moment
@@ -73,7 +78,7 @@ dropped_one families families' es es' digest r moment once once' counted' at lat
         grind (arith, is, dead, same, other, at)
 
 -- the family of what is kept has records
-pub kept_counted : (families : List (Option Shared)) (es : List (List ℕ × Record)) (digest : List ℕ) (m : ℕ) (k : Kept) → IsDistinct bytes_eq (keys_of es) → IsCounted families es [] →
+pub kept_counted : (families : List (ℕ × Shared)) (es : List (List ℕ × Record)) (digest : List ℕ) (m : ℕ) (k : Kept) → IsDistinct bytes_eq (keys_of es) → IsCounted families es →
     kept_at (all_kept families es) digest m ≡ Some k → 0 < (shared_at families k.grant.family).count
 kept_counted families es digest m k once counted at = shown_cases (lookup (bytes_eq digest) es) refl (sym (found families es digest m once) ∙ at)
   where

@@ -4,10 +4,13 @@ pub mod Dropping
 pub mod Sweeping
 pub mod Families
 pub mod Issuing
+pub mod Living
+pub mod Homing
 pub mod Looking
 pub mod Following
 pub mod Remaking
 pub mod Settling
+pub mod Sharing
 pub mod Spending
 pub mod Telling
 pub mod Timing

@@ -5,12 +5,12 @@ use Rattle.token_store.proofs.Names.{Record, Shared, Kept, kept_at, kept_in, all
 use Rattle.std.specs.Prelude.{map}
 
 -- what is seen of the record of the digest
-abbrev pub shown : List (Option Shared) → List ℕ → ℕ → Option Record → Option Kept
+abbrev pub shown : List (ℕ × Shared) → List ℕ → ℕ → Option Record → Option Kept
 shown families digest t None = None
 shown families digest t (Some r) = cond (is_live_at t r) (Some (kept_in families (digest, r))) None
 
 -- the look-up among the records that are seen is the table's
-pub found : (families : List (Option Shared)) (es : List (List ℕ × Record)) (digest : List ℕ) (t : ℕ) → IsDistinct bytes_eq (keys_of es) →
+pub found : (families : List (ℕ × Shared)) (es : List (List ℕ × Record)) (digest : List ℕ) (t : ℕ) → IsDistinct bytes_eq (keys_of es) →
     kept_at (all_kept families es) digest t ≡ shown families digest t (lookup (bytes_eq digest) es)
 found families [] digest t distinct = refl
 found families (e ∷ es) digest t distinct =

@@ -1,14 +1,14 @@
 -- The names of other crates that more than one file of these proofs uses.
-pub use Rattle.consent.specs.Changes.{code_given, AllFollow, token_issued, issued_with, rest_of_use, family_ended}
+pub use Rattle.consent.specs.Changes.{change_of, changes_of, parties_of, token_issued, rest_of_use}
 pub use Rattle.consent.specs.Growth.{may_end}
 pub use Rattle.consent.specs.GrowthLaws.{grant_at-push, unexpired_count-push, is_spent-push_other, is_spent-unnamed, has_ended-push_other, code_terms-push, code_terms-push_other, grant_at-push_none}
-pub use Rattle.consent.specs.GrowthLaws.{unexpired_count-push_none, code_terms-push_none, is_spent-push, has_ended-push}
-pub use Rattle.consent.specs.History.{Event, Grant, grant_of, grant_at, is_named, is_unexpired, spends, has_ended, code_terms, IsHistory, terms_of, with_change, CanFollow, grants, is_spent}
-pub use Rattle.consent.specs.History.{is_beyond, is_placed, event_at, is_code, is_code_of, opener, is_of, IsHome, Change as told}
-pub use Rattle.consent.specs.HistoryLaws.{grant_at-placed, code_terms-fresh, has_ended-fresh, is_history-push, grant_at-now, is_history-push_none, grant_at-kin, code_terms-kin}
-pub use Rattle.consent.specs.ListLaws.{count_by-none, find-some, find-passes, count_by-cons, find-map, find-one, find-uncounted}
+pub use Rattle.consent.specs.GrowthLaws.{unexpired_count-push_none, code_terms-push_none, is_spent-push, has_ended-push, greatest_family-append, with_changes-cons}
+pub use Rattle.consent.specs.History.{Event, Grant, Terms, grant_of, grant_at, is_named, is_unexpired, spends, has_ended, code_terms, IsHistory, terms_of, with_change, CanFollow, grants, is_spent}
+pub use Rattle.consent.specs.History.{is_beyond, event_at, is_code, is_code_of, is_new, is_home, is_host, is_live_in, lives, greatest_family, family_of, with_changes, AllFollow, CanStand, Change as told}
+pub use Rattle.consent.specs.HistoryLaws.{grant_at-old, code_terms-new, has_ended-new, is_history-push, can_stand, grant_at-now, is_history-push_none, code_terms-kin, found-named, found_kin, host_of, Host}
+pub use Rattle.consent.specs.ListLaws.{count_by-none, find-some, find-passes, count_by-cons, find-map, find-one, find-uncounted, any-found, any-found_by}
 pub use Rattle.consent.specs.declared.change.Change.{Change as Made}
-pub use Rattle.consent.specs.declared.change.Change.TheVariants.{CodeGiven, IssuedAlone, Issued}
+pub use Rattle.consent.specs.declared.change.Change.TheVariants.{CodeGiven, Issued}
 pub use Rattle.std.proofs.lemmas.Bool.{ne_eqb, eq-eqb, and_parts, and_from, lt-ltb, eqb-true, ltb-true}
 pub use Rattle.std.proofs.lemmas.Bool.Decides.{nat_tests}
 pub use Rattle.std.proofs.lemmas.Cmp.{nat_list_eq_equiv}
@@ -31,22 +31,21 @@ pub use Rattle.std.specs.List.Sorted.{IsPermutation}
 pub use Rattle.std.specs.Map.{lookup, remove_entry, values_of, keys_of, set_value}
 pub use Rattle.std.specs.Option.{option_or, MatchOption, option_copied}
 pub use Rattle.std.specs.Ordering.{is_gt}
-pub use Rattle.std.specs.Prelude.{count_by, ◌==◌, slice_index_or, is_some, unwrap_or, nat_le, if◌then◌else◌, ◌||◌, find, nat_eq, not, min, All}
+pub use Rattle.std.specs.Prelude.{count_by, ◌==◌, is_some, unwrap_or, nat_le, if◌then◌else◌, ◌||◌, find, nat_eq, not, min, All}
 pub use Rattle.std.specs.Str.{bytes_eq}
 pub use Rattle.std.specs.Vec.{with_items, vec_len}
 pub use Rattle.token_store.specs.Agenda.{deadlines_of, is_deadline, IsExact, least, IsBounded, deadlines_in}
 pub use Rattle.token_store.specs.AgendaParts.{is_ahead, is_filled}
-pub use Rattle.token_store.specs.Fits.{FitsBy, to_keep, FitsHistory, MakesChanges}
-pub use Rattle.token_store.specs.FitsParts.{with_family_number, MakesChange}
-pub use Rattle.token_store.specs.Homes.{AreHomes, ComesBy, HasHome, AllHome, HasGrown, IsAtOdds, AreSaid, number_of_family, renumber_by}
+pub use Rattle.token_store.specs.Fits.{to_keep, FitsHistory, FitsStore, MakesChanges}
+pub use Rattle.token_store.specs.FitsParts.{MakesChange}
+pub use Rattle.token_store.specs.Homes.{ComesBy, HasHome, AllHome, HasGrown, HomesStay, IsAtOdds, AreSaid, passed, all_passed}
 pub use Rattle.token_store.specs.Image.{HasDigestTwice, HasFamilyDiffering, IsLiveOf, as_kept, is_unexpired_record, kept_record, kind_told, owner_told, terms_by}
-pub use Rattle.token_store.specs.ImageParts.{renumbered, IsRestored}
-pub use Rattle.token_store.specs.Kept.{Kept, kept_at, kept_unexpired, Room, Held}
-pub use Rattle.token_store.specs.Records.{shared_at, all_kept, Tied, kept_of, IsTied, kept_in, kept_under, member_count, IsCounted, is_coded, IsOwned, own_shared, fact_in, expiry}
-pub use Rattle.token_store.specs.Records.{expiry_of, AllListed, or_nothing, owner_cmp, code_shared, texts_given}
-pub use Rattle.token_store.specs.RecordsParts.{code_kept, IsUnused, TellsSame, is_live_at, HasLeft, RecordChange, changed, HasEnded, HasLowered, IsNextOwned, lowered_by, lowered_shared, token_kept}
-pub use Rattle.token_store.specs.RecordsParts.{HasOpened, HasEntered, SharesSame, spent_in, HasTaken, IsNoneExpired, AllGone, Sheds, AllLive, IsAfter, start_of}
-pub use Rattle.token_store.specs.Room.{Waits, HasRoomFor, room_of, records_of}
+pub use Rattle.token_store.specs.Kept.{Kept, kept_at, kept_lives, kept_unexpired, Room, Held}
+pub use Rattle.token_store.specs.Records.{shared_at, all_kept, Tied, kept_of, IsTied, kept_in, kept_under, member_count, IsCounted, is_coded, IsOwned, home_shared, family_numbered, fact_in, expiry}
+pub use Rattle.token_store.specs.Records.{expiry_of, AllListed, IsBelow, or_nothing, owner_cmp, code_shared, texts_given}
+pub use Rattle.token_store.specs.RecordsParts.{code_kept, is_member_at, shared_seen, TellsSame, is_live_at, HasLeft, RecordChange, changed, HasEnded, HasLowered, IsNextOwned, lowered_by, lowered_shared, token_kept}
+pub use Rattle.token_store.specs.RecordsParts.{HasEntered, SharesSame, spent_in, HasTaken, IsNoneExpired, AllGone, Sheds, AllLive, IsAfter, start_of}
+pub use Rattle.token_store.specs.Room.{Waits, HasRoomFor, IsExpected, IsPeopled, held_of, room_of, records_of}
 pub use Rattle.token_store.specs.declared.agenda.Agenda.{Agenda}
 pub use Rattle.token_store.specs.declared.agenda.Deadline.{Deadline}
 pub use Rattle.token_store.specs.declared.agenda.Page.{Page}

@@ -1,8 +1,8 @@
 -- The tables as a record that was about to come has come.
 use Rattle.std.proofs.Common.{◌≡◌, ◌<◌, ◌≤◌, ℕ, ◌+◌, List, [], ◌∷◌, ◌++◌, Option, Some, None, Bool, true, cond, length, refl, ap, ◌∙◌, sym, arith}
-use Rattle.token_store.proofs.Names.{◌==◌, is_some, unwrap_or, slice_index_or, count_by, IsDistinct, list_any, IsPermutation, option_or, MatchOption, bytes_eq, lookup, set_value, sum_by-set_value}
+use Rattle.token_store.proofs.Names.{◌==◌, is_some, unwrap_or, family_numbered, count_by, IsDistinct, list_any, IsPermutation, option_or, MatchOption, bytes_eq, lookup, set_value, sum_by-set_value}
 use Rattle.token_store.proofs.Names.{values_of, keys_of, find-append, list_any-append, count_by-le-length, length-map, sum_by_values_permutation, bytes_eq-Decides, is_named, is_unexpired, Record}
-use Rattle.token_store.proofs.Names.{Shared, Agenda, Deadline, deadlines_of, is_deadline, IsExact, Kept, kept_at, shared_at, expiry, expiry_of, kept_under, all_kept, AllListed, IsCounted, IsOwned}
+use Rattle.token_store.proofs.Names.{Shared, Agenda, Deadline, deadlines_of, is_deadline, IsExact, Kept, kept_at, shared_at, expiry, expiry_of, kept_under, all_kept, AllListed, IsCounted, IsOwned, member_count}
 use Rattle.token_store.proofs.Names.{Tied, is_live_at, HasLeft, HasEntered, TellsSame, SharesSame, nat_tests}
 use Rattle.std.specs.Prelude.{option_map}
 use Rattle.std.proofs.lemmas.List.Sorted.{IsPermutation-map, sum_by_pushed}
@@ -39,30 +39,30 @@ count_put p digest (Some x) r es es' was set = rw set (sum_by-set_value (λ x. c
 
 -- FAMILIES
 
-pub entered_shares : (old new : List (Option Shared)) (n more k : ℕ) → HasEntered old new n more → SharesSame old new k
+pub entered_shares : (old new : List (ℕ × Shared)) (n more k : ℕ) → HasEntered old new n more → SharesSame old new k
 entered_shares old new n more k entered d x = let other = entered.others k in grind (arith, other)
 
-entered_counts : (old new : List (Option Shared)) (n k : ℕ) → HasEntered old new n 1 → is_some (slice_index_or old n None) ≡ true →
+entered_counts : (old new : List (ℕ × Shared)) (n k : ℕ) → HasEntered old new n 1 → is_some (family_numbered old n) ≡ true →
     (shared_at new k).count ≡ (shared_at old k).count + cond {A = ℕ} (n == k) 1 0
 entered_counts old new n k entered there = let other = entered.others k in grind (arith, nat_tests, there, other)
 
 -- the record has left its family, if there is one
-abbrev pub HasLeftOf : Option Record → (old new : List (Option Shared)) → Type 0
+abbrev pub HasLeftOf : Option Record → (old new : List (ℕ × Shared)) → Type 0
 HasLeftOf None old new = new ≡ old
 HasLeftOf (Some x) old new = HasLeft old new x.family
 
-left_counts : (o : Option Record) (old new : List (Option Shared)) (k : ℕ) → HasLeftOf o old new → ((x : Record) → o ≡ Some x → 0 < (shared_at old x.family).count) →
+left_counts : (o : Option Record) (old new : List (ℕ × Shared)) (k : ℕ) → HasLeftOf o old new → ((x : Record) → o ≡ Some x → 0 < (shared_at old x.family).count) →
     (shared_at new k).count + count_in (λ x. x.family == k) o ≡ (shared_at old k).count
 left_counts None old new k left some = grind (arith, left)
 left_counts (Some x) old new k left some = let here = some x refl in grind (arith, nat_tests, left.others k, left.here, here)
 
-left_shares : (o : Option Record) (old new : List (Option Shared)) (k : ℕ) (digest : List ℕ) (x : Record) → HasLeftOf o old new → 0 < (shared_at new k).count →
+left_shares : (o : Option Record) (old new : List (ℕ × Shared)) (k : ℕ) (digest : List ℕ) (x : Record) → HasLeftOf o old new → 0 < (shared_at new k).count →
     kept_under (shared_at new k) digest x ≡ kept_under (shared_at old k) digest x
 left_shares None old new k digest x left some = rw left refl
 left_shares (Some y) old new k digest x left some = same_shared old new y.family k digest x left some
 
 -- all is seen as before, in another order
-pub same_moved : (families families' : List (Option Shared)) (es es' : List (List ℕ × Record)) (m : ℕ) → ((k : ℕ) → SharesSame families families' k) → IsDistinct bytes_eq (keys_of es) → IsDistinct bytes_eq (keys_of es') →
+pub same_moved : (families families' : List (ℕ × Shared)) (es es' : List (List ℕ × Record)) (m : ℕ) → ((k : ℕ) → SharesSame families families' k) → IsDistinct bytes_eq (keys_of es) → IsDistinct bytes_eq (keys_of es') →
     IsPermutation es es' → ((d : List ℕ) → lookup (bytes_eq d) es' ≡ lookup (bytes_eq d) es) → TellsSame (all_kept families es) (all_kept families' es') m
 same_moved families families' es es' m shares once once' moved finds = record {
   finds = λ d t le. found families' es' d t once' ∙ ap (shown families' d t) (finds d) ∙ shown_same d t (lookup (bytes_eq d) es) ∙ sym (found families es d t once);
@@ -74,22 +74,26 @@ same_moved families families' es es' m shares once once' moved finds = record {
     shown_same d t (Some x) = ap (λ k. cond (is_live_at t x) (Some k) None) (shares x.family d x)
 
 -- A record has come into its family, in the place of what was under its digest.
-pub record Settled (families families' : List (Option Shared)) (es es' : List (List ℕ × Record)) (agenda' : Agenda) (owners' : List ((ℕ × ℕ) × ℕ)) (digest : List ℕ) (r : Record) : Type 0 where
-  pub tied : Tied families' es' agenda' owners' []
+pub record Settled (families families' : List (ℕ × Shared)) (es es' : List (List ℕ × Record)) (agenda' : Agenda) (owners' : List ((ℕ × ℕ) × ℕ)) (last : ℕ) (digest : List ℕ) (r : Record) : Type 0 where
+  pub tied : Tied families' es' agenda' owners' last
   pub keeps : (m : ℕ) → kept_at (all_kept families es) digest m ≡ None → TellsSame (all_kept families es ++ kept_under (shared_at families r.family) digest r ∷ []) (all_kept families' es') m
 
-pub settled : (families f f' : List (Option Shared)) (es es' : List (List ℕ × Record)) (agenda agenda' : Agenda) (owners owners' : List ((ℕ × ℕ) × ℕ)) (digest : List ℕ) (o : Option Record) (r : Record) →
-    Tied families es agenda owners [] → is_some (slice_index_or families r.family None) ≡ true → HasEntered families f r.family 1 → HasLeftOf o f f' → (IsOwned f owners → IsOwned f' owners') →
+pub settled : (families f f' : List (ℕ × Shared)) (es es' : List (List ℕ × Record)) (agenda agenda' : Agenda) (owners owners' : List ((ℕ × ℕ) × ℕ)) (last : ℕ) (digest : List ℕ) (o : Option Record) (r : Record) →
+    Tied families es agenda owners last → r.family ≤ last → is_some (family_numbered families r.family) ≡ true → HasEntered families f r.family 1 → HasLeftOf o f f' → (IsOwned f owners → IsOwned f' owners') →
     o ≡ lookup (bytes_eq digest) es → MatchOption o (IsPermutation ((digest, r) ∷ es) es') (λ _. es' ≡ set_value (bytes_eq digest) es r) → IsDistinct bytes_eq (keys_of es') →
     ((d : List ℕ) → lookup (bytes_eq d) es' ≡ cond (bytes_eq digest d) (Some r) (lookup (bytes_eq d) es)) → deadlines_of agenda' ≡ deadlines_of agenda ++ (record { digest = digest; moment = expiry r }) ∷ [] →
-    (IsExact agenda → IsExact agenda') → Settled families f' es es' agenda' owners' digest r
-settled families f f' es es' agenda agenda' owners owners' digest o r tied there entered left owned was puts once' finds added exact = record {
+    (IsExact agenda → IsExact agenda') → Settled families f' es es' agenda' owners' last digest r
+settled families f f' es es' agenda agenda' owners owners' last digest o r tied low there entered left owned was puts once' finds added exact = record {
   tied = record {
     once = once';
     listed = more_listed es es' (deadlines_of agenda) (deadlines_of agenda') digest r added finds tied.listed;
     exact = exact tied.exact;
     counted = counted';
     owned = owned (λ q. (let other = entered.others q.1 in let was = tied.owned q in grind (arith, other, was)));
+    below = λ n lt. (let moved = count_put (λ x. x.family == n) digest o r es es' was puts in
+        let before = tied.below n lt in
+        let other : cond {A = ℕ} (r.family == n) 1 0 ≡ 0 = grind (arith, nat_tests, low, lt) in
+        omega (arith, moved, before, other));
   };
   keeps = λ m none. record {
     finds = λ d t le.
@@ -107,7 +111,7 @@ settled families f f' es es' agenda agenda' owners owners' digest o r tied there
     k : Kept
     k = kept_under (shared_at families r.family) digest r
 
-    counted' : IsCounted f' es' []
+    counted' : IsCounted f' es'
     counted' n =
         let came = entered_counts families f r.family n entered there in
         let went = left_counts o f f' n left some in
@@ -147,7 +151,7 @@ settled families f f' es es' agenda agenda' owners owners' digest o r tied there
         grind (arith, is, back, named, turned, here, same, gone)
 
 -- no family has more records than there are
-pub count_few : (families : List (Option Shared)) (es : List (List ℕ × Record)) (n : ℕ) → IsCounted families es [] → (shared_at families n).count ≤ length es
+pub count_few : (families : List (ℕ × Shared)) (es : List (List ℕ × Record)) (n : ℕ) → IsCounted families es → (shared_at families n).count ≤ length es
 count_few families es n counted =
     let le = count_by-le-length (λ (r : Record). r.family == n) (values_of es) in
     let len = length-map es (λ (e : List ℕ × Record). e.1) in
@@ -155,13 +159,17 @@ count_few families es n counted =
     omega (arith, le, len, same)
 
 -- the records in another order, and the same deadlines in another agenda
-pub tied_moved : (families : List (Option Shared)) (es es' : List (List ℕ × Record)) (agenda agenda' : Agenda) (owners : List ((ℕ × ℕ) × ℕ)) → IsDistinct bytes_eq (keys_of es') → IsPermutation es es' →
+pub tied_moved : (families : List (ℕ × Shared)) (es es' : List (List ℕ × Record)) (agenda agenda' : Agenda) (owners : List ((ℕ × ℕ) × ℕ)) (last : ℕ) → IsDistinct bytes_eq (keys_of es') → IsPermutation es es' →
     ((d : List ℕ) → lookup (bytes_eq d) es' ≡ lookup (bytes_eq d) es) → deadlines_of agenda' ≡ deadlines_of agenda → (IsExact agenda → IsExact agenda') →
-    Tied families es agenda owners [] → Tied families es' agenda' owners []
-tied_moved families es es' agenda agenda' owners once' moved finds same exact tied = record {
+    Tied families es agenda owners last → Tied families es' agenda' owners last
+tied_moved families es es' agenda agenda' owners last once' moved finds same exact tied = record {
   once = once';
   listed = λ d t at. ap (list_any (is_deadline d t)) same ∙ tied.listed d t (sym (ap expiry_of (finds d)) ∙ at);
   exact = exact tied.exact;
-  counted = λ k. tied.counted k ∙ ap (λ n. n + 0) (sym (sum_by_values_permutation (λ (x : Record). cond {A = ℕ} (x.family == k) 1 0) es es' moved));
+  counted = λ k. tied.counted k ∙ sym (members k);
   owned = tied.owned;
+  below = λ n lt. members n ∙ tied.below n lt;
 }
+  where
+    members : (k : ℕ) → member_count es' k ≡ member_count es k
+    members k = sum_by_values_permutation (λ (x : Record). cond {A = ℕ} (x.family == k) 1 0) es es' moved

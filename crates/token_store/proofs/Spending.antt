@@ -16,22 +16,23 @@ spent_lookup (e ∷ es) digest d r at g same =
     grind (arith, more)
 
 -- ties
-pub tied_spent : (families : List (Option Shared)) (es : List (List ℕ × Record)) (agenda : Agenda) (owners : List ((ℕ × ℕ) × ℕ)) (digest : List ℕ) →
-    Tied families es agenda owners [] → Tied families (spent_in digest es (lookup (bytes_eq digest) es)) agenda owners []
-tied_spent families es agenda owners digest tied = tied_cases (lookup (bytes_eq digest) es) refl
+pub tied_spent : (families : List (ℕ × Shared)) (es : List (List ℕ × Record)) (agenda : Agenda) (owners : List ((ℕ × ℕ) × ℕ)) (last : ℕ) (digest : List ℕ) →
+    Tied families es agenda owners last → Tied families (spent_in digest es (lookup (bytes_eq digest) es)) agenda owners last
+tied_spent families es agenda owners last digest tied = tied_cases (lookup (bytes_eq digest) es) refl
   where
-    tied_cases : (o : Option Record) → lookup (bytes_eq digest) es ≡ o → Tied families (spent_in digest es o) agenda owners []
+    tied_cases : (o : Option Record) → lookup (bytes_eq digest) es ≡ o → Tied families (spent_in digest es o) agenda owners last
     tied_cases None is = tied
     tied_cases (Some r) is =
         let r' : Record = record r { spent = true } in
+        let members : (n : ℕ) → member_count (set_value (bytes_eq digest) es r') n ≡ member_count es n = λ n.
+        (let sums = sum_by-set_value (λ (x : Record). cond {A = ℕ} (x.family == n) 1 0) (bytes_eq digest) es r r' is in omega (arith, sums)) in
         record {
           once = rw (keys-set_value (bytes_eq digest) es r') tied.once;
           listed = λ d t at. tied.listed d t (sym (spent_lookup es digest d r is expiry_of refl) ∙ at);
           exact = tied.exact;
-          counted = λ n. (let sums = sum_by-set_value (λ (x : Record). cond {A = ℕ} (x.family == n) 1 0) (bytes_eq digest) es r r' is in
-              let same : member_count (set_value (bytes_eq digest) es r') n ≡ member_count es n = omega (arith, sums) in
-              let was = tied.counted n in omega (arith, was, same));
+          counted = λ n. (let was = tied.counted n in let same = members n in omega (arith, was, same));
           owned = tied.owned;
+          below = λ n lt. (let was = tied.below n lt in let same = members n in omega (arith, was, same));
         }
 
 -- THE VIEW
@@ -41,7 +42,7 @@ pub unspent_same : (kept : List Kept) (digest : List ℕ) (m : ℕ) → kept_at 
 unspent_same [] digest m none = refl
 unspent_same (k ∷ ks) digest m none = grind (arith, unspent_same ks digest m)
 
-changed_one : (families : List (Option Shared)) (es : List (List ℕ × Record)) (digest : List ℕ) (m : ℕ) (r : Record) → IsDistinct bytes_eq (keys_of es) → lookup (bytes_eq digest) es ≡ Some r → is_live_at m r ≡ true →
+changed_one : (families : List (ℕ × Shared)) (es : List (List ℕ × Record)) (digest : List ℕ) (m : ℕ) (r : Record) → IsDistinct bytes_eq (keys_of es) → lookup (bytes_eq digest) es ≡ Some r → is_live_at m r ≡ true →
     all_kept families (set_value (bytes_eq digest) es (record r { spent = true })) ≡ map (changed (RecordChange.Spent digest m)) (all_kept families es)
 changed_one families [] digest m r distinct at live = refl
 changed_one families (e ∷ es) digest m r distinct at live =
@@ -53,7 +54,7 @@ changed_one families (e ∷ es) digest m r distinct at live =
     (found families es digest m rest ∙ ap (shown families digest m) (lookup-none (bytes_eq digest) es (none_past_head nat_list_eq_equiv digest e es distinct is))) in
     grind (arith, more, none)
 
-pub view_spent : (families : List (Option Shared)) (es : List (List ℕ × Record)) (digest : List ℕ) (m : ℕ) → IsDistinct bytes_eq (keys_of es) → is_some (kept_at (all_kept families es) digest m) ≡ true →
+pub view_spent : (families : List (ℕ × Shared)) (es : List (List ℕ × Record)) (digest : List ℕ) (m : ℕ) → IsDistinct bytes_eq (keys_of es) → is_some (kept_at (all_kept families es) digest m) ≡ true →
     all_kept families (spent_in digest es (lookup (bytes_eq digest) es)) ≡ map (changed (RecordChange.Spent digest m)) (all_kept families es)
 view_spent families es digest m once there =
     let shown_there : is_some (shown families digest m (lookup (bytes_eq digest) es)) ≡ true = sym (ap is_some (found families es digest m once)) ∙ there in

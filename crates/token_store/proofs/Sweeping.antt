@@ -3,7 +3,7 @@ use Rattle.std.proofs.Common.{◌≡◌, ◌<◌, ℕ, List, [], ◌∷◌, ◌+
 use Rattle.token_store.proofs.Names.{IsDistinct, IsPermutation, bytes_eq, lookup, keys_of, remove_entry, list_any-append, bytes_eq-Decides, Deadline, Record, Shared, least, is_deadline}
 use Rattle.token_store.proofs.Names.{all_kept, expiry_of, IsCounted, IsOwned, is_live_at, HasLeft, HasTaken, IsNoneExpired, AllGone, Sheds, nat_tests}
 use Rattle.token_store.proofs.Looking.{same_on}
-use Rattle.token_store.proofs.Dropping.{counted_without, dropped_one}
+use Rattle.token_store.proofs.Dropping.{counted_without, dropped_one, fewer_members}
 use Rattle.token_store.proofs.Timing.{least_at}
 
 -- WHICH ARE GONE
@@ -27,16 +27,17 @@ pub taken_out : (old without new : List (List ℕ × Record)) (digest : List ℕ
     new ≡ without → HasTaken old new digest r
 taken_out old without new digest r at once moved taken is = rw is (record { found = at; once = once; moved = moved; taken = taken })
 
-pub sheds_none : (families : List (Option Shared)) (es : List (List ℕ × Record)) (owners : List ((ℕ × ℕ) × ℕ)) (xs : List Deadline) (m : ℕ) → IsDistinct bytes_eq (keys_of es) → IsCounted families es [] →
+pub sheds_none : (families : List (ℕ × Shared)) (es : List (List ℕ × Record)) (owners : List ((ℕ × ℕ) × ℕ)) (xs : List Deadline) (m : ℕ) → IsDistinct bytes_eq (keys_of es) → IsCounted families es →
     AllGone xs es m → Sheds families es owners families es owners xs m
 sheds_none families es owners xs m once counted gone =
-    record { once = once; counted = counted; owned = λ owned. owned; same = record { finds = λ d t le. refl; counts = λ t le. refl }; fewer = λ d t at. at; gone = gone }
+    record { once = once; counted = counted; no_more = λ n. omega arith; owned = λ owned. owned; same = record { finds = λ d t le. refl; counts = λ t le. refl }; fewer = λ d t at. at; gone = gone }
 
-pub sheds_on : (f g h : List (Option Shared)) (es fs gs : List (List ℕ × Record)) (o p q : List ((ℕ × ℕ) × ℕ)) (xs ys : List Deadline) (m : ℕ) →
+pub sheds_on : (f g h : List (ℕ × Shared)) (es fs gs : List (List ℕ × Record)) (o p q : List ((ℕ × ℕ) × ℕ)) (xs ys : List Deadline) (m : ℕ) →
     Sheds f es o g fs p xs m → Sheds g fs p h gs q ys m → Sheds f es o h gs q (xs ++ ys) m
 sheds_on f g h es fs gs o p q xs ys m first more = record {
   once = more.once;
   counted = more.counted;
+  no_more = λ n. (let one = first.no_more n in let other = more.no_more n in omega (arith, one, other));
   owned = λ owned. more.owned (first.owned owned);
   same = same_on (all_kept f es) (all_kept g fs) (all_kept h gs) m first.same more.same;
   fewer = λ d t at. first.fewer d t (more.fewer d t at);
@@ -47,14 +48,15 @@ sheds_on f g h es fs gs o p q xs ys m first more = record {
       grind (arith, both, one, other, less, listed, at));
 }
 
-pub sheds_one : (families families' : List (Option Shared)) (es es' : List (List ℕ × Record)) (owners owners' : List ((ℕ × ℕ) × ℕ)) (e : Deadline) (r : Record) (m : ℕ) → IsDistinct bytes_eq (keys_of es) →
-    IsCounted families es [] → HasTaken es es' e.digest r → is_live_at m r ≡ false → HasLeft families families' r.family → (IsOwned families owners → IsOwned families' owners') →
+pub sheds_one : (families families' : List (ℕ × Shared)) (es es' : List (List ℕ × Record)) (owners owners' : List ((ℕ × ℕ) × ℕ)) (e : Deadline) (r : Record) (m : ℕ) → IsDistinct bytes_eq (keys_of es) →
+    IsCounted families es → HasTaken es es' e.digest r → is_live_at m r ≡ false → HasLeft families families' r.family → (IsOwned families owners → IsOwned families' owners') →
     Sheds families es owners families' es' owners' (e ∷ []) m
 sheds_one families families' es es' owners owners' e r m once counted has late left owned =
     let counted' = counted_without families families' es es' e.digest r counted has.found has.moved left in
     record {
       once = has.once;
       counted = counted';
+      no_more = fewer_members es es' e.digest r has.found has.moved;
       owned = owned;
       same = dropped_one families families' es es' e.digest r m once has.once counted' has.found (grind (arith, nat_tests, late)) has.moved has.taken left;
       fewer = λ d t at. (let less = has.taken d in grind (arith, less));

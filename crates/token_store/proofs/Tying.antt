@@ -1,19 +1,22 @@
 -- What ties the tables, through a change of them.
 use Rattle.std.proofs.Common.{◌≡◌, ◌≢◌, ◌≤◌, ℕ, List, Option, Some, None, Bool, true, false, cond, arith}
-use Rattle.token_store.proofs.Names.{slice_index_or, list_any, is_gt, is_at, IsFromStart, Shared, or_nothing, owner_cmp, IsOwned, IsAfter, start_of, nat_tests}
+use Rattle.token_store.proofs.Names.{family_numbered, list_any, is_gt, is_at, IsFromStart, Shared, or_nothing, owner_cmp, IsOwned, IsAfter, start_of, nat_tests}
 
 -- ORDERS
 
 pub owner_at : (k q : (ℕ × ℕ) × ℕ) → is_at (owner_cmp k) q ≡ true → (k.0.0 ≡ q.0.0) × ((k.0.1 ≡ q.0.1) × (k.1 ≡ q.1))
 owner_at k q h = grind (arith, nat_tests)
 
+pub owner_here : (k q : (ℕ × ℕ) × ℕ) → k.0.0 ≡ q.0.0 → k.0.1 ≡ q.0.1 → k.1 ≡ q.1 → is_at (owner_cmp k) q ≡ true
+owner_here k q owner client number = grind (arith, nat_tests, owner, client, number)
+
 -- THE OWNERS' INDEX
 
 -- without a family, and without its place in the index
-pub owned_without : (families families' : List (Option Shared)) (owners owners' : List ((ℕ × ℕ) × ℕ)) (n : ℕ) (s : Shared) →
-    or_nothing (slice_index_or families n None) ≡ s → IsOwned families owners →
+pub owned_without : (families families' : List (ℕ × Shared)) (owners owners' : List ((ℕ × ℕ) × ℕ)) (n : ℕ) (s : Shared) →
+    or_nothing (family_numbered families n) ≡ s → IsOwned families owners →
     ((q : (ℕ × ℕ) × ℕ) → list_any (is_at (owner_cmp q)) owners' ≡ cond (is_at (owner_cmp ((s.owner, s.client), n)) q) false (list_any (is_at (owner_cmp q)) owners)) →
-    slice_index_or families' n None ≡ None → ((k : ℕ) → k ≢ n → slice_index_or families' k None ≡ slice_index_or families k None) →
+    family_numbered families' n ≡ None → ((k : ℕ) → k ≢ n → family_numbered families' k ≡ family_numbered families k) →
     IsOwned families' owners'
 owned_without families families' owners owners' n s is_s owned removed gone others = λ q.
     let at = owner_at ((s.owner, s.client), n) q in

@@ -1,17 +1,17 @@
 -- Beside Fits: only the contracts of this crate's own parts and their proofs cite this, no public clause.
-use Rattle.std.specs.Prelude.{◌+◌, ℕ, List, Bool, Option, IfSome, if◌then◌else◌, ◌==◌, nat_le, is_some, length}
+use Rattle.std.specs.Prelude.{◌+◌, ℕ, List, Bool, Option, nat_le, is_some, length}
 use Rattle.consent.specs.Limits.{record_limit}
 use Rattle.consent.specs.History.{Event, are_taken, with_change, CanFollow}
 use Rattle.consent.specs.Changes.{change_of}
 use Rattle.consent.specs.declared.change.Change.{Change}
 use Rattle.token_store.specs.declared.fault.StoreFault.{StoreFault}
-use Rattle.token_store.specs.Kept.{Kept, kept_at, kept_unexpired}
-use Rattle.token_store.specs.Fits.{FitsHistory, refusal_by}
+use Rattle.token_store.specs.Kept.{Kept, Held, kept_at, kept_unexpired}
+use Rattle.token_store.specs.Fits.{FitsStore, refusal_by}
 
--- what fitted a history fits it with the change, where it means something and may follow
-abbrev pub MakesChange : (old new : List Kept) → ℕ → Change → Type 0
-MakesChange old new moment change = (history : List Event) → FitsHistory old history moment →
-    IfSome (change_of history moment change) (λ next. CanFollow history moment next → FitsHistory new (with_change history moment next) moment)
+-- what fitted a history fits it with the change, where it may follow
+abbrev pub MakesChange : (old new : Held) → ℕ → Change → Type 0
+MakesChange old new moment change = (history : List Event) → FitsStore old history moment → CanFollow history moment (change_of change) →
+    FitsStore new (with_change history moment (change_of change)) moment
 
 -- there is room for so many more
 abbrev pub has_kept_room : List Kept → ℕ → ℕ → Bool
@@ -24,7 +24,3 @@ are_kept kept moment digests = are_taken (λ digest. is_some (kept_at kept diges
 -- why codes or tokens of these digests are refused at the moment, by what is kept
 abbrev pub kept_refusal : List Kept → ℕ → List (List ℕ) → Option StoreFault
 kept_refusal kept moment digests = refusal_by (has_kept_room kept moment (length digests)) (are_kept kept moment digests)
-
--- the numbers of the families, with that of one more
-abbrev pub with_family_number : (ℕ → ℕ) → ℕ → ℕ → ℕ → ℕ
-with_family_number number place n family = if family == place then n else number family

@@ -1,18 +1,16 @@
 -- What is seen of what the store finds.
-use Rattle.std.specs.Prelude.{ℕ, List, Option, option_map, unwrap_or}
-use Rattle.std.specs.Option.{option_and_then}
-use Rattle.consent.specs.History.{Event, Grant, code_terms, grant_at}
+use Rattle.std.specs.Prelude.{ℕ, List, Bool, Option, find, option_map}
+use Rattle.consent.specs.History.{Event, Grant, code_terms, grants, has_ended, is_live_in}
+use Rattle.consent.specs.Owners.{owner_number}
 use Rattle.consent.specs.Seen.{Seen, seen_as}
+use Rattle.token_store.specs.declared.found.Family.{Family}
 use Rattle.token_store.specs.declared.found.Found.{Found}
 use Rattle.token_store.specs.Kept.{Kept}
-
--- the number of an owner: 0 is none
-abbrev pub owner_number : Option ℕ → ℕ
-owner_number owner = unwrap_or owner 0
 
 abbrev pub found_seen : Found → Seen
 found_seen found = record {
   kind = found.kind;
+  family = found.family;
   client = found.client;
   owner = owner_number found.owner;
   scope = found.scope;
@@ -32,6 +30,20 @@ kept_seen k = seen_as k.spent k.ended k.grant
 abbrev pub code_scope_of : List Event → Grant → Option ℕ
 code_scope_of history g = option_map (λ terms. terms.scope) (code_terms history g.family)
 
--- so it is of what the digest names at the moment
-abbrev pub code_scope_at : List Event → List ℕ → ℕ → Option ℕ
-code_scope_at history digest moment = option_and_then (code_scope_of history) (grant_at history digest moment)
+-- what is seen of a family: whose it is, the scope of its code, if there is one, and whether it has ended
+pub record SeenFamily : Type 0 where
+  pub client : ℕ
+  pub owner : ℕ
+  pub code_scope : Option ℕ
+  pub ended : Bool
+
+abbrev pub family_seen : Family → SeenFamily
+family_seen family = record { client = family.client; owner = owner_number family.owner; code_scope = family.code_scope; ended = family.ended }
+
+-- that of a code or token
+abbrev pub family_of_grant : List Event → Grant → SeenFamily
+family_of_grant history g = record { client = g.client; owner = g.owner; code_scope = code_scope_of history g; ended = has_ended history g.family }
+
+-- the family that lives at the moment
+abbrev pub family_at : List Event → ℕ → ℕ → Option SeenFamily
+family_at history moment family = option_map (family_of_grant history) (find (is_live_in family moment) (grants history))

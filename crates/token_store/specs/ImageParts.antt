@@ -1,15 +1,13 @@
 -- Beside Image: only the contracts of this crate's own parts and their proofs cite this, no public clause.
-use Rattle.std.specs.Prelude.{◌≡◌, ◌⊎◌, ℕ, List, true, Some, map, is_some}
+use Rattle.std.specs.Prelude.{◌≡◌, ◌⊎◌, ℕ, List, true, is_some}
 use Rattle.std.specs.Str.{bytes_eq}
 use Rattle.std.specs.Map.{lookup}
 use Rattle.consent.specs.History.{is_named}
 use Rattle.consent.specs.declared.kept_record.KeptRecord.{KeptRecord}
 use Rattle.token_store.specs.declared.record.Record.{Record}
 use Rattle.token_store.specs.declared.record.Shared.{Shared}
-use Rattle.token_store.specs.Kept.{Kept, kept_at}
 use Rattle.token_store.specs.Image.{is_unexpired_record, kept_record}
 use Rattle.token_store.specs.Records.{kept_under}
-use Rattle.token_store.specs.RecordsParts.{TellsSame}
 
 -- the family shares what the record says
 pub record AgreesWithRecord (s : Shared) (r : KeptRecord) : Type 0 where
@@ -18,16 +16,9 @@ pub record AgreesWithRecord (s : Shared) (r : KeptRecord) : Type 0 where
   pub code_scope : s.code_scope ≡ r.code_scope
   pub ended : s.ended ≡ r.ended
 
--- the same in the family with the number
-abbrev pub renumbered_to : ℕ → Kept → Kept
-renumbered_to n k = record k { grant = record k.grant { family = n } }
-
-abbrev pub renumbered : (ℕ → ℕ) → Kept → Kept
-renumbered renumber k = renumbered_to (renumber k.grant.family) k
-
--- the record is what was kept, in the family with the number
-abbrev pub IsRecordOf : KeptRecord → ℕ → Record → Type 0
-IsRecordOf kept n r = (s : Shared) → AgreesWithRecord s kept → kept_under s kept.digest r ≡ renumbered_to n (kept_record kept)
+-- the record is what was kept
+abbrev pub IsRecordOf : KeptRecord → Record → Type 0
+IsRecordOf kept r = (s : Shared) → AgreesWithRecord s kept → kept_under s kept.digest r ≡ kept_record kept
 
 -- what is found was found before, or is the record, which is unexpired
 abbrev pub FindsAtMost : (old new : List (List ℕ × Record)) → ℕ → KeptRecord → Type 0
@@ -37,9 +28,3 @@ FindsAtMost old new moment kept = (digest : List ℕ) → is_some (lookup (bytes
 -- the record is unexpired, and something has its digest
 abbrev pub IsSecond : List (List ℕ × Record) → ℕ → KeptRecord → Type 0
 IsSecond records moment r = (is_unexpired_record moment r ≡ true) × (is_some (lookup (bytes_eq r.digest) records) ≡ true)
-
--- What is unexpired in the image is kept, its families under numbers of the store's own.
-pub record IsRestored (image kept : List Kept) (moment : ℕ) (renumber : ℕ → ℕ) : Type 0 where
-  pub tells : TellsSame (map (renumbered renumber) image) kept moment
-  pub apart : (d e : List ℕ) (j k : Kept) → kept_at image d moment ≡ Some j → kept_at image e moment ≡ Some k →
-      renumber j.grant.family ≡ renumber k.grant.family → j.grant.family ≡ k.grant.family

@@ -1,5 +1,5 @@
 -- The store's tables, and what is seen of them.
-use Rattle.std.specs.Prelude.{◌≡◌, ◌+◌, ℕ, List, Bool, true, false, ◌==◌, ◌&&◌, Option, Some, None, is_some, unwrap_or, option_map, map, count_by, string_bytes, slice_index_or}
+use Rattle.std.specs.Prelude.{◌≡◌, ◌+◌, ℕ, List, Bool, true, false, ◌==◌, ◌&&◌, Option, Some, None, is_some, unwrap_or, option_map, map, count_by, string_bytes, nat_eq, ◌<◌}
 use Rattle.std.specs.List.{list_any, IsDistinct}
 use Rattle.std.specs.declared.boxed.Box.{Box}
 use Rattle.std.specs.declared.alloc.Global.{Global}
@@ -10,6 +10,8 @@ use Rattle.std.specs.BTreeMap.{is_at}
 use Rattle.std.specs.Map.{lookup, keys_of, values_of}
 use Rattle.consent.specs.RecordFacts as fact
 use Rattle.consent.specs.RecordFacts.{KindFact}
+use Rattle.consent.specs.Owners.{owner_number}
+use Rattle.consent.specs.declared.change.Home.{Home}
 use Rattle.token_store.specs.declared.agenda.Agenda.{Agenda}
 use Rattle.token_store.specs.declared.agenda.Deadline.{Deadline}
 use Rattle.token_store.specs.declared.record.CodeTexts.{CodeTexts}
@@ -60,24 +62,24 @@ abbrev pub or_nothing : Option Shared → Shared
 or_nothing s = unwrap_or s nothing_shared
 
 -- the family with the number
-abbrev pub family_numbered : List (Option Shared) → ℕ → Option Shared
-family_numbered families n = slice_index_or families n None
+abbrev pub family_numbered : List (ℕ × Shared) → ℕ → Option Shared
+family_numbered families n = lookup (nat_eq n) families
 
 -- what the family with the number shares
-abbrev pub shared_at : List (Option Shared) → ℕ → Shared
+abbrev pub shared_at : List (ℕ × Shared) → ℕ → Shared
 shared_at families n = or_nothing (family_numbered families n)
 
 -- THE VIEW
 
-abbrev pub kept_in : List (Option Shared) → List ℕ × Record → Kept
+abbrev pub kept_in : List (ℕ × Shared) → List ℕ × Record → Kept
 kept_in families e = kept_under (shared_at families e.1.family) e.0 e.1
 
-abbrev pub all_kept : List (Option Shared) → List (List ℕ × Record) → List Kept
+abbrev pub all_kept : List (ℕ × Shared) → List (List ℕ × Record) → List Kept
 all_kept families records = map (kept_in families) records
 
 -- all records, each with what its family shares
 abbrev pub kept_of : Tables → List Kept
-kept_of t = all_kept t.families.slots t.records.entries
+kept_of t = all_kept t.families.entries t.records.entries
 
 -- THE TIES
 
@@ -111,25 +113,30 @@ abbrev pub has_owner : List ((ℕ × ℕ) × ℕ) → (ℕ × ℕ) × ℕ → Bo
 has_owner owners q = list_any (is_at (owner_cmp q)) owners
 
 -- the families of each owner and client are those whose code is theirs
-abbrev pub IsOwned : List (Option Shared) → List ((ℕ × ℕ) × ℕ) → Type 0
+abbrev pub IsOwned : List (ℕ × Shared) → List ((ℕ × ℕ) × ℕ) → Type 0
 IsOwned families owners = (q : (ℕ × ℕ) × ℕ) → has_owner owners q ≡ is_coded q.0.0 q.0.1 (family_numbered families q.1)
 
--- each family's count is that of its records, with those that are about to come: `awaited` has their families
-abbrev pub IsCounted : List (Option Shared) → List (List ℕ × Record) → List ℕ → Type 0
-IsCounted families records awaited = (n : ℕ) → (shared_at families n).count ≡ member_count records n + count_by (λ k. k == n) awaited
+-- each family's count is that of its records
+abbrev pub IsCounted : List (ℕ × Shared) → List (List ℕ × Record) → Type 0
+IsCounted families records = (n : ℕ) → (shared_at families n).count ≡ member_count records n
 
--- The tables tell of the same records and families.
-pub record Tied (families : List (Option Shared)) (records : List (List ℕ × Record)) (agenda : Agenda) (owners : List ((ℕ × ℕ) × ℕ))
-    (awaited : List ℕ) : Type 0 where
+-- no record is of a family of a greater number
+abbrev pub IsBelow : List (List ℕ × Record) → ℕ → Type 0
+IsBelow records last = (n : ℕ) → last < n → member_count records n ≡ 0
+
+-- The tables tell of the same records and families, and of no family of a greater number than the last.
+pub record Tied (families : List (ℕ × Shared)) (records : List (List ℕ × Record)) (agenda : Agenda) (owners : List ((ℕ × ℕ) × ℕ))
+    (last : ℕ) : Type 0 where
   -- each digest is there once
   pub once : IsDistinct bytes_eq (keys_of records)
   pub listed : AllListed (deadlines_of agenda) records
   pub exact : IsExact agenda
-  pub counted : IsCounted families records awaited
+  pub counted : IsCounted families records
   pub owned : IsOwned families owners
+  pub below : IsBelow records last
 
-abbrev pub IsTied : Tables → List ℕ → Type 0
-IsTied t awaited = Tied t.families.slots t.records.entries t.agenda t.owners.keys awaited
+abbrev pub IsTied : Tables → Type 0
+IsTied t = Tied t.families.entries t.records.entries t.agenda t.owners.keys t.last
 
 -- NEW RECORDS
 
@@ -137,9 +144,9 @@ IsTied t awaited = Tied t.families.slots t.records.entries t.agenda t.owners.key
 abbrev pub texts_given : CodeFacts → KindFact
 texts_given facts = fact.Code facts.owner facts.redirect.now facts.challenge.now
 
--- what a new family of the client's own shares
-abbrev pub own_shared : ℕ → ℕ → Shared
-own_shared client count = record { client = client; owner = 0; code_scope = None; ended = false; count = count }
+-- what a new family without a code shares
+abbrev pub home_shared : Home → ℕ → Shared
+home_shared home count = record { client = home.client; owner = owner_number home.owner; code_scope = None; ended = false; count = count }
 
 -- what a new code's family shares, with so many records
 abbrev pub code_shared : CodeFacts → ℕ → Shared

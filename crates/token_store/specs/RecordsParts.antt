@@ -1,5 +1,5 @@
 -- Beside Records: only the contracts of this crate's own parts and their proofs cite this, no public clause.
-use Rattle.std.specs.Prelude.{◌≡◌, ◌≢◌, ◌+◌, ◌-◌, ◌<◌, ◌≤◌, ℕ, List, [], ◌∷◌, ◌++◌, Bool, true, false, not, nat_lt, nat_le, ◌==◌, if◌then◌else◌, Option, Some, None, option_map}
+use Rattle.std.specs.Prelude.{◌≡◌, ◌≢◌, ◌+◌, ◌-◌, ◌<◌, ◌≤◌, ℕ, List, [], ◌∷◌, ◌++◌, Bool, true, false, not, nat_lt, nat_le, ◌==◌, ◌&&◌, if◌then◌else◌, Option, Some, None, option_map}
 use Rattle.std.specs.List.{list_any, IsDistinct}
 use Rattle.std.specs.Str.{bytes_eq}
 use Rattle.std.specs.declared.ops.Bound.{Bound}
@@ -18,21 +18,30 @@ use Rattle.token_store.specs.declared.tables.Tables.{Tables}
 use Rattle.consent.specs.declared.change.CodeFacts.{CodeFacts}
 use Rattle.consent.specs.declared.change.NewToken.{NewToken}
 use Rattle.token_store.specs.Agenda.{is_deadline}
+use Rattle.token_store.specs.Found.{SeenFamily}
 use Rattle.token_store.specs.Kept.{Kept, kept_at, kept_unexpired}
 use Rattle.token_store.specs.Image.{terms_by, kept_told}
-use Rattle.token_store.specs.Records.{kept_under, kept_in, family_numbered, shared_at, kept_of, all_kept, expiry_of, owner_cmp, has_owner, code_shared, texts_given, IsCounted, IsOwned}
+use Rattle.token_store.specs.Records.{kept_under, kept_in, family_numbered, shared_at, kept_of, all_kept, expiry_of, owner_cmp, has_owner, code_shared, texts_given, member_count, IsCounted, IsOwned}
 use Rattle.std.specs.Option.{option_and_then}
 
 abbrev pub is_live_at : ℕ → Record → Bool
 is_live_at moment r = nat_lt moment (r.moment + r.life)
 
+-- and of the family
+abbrev pub is_member_at : ℕ → ℕ → Record → Bool
+is_member_at family moment r = (r.family == family) && is_live_at moment r
+
+-- what is seen of a family
+abbrev pub shared_seen : Shared → SeenFamily
+shared_seen s = record { client = s.client; owner = s.owner; code_scope = s.code_scope; ended = s.ended }
+
 -- what is found under the digest, as it is seen
 abbrev pub kept_found : Tables → List ℕ → Option Record → Option Kept
-kept_found t digest found = option_map (λ r. kept_in t.families.slots (digest, r)) found
+kept_found t digest found = option_map (λ r. kept_in t.families.entries (digest, r)) found
 
 -- what is kept, with the record under the digest
 abbrev pub kept_with : Tables → List ℕ → Record → List Kept
-kept_with t digest r = kept_of t ++ kept_under (shared_at t.families.slots r.family) digest r ∷ []
+kept_with t digest r = kept_of t ++ kept_under (shared_at t.families.entries r.family) digest r ∷ []
 
 -- From the moment on both are seen alike, though some that have expired may be gone.
 pub record TellsSame (kept kept' : List Kept) (moment : ℕ) : Type 0 where
@@ -69,21 +78,22 @@ AllGone deadlines records moment = (digest : List ℕ) (t : ℕ) → list_any (i
     expiry_of (lookup (bytes_eq digest) records) ≡ Some t → moment < t
 
 -- Some records are gone that had expired, and their families with the last of them; none that is left has one of these deadlines and has expired.
-pub record Sheds (families : List (Option Shared)) (records : List (List ℕ × Record)) (owners : List ((ℕ × ℕ) × ℕ)) (families' : List (Option Shared))
+pub record Sheds (families : List (ℕ × Shared)) (records : List (List ℕ × Record)) (owners : List ((ℕ × ℕ) × ℕ)) (families' : List (ℕ × Shared))
     (records' : List (List ℕ × Record)) (owners' : List ((ℕ × ℕ) × ℕ)) (deadlines : List Deadline) (moment : ℕ) : Type 0 where
   pub once : IsDistinct bytes_eq (keys_of records')
-  pub counted : IsCounted families' records' []
+  pub counted : IsCounted families' records'
+  pub no_more : (n : ℕ) → member_count records' n ≤ member_count records n
   pub owned : IsOwned families owners → IsOwned families' owners'
   pub same : TellsSame (all_kept families records) (all_kept families' records') moment
   pub fewer : (digest : List ℕ) (t : ℕ) → expiry_of (lookup (bytes_eq digest) records') ≡ Some t → expiry_of (lookup (bytes_eq digest) records) ≡ Some t
   pub gone : AllGone deadlines records' moment
 
 -- each but the family with the number is as it was
-abbrev pub OthersStay : (old new : List (Option Shared)) → ℕ → Type 0
+abbrev pub OthersStay : (old new : List (ℕ × Shared)) → ℕ → Type 0
 OthersStay old new n = (k : ℕ) → k ≢ n → family_numbered new k ≡ family_numbered old k
 
 -- so many records more are of the family
-pub record HasEntered (old new : List (Option Shared)) (n more : ℕ) : Type 0 where
+pub record HasEntered (old new : List (ℕ × Shared)) (n more : ℕ) : Type 0 where
   pub here : family_numbered new n ≡ option_map (λ (s : Shared). record s { count = s.count + more }) (family_numbered old n)
   pub others : OthersStay old new n
 
@@ -92,23 +102,17 @@ abbrev pub left_by : Shared → Option Shared
 left_by s = if nat_le s.count 1 then None else Some (record s { count = s.count - 1 })
 
 -- one record fewer is of the family
-pub record HasLeft (old new : List (Option Shared)) (n : ℕ) : Type 0 where
+pub record HasLeft (old new : List (ℕ × Shared)) (n : ℕ) : Type 0 where
   pub here : family_numbered new n ≡ option_and_then left_by (family_numbered old n)
   pub others : OthersStay old new n
 
--- a family that was not there is there
-pub record HasOpened (old new : List (Option Shared)) (n : ℕ) (s : Shared) : Type 0 where
-  pub vacant : family_numbered old n ≡ None
-  pub here : family_numbered new n ≡ Some s
-  pub others : OthersStay old new n
-
 -- a family is not there any more
-pub record HasClosed (old new : List (Option Shared)) (n : ℕ) : Type 0 where
+pub record HasClosed (old new : List (ℕ × Shared)) (n : ℕ) : Type 0 where
   pub here : family_numbered new n ≡ None
   pub others : OthersStay old new n
 
 -- each of the family looks as it did
-abbrev pub SharesSame : List (Option Shared) → List (Option Shared) → ℕ → Type 0
+abbrev pub SharesSame : List (ℕ × Shared) → List (ℕ × Shared) → ℕ → Type 0
 SharesSame old new n = (digest : List ℕ) (r : Record) → kept_under (shared_at new n) digest r ≡ kept_under (shared_at old n) digest r
 
 -- a change of records, and which it is meant for
@@ -125,7 +129,7 @@ changed (RecordChange.Lowered owner client mask) k =
     if is_beyond (Consented owner client mask) k.terms then record k { ended = true } else k
 
 -- the family has ended, if it is there
-pub record HasEnded (old new : List (Option Shared)) (n : ℕ) : Type 0 where
+pub record HasEnded (old new : List (ℕ × Shared)) (n : ℕ) : Type 0 where
   pub here : family_numbered new n ≡ option_map (λ (s : Shared). record s { ended = true }) (family_numbered old n)
   pub others : OthersStay old new n
 
@@ -147,7 +151,7 @@ abbrev pub lowered_shared : ℕ → ℕ → ℕ → Shared → Shared
 lowered_shared owner client mask s =
     if is_beyond (Consented owner client mask) (option_map (terms_by s.client s.owner) s.code_scope) then record s { ended = true } else s
 
-abbrev pub HasLowered : List (Option Shared) → List (Option Shared) → ℕ → ℕ → ℕ → Type 0
+abbrev pub HasLowered : List (ℕ × Shared) → List (ℕ × Shared) → ℕ → ℕ → ℕ → Type 0
 HasLowered old new owner client mask =
     (k : ℕ) → family_numbered new k ≡ option_map (lowered_shared owner client mask) (family_numbered old k)
 
@@ -173,15 +177,7 @@ IsNextOwned owners owner client after (Some n) =
     IsAfter after n × (has_owner owners ((owner, client), n) ≡ true)
     × ((k : ℕ) → IsAfter after k → k < n → has_owner owners ((owner, client), k) ≡ false)
 
--- no unexpired record has the number
-abbrev pub IsUnused : List Kept → ℕ → ℕ → Type 0
-IsUnused kept moment n = (digest : List ℕ) (k : Kept) → kept_at kept digest moment ≡ Some k → k.grant.family ≢ n
-
--- the number of an owner: 0 is none
-abbrev pub owner_no : ℕ → Option ℕ
-owner_no number = if number == 0 then None else Some number
-
--- what is kept of a new code
+-- what is kept of a new code, in the family with the number
 abbrev pub code_kept : ℕ → List ℕ → CodeFacts → ℕ → Kept
 code_kept family digest facts moment = kept_told (record {
   digest = digest;

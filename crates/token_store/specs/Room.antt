@@ -1,21 +1,20 @@
 -- What room a store has for changes.
-use Rattle.std.specs.Prelude.{◌≡◌, ◌+◌, ◌≤◌, ℕ, List, [], ◌∷◌, true, Option, Some, None, is_some, min, option_map}
+use Rattle.std.specs.Prelude.{◌≡◌, ◌⊎◌, ◌+◌, ◌<◌, ◌≤◌, ℕ, List, [], ◌∷◌, true, Option, Some, None, is_some, min, option_map}
 use Rattle.std.specs.HashMap.{spare}
 use Rattle.consent.specs.declared.change.Change.{Change}
-use Rattle.consent.specs.declared.change.Change.TheVariants.{CodeGiven, IssuedAlone, Issued}
+use Rattle.consent.specs.declared.change.Change.TheVariants.{CodeGiven, Issued}
 use Rattle.token_store.specs.declared.record.Shared.{Shared}
 use Rattle.token_store.specs.declared.tables.Coming.{Coming}
 use Rattle.token_store.specs.declared.tables.Tables.{Tables}
 use Rattle.token_store.specs.Agenda.{agenda_room}
 use Rattle.consent.specs.RecordFacts.{KindFact}
 use Rattle.token_store.specs.Kept.{Room, Held}
-use Rattle.token_store.specs.Records.{family_numbered, shared_at, is_coded, code_shared, own_shared, texts_seen, texts_given}
+use Rattle.token_store.specs.Records.{kept_of, family_numbered, shared_at, is_coded, code_shared, home_shared, texts_seen, texts_given}
 
 -- how many codes and tokens the change gives
 abbrev pub records_by : Change → ℕ
-records_by (CodeGiven facts digest) = 1
-records_by (IssuedAlone client token) = 1
-records_by (Issued of token) = 1
+records_by (CodeGiven family facts digest) = 1
+records_by (Issued home token) = 1
 records_by _ = 0
 
 abbrev pub records_of : List Change → ℕ
@@ -27,22 +26,28 @@ abbrev pub HasSpare : Room → ℕ → Type 0
 HasSpare room n = n ≤ room.records
 
 -- the family is there without records, and is of whom the one that comes is
-pub record Waits (families : List (Option Shared)) (n : ℕ) (s : Shared) : Type 0 where
+pub record Waits (families : List (ℕ × Shared)) (n : ℕ) (s : Shared) : Type 0 where
   pub there : is_some (family_numbered families n) ≡ true
   pub empty : (shared_at families n).count ≡ 0
   pub alike : (owner client : ℕ) → is_coded owner client (family_numbered families n) ≡ is_coded owner client (Some s)
 
--- such a one is expected, in a family of its own
-pub record IsExpected (room : Room) (s : Shared) (texts : Option KindFact) : Type 0 where
+-- such a one is expected, in the family, which has no records
+pub record IsExpected (room : Room) (family : ℕ) (s : Shared) (texts : Option KindFact) : Type 0 where
   pub coming : Coming
   pub is : room.coming ≡ Some coming
+  pub number_is : coming.number ≡ family
   pub texts_are : option_map texts_seen coming.texts ≡ texts
-  pub waits : Waits room.families coming.number s
+  pub waits : Waits room.families family s
 
--- the first of the changes has its family, where it opens one
+-- nothing is expected, and the family has records
+pub record IsPeopled (room : Room) (family : ℕ) : Type 0 where
+  pub is : room.coming ≡ None
+  pub some : 0 < (shared_at room.families family).count
+
+-- the first of the changes has its family, where it gives a code or token
 abbrev pub IsReady : Room → List Change → Type 0
-IsReady room (CodeGiven facts digest ∷ cs) = IsExpected room (code_shared facts 0) (Some (texts_given facts))
-IsReady room (IssuedAlone client token ∷ cs) = IsExpected room (own_shared client 0) None
+IsReady room (CodeGiven family facts digest ∷ cs) = IsExpected room family (code_shared facts 0) (Some (texts_given facts)) ⊎ IsPeopled room family
+IsReady room (Issued home token ∷ cs) = IsExpected room home.family (home_shared home 0) None ⊎ IsPeopled room home.family
 IsReady room _ = Unit {0}
 
 -- there is room for the changes
@@ -58,6 +63,10 @@ HasRoom store changes = HasRoomFor store.room changes
 abbrev pub room_of : Tables → Room
 room_of t = record {
   records = min (spare t.records) (agenda_room t.agenda);
-  families = t.families.slots;
+  families = t.families.entries;
   coming = t.coming;
 }
+
+-- the tables as they are seen
+abbrev pub held_of : Tables → Held
+held_of t = record { kept = kept_of t; last = t.last; room = room_of t }

@@ -1,5 +1,5 @@
 //! When which records expire.
-ghost use Rattle.std.specs.Prelude.{◌≡◌, ◌+◌, ◌≤◌, [], ◌∷◌, ◌++◌, true, filter, max, nat_lt, OnOk, length};
+ghost use Rattle.std.specs.Prelude.{◌≡◌, ◌+◌, ◌≤◌, [], ◌∷◌, ◌++◌, true, filter, max, OnOk, length};
 ghost use Rattle.std.specs.List.{AllByRecursion, list_all};
 ghost use Rattle.token_store.specs.Agenda.{least, IsBounded, deadlines_in, deadlines_of, IsExact, agenda_room};
 ghost use Rattle.token_store.specs.AgendaParts.{is_ahead, is_filled, page_room, HasCome};
@@ -79,15 +79,6 @@ impl Agenda {
                 deadlines: Vec::new(alloc),
             },
         }
-    }
-
-    /// Whether the moment comes before all deadlines.
-    #[inline]
-    pub(crate) fn is_ahead(&self, moment: Moment) -> bool
-        requires { IsExact self.now }
-        ensures { result ≡ nat_lt moment (least (deadlines_of self.now)) }
-    {
-        moment.get() < self.earliest
     }
 
     /// Notes a deadline, which there is room for.

@@ -4,93 +4,79 @@ ghost use Rattle.consent.specs.Changes.{as_list};
 ghost use Rattle.consent.specs.declared.change.Change.{Change};
 ghost use Rattle.token_store.specs.Fits.{MakesChanges};
 ghost use Rattle.token_store.specs.FitsParts.{MakesChange};
-ghost use Rattle.token_store.specs.Records.{IsTied, kept_of};
-ghost use Rattle.token_store.specs.Room.{HasRoomFor, HasSpare, room_of};
+ghost use Rattle.token_store.specs.Records.{IsTied};
+ghost use Rattle.token_store.specs.Room.{HasRoomFor, HasSpare, IsPeopled, IsReady, held_of, room_of};
 
 use crate::record::{Record, Shared};
 use crate::tables::{Coming, Tables, end_one, lower_all, spend_one};
-use consent::{Change, Changes, ClientNo, CodeFacts, Digest, Moment, NewToken};
+use consent::{Change, Changes, CodeFacts, Digest, Home, Moment, NewToken};
 
 impl Tables {
     // Gives a code.
-    fn give_code(&mut self, facts: &CodeFacts<'_>, digest: &Digest, moment: Moment)
-        requires tied { IsTied self.old [] }
-        requires room { HasRoomFor (room_of self.old) (Change.CodeGiven facts.now digest.now ∷ []) }
-        ensures tied { IsTied self.new [] }
-        ensures makes { MakesChange (kept_of self.old) (kept_of self.new) moment (Change.CodeGiven facts.now digest.now) }
+    fn give_code(&mut self, family: u64, facts: &CodeFacts<'_>, digest: &Digest, moment: Moment)
+        requires tied { IsTied self.old }
+        requires room { HasRoomFor (room_of self.old) (Change.CodeGiven family facts.now digest.now ∷ []) }
+        ensures tied { IsTied self.new }
+        ensures makes { MakesChange (held_of self.old) (held_of self.new) moment (Change.CodeGiven family facts.now digest.now) }
     {
-        let Some(
-            Coming {
-                number,
-                texts: Some(texts),
-            },
-        ) = self.coming.take()
-        else {
-            unreachable!()
+        // Only a family that has records is not waited for: nothing opens that again.
+        let Some(Coming { texts, .. }) = self.coming.take() else {
+            return;
         };
-        let record = Record::of_code(texts, facts, moment, number);
+        let Some(texts) = texts else { unreachable!() };
+        self.pass(family);
+        let record = Record::of_code(texts, facts, moment, family);
         self.put_expected(Shared::of_code(facts), digest, record);
     }
 
-    // Issues a token in a new family of the client's own.
-    fn issue_alone(&mut self, client: ClientNo, token: &NewToken, moment: Moment)
-        requires tied { IsTied self.old [] }
-        requires room { HasRoomFor (room_of self.old) (Change.IssuedAlone client token.now ∷ []) }
-        ensures tied { IsTied self.new [] }
-        ensures makes { MakesChange (kept_of self.old) (kept_of self.new) moment (Change.IssuedAlone client token.now) }
-    {
-        let Some(coming) = self.coming.take() else {
-            unreachable!()
-        };
-        let record = Record::of_token(token, moment, coming.number);
-        self.put_expected(Shared::of_client(client), &token.digest, record);
-    }
-
-    // Issues a token in the family of what has the digest.
-    fn issue_with(&mut self, of: &Digest, token: &NewToken, moment: Moment)
-        requires tied { IsTied self.old [] }
+    // Issues a token in a family that waits for it, or that has records.
+    fn issue(&mut self, home: &Home, token: &NewToken, moment: Moment)
+        requires tied { IsTied self.old }
         requires room { HasSpare (room_of self.old) 1 }
-        ensures tied { IsTied self.new [] }
-        ensures makes { MakesChange (kept_of self.old) (kept_of self.new) moment (Change.Issued of.now token.now) }
+        requires ready { IsReady (room_of self.old) (Change.Issued home.now token.now ∷ []) }
+        ensures tied { IsTied self.new }
+        ensures makes { MakesChange (held_of self.old) (held_of self.new) moment (Change.Issued home.now token.now) }
         ensures room { (room_of self.old).records ≤ (room_of self.new).records + 1 }
+        ensures peopled { IsPeopled (room_of self.new) home.now.family }
     {
-        let Some(record) = self.record_at(of, moment) else {
-            return;
-        };
-        let number = record.family;
-        self.put(&token.digest, Record::of_token(token, moment, number));
+        self.pass(home.family);
+        let record = Record::of_token(token, moment, home.family);
+        if self.coming.is_some() {
+            self.coming = None;
+            self.put_expected(Shared::of_home(home), &token.digest, record);
+        } else {
+            self.put(&token.digest, record);
+        }
     }
 
     // What has the digest is spent.
     fn spend_at(&mut self, digest: &Digest, moment: Moment)
-        requires tied { IsTied self.old [] }
-        ensures tied { IsTied self.new [] }
-        ensures makes { MakesChange (kept_of self.old) (kept_of self.new) moment (Change.Spent digest.now) }
+        requires tied { IsTied self.old }
+        ensures tied { IsTied self.new }
+        ensures makes { MakesChange (held_of self.old) (held_of self.new) moment (Change.Spent digest.now) }
     {
         if self.record_at(digest, moment).is_some() {
             spend_one(&mut self.records, digest);
         }
     }
 
-    // Ends the family of what has the digest.
-    fn end_at(&mut self, of: &Digest, moment: Moment)
-        requires tied { IsTied self.old [] }
-        ensures tied { IsTied self.new [] }
-        ensures makes { MakesChange (kept_of self.old) (kept_of self.new) moment (Change.FamilyEnded of.now) }
+    // Ends the family.
+    fn end(&mut self, family: u64, moment: Moment)
+        requires tied { IsTied self.old }
+        ensures tied { IsTied self.new }
+        ensures makes { MakesChange (held_of self.old) (held_of self.new) moment (Change.FamilyEnded family) }
     {
-        let Some(record) = self.record_at(of, moment) else {
-            return;
-        };
-        let number = record.family;
-        end_one(&mut self.families, number);
+        let _ = moment;
+        self.pass(family);
+        end_one(&mut self.families, family);
     }
 
     // Makes a change.
     fn apply_one(&mut self, change: &Change<'_>, moment: Moment)
-        requires tied { IsTied self.old [] }
+        requires tied { IsTied self.old }
         requires room { HasRoomFor (room_of self.old) (change.now ∷ []) }
-        ensures tied { IsTied self.new [] }
-        ensures makes { MakesChange (kept_of self.old) (kept_of self.new) moment change.now }
+        ensures tied { IsTied self.new }
+        ensures makes { MakesChange (held_of self.old) (held_of self.new) moment change.now }
     {
         match change {
             Change::Consented {
@@ -104,11 +90,14 @@ impl Tables {
                 client.get(),
                 *mask,
             ),
-            Change::CodeGiven { facts, digest } => self.give_code(facts, digest, moment),
-            Change::IssuedAlone { client, token } => self.issue_alone(*client, token, moment),
-            Change::Issued { of, token } => self.issue_with(of, token, moment),
+            Change::CodeGiven {
+                family,
+                facts,
+                digest,
+            } => self.give_code(*family, facts, digest, moment),
+            Change::Issued { home, token } => self.issue(home, token, moment),
             Change::Spent { digest } => self.spend_at(digest, moment),
-            Change::FamilyEnded { of } => self.end_at(of, moment),
+            Change::FamilyEnded { family } => self.end(*family, moment),
             Change::HookSet { .. } => {}
             Change::HookGone { .. } => {}
         }
@@ -116,22 +105,23 @@ impl Tables {
 
     /// Makes the changes, which room was made for.
     pub(crate) fn apply(&mut self, changes: &Changes<'_>, moment: Moment)
-        requires tied { IsTied self.old [] }
+        requires tied { IsTied self.old }
         requires room { HasRoomFor (room_of self.old) (as_list changes.now) }
-        ensures tied { IsTied self.new [] }
-        ensures makes { MakesChanges (kept_of self.old) (kept_of self.new) moment (as_list changes.now) }
+        ensures tied { IsTied self.new }
+        ensures makes { MakesChanges (held_of self.old) (held_of self.new) moment (as_list changes.now) }
     {
         match changes {
             Changes::Nothing => {}
             Changes::One(one) => self.apply_one(one, moment),
             Changes::Used {
                 of,
+                home,
                 access,
                 refresh,
             } => {
-                self.issue_with(of, access, moment);
+                self.issue(home, access, moment);
                 if let Some(refresh) = refresh {
-                    self.issue_with(of, refresh, moment);
+                    self.issue(home, refresh, moment);
                 }
                 self.spend_at(of, moment);
             }

@@ -9,10 +9,9 @@ ghost use Rattle.token_store.specs.Records.{IsCounted, IsTied, kept_of};
 ghost use Rattle.token_store.specs.RecordsParts.{AllLive, HasTaken, IsNoneExpired, Sheds, TellsSame, is_live_at};
 
 use crate::agenda::{Deadline, Page};
-use crate::record::{Record, Shared};
-use crate::tables::{Owners, Tables, leave};
+use crate::record::Record;
+use crate::tables::{Families, Owners, Tables, leave};
 use consent::{Digest, Moment};
-use slab::Slab;
 use std::collections::HashMap;
 use std::collections::hash_map::Entry;
 
@@ -21,8 +20,9 @@ impl Tables {
     #[inline]
     #[tactic(auto, using(crate::proofs::Timing::ahead_least, std::proofs::lemmas::Bool::Decides::nat_tests))]
     pub(crate) fn drop_expired(&mut self, moment: Moment)
-        requires { IsTied self.old [] }
-        ensures tied { IsTied self.new [] }
+        requires { IsTied self.old }
+        ensures tied { IsTied self.new }
+        ensures last { self.new.last ≡ self.old.last }
         ensures same { TellsSame (kept_of self.old) (kept_of self.new) moment }
         ensures live { AllLive self.new.records.entries moment }
         ensures struck { deadlines_of self.new.agenda ≡ filter (is_ahead moment) (deadlines_of self.old.agenda) }
@@ -35,9 +35,10 @@ impl Tables {
     // Lets go of what has expired, where the least deadline has come.
     #[inline(never)]
     fn drop_due(&mut self, moment: Moment)
-        requires tied { IsTied self.old [] }
+        requires tied { IsTied self.old }
         requires due { HasCome (deadlines_of self.old.agenda) moment }
-        ensures tied { IsTied self.new [] }
+        ensures tied { IsTied self.new }
+        ensures last { self.new.last ≡ self.old.last }
         ensures same { TellsSame (kept_of self.old) (kept_of self.new) moment }
         ensures live { AllLive self.new.records.entries moment }
         ensures struck { deadlines_of self.new.agenda ≡ filter (is_ahead moment) (deadlines_of self.old.agenda) }
@@ -63,15 +64,15 @@ impl Tables {
 // Lets go of the record of the deadline, which has come, if the record has expired.
 fn drop_one(
     records: &mut HashMap<Digest, Record>,
-    families: &mut Slab<Shared>,
+    families: &mut Families,
     owners: &mut Owners,
     deadline: &Deadline,
     moment: Moment,
 )
     requires once { IsDistinct bytes_eq (keys_of records.old.entries) }
-    requires counted { IsCounted families.old.slots records.old.entries [] }
+    requires counted { IsCounted families.old.entries records.old.entries }
     requires due { deadline.now.moment ≤ moment }
-    ensures { Sheds families.old.slots records.old.entries owners.old.keys families.new.slots records.new.entries owners.new.keys (deadline.now ∷ []) moment }
+    ensures { Sheds families.old.entries records.old.entries owners.old.keys families.new.entries records.new.entries owners.new.keys (deadline.now ∷ []) moment }
 {
     if let Some(expired) = take_expired(records, &deadline.digest, moment) {
         leave(families, owners, expired.family);
@@ -108,15 +109,15 @@ fn take_expired(
 // Lets go of the records of these deadlines that have expired.
 fn drop_all(
     records: &mut HashMap<Digest, Record>,
-    families: &mut Slab<Shared>,
+    families: &mut Families,
     owners: &mut Owners,
     deadlines: &[Deadline],
     moment: Moment,
 )
     requires once { IsDistinct bytes_eq (keys_of records.old.entries) }
-    requires counted { IsCounted families.old.slots records.old.entries [] }
+    requires counted { IsCounted families.old.entries records.old.entries }
     requires due { HasCome deadlines.now moment }
-    ensures { Sheds families.old.slots records.old.entries owners.old.keys families.new.slots records.new.entries owners.new.keys deadlines.now moment }
+    ensures { Sheds families.old.entries records.old.entries owners.old.keys families.new.entries records.new.entries owners.new.keys deadlines.now moment }
 {
     for deadline in deadlines {
         if deadline.moment <= moment.get() {
@@ -128,15 +129,15 @@ fn drop_all(
 // Lets go of the records of the page that have expired, if one can have.
 fn drop_page(
     records: &mut HashMap<Digest, Record>,
-    families: &mut Slab<Shared>,
+    families: &mut Families,
     owners: &mut Owners,
     page: &Page,
     moment: Moment,
 )
     requires once { IsDistinct bytes_eq (keys_of records.old.entries) }
-    requires counted { IsCounted families.old.slots records.old.entries [] }
+    requires counted { IsCounted families.old.entries records.old.entries }
     requires bounded { IsBounded page.now }
-    ensures { Sheds families.old.slots records.old.entries owners.old.keys families.new.slots records.new.entries owners.new.keys page.now.deadlines.items moment }
+    ensures { Sheds families.old.entries records.old.entries owners.old.keys families.new.entries records.new.entries owners.new.keys page.now.deadlines.items moment }
 {
     if page.earliest <= moment.get() {
         drop_all(records, families, owners, page.deadlines.as_slice(), moment);
@@ -146,15 +147,15 @@ fn drop_page(
 // Lets go of the records of these pages that have expired.
 fn drop_pages(
     records: &mut HashMap<Digest, Record>,
-    families: &mut Slab<Shared>,
+    families: &mut Families,
     owners: &mut Owners,
     pages: &[Page],
     moment: Moment,
 )
     requires once { IsDistinct bytes_eq (keys_of records.old.entries) }
-    requires counted { IsCounted families.old.slots records.old.entries [] }
+    requires counted { IsCounted families.old.entries records.old.entries }
     requires bounded { AllByRecursion IsBounded pages.now }
-    ensures { Sheds families.old.slots records.old.entries owners.old.keys families.new.slots records.new.entries owners.new.keys (deadlines_in pages.now) moment }
+    ensures { Sheds families.old.entries records.old.entries owners.old.keys families.new.entries records.new.entries owners.new.keys (deadlines_in pages.now) moment }
 {
     for page in pages {
         drop_page(records, families, owners, page, moment);

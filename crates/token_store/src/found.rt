@@ -6,6 +6,8 @@ use consent::{ClientNo, Kind, Moment, OwnerNo, ScopeSet};
 #[derive(Clone, Copy)]
 pub struct Found<'a> {
     pub kind: Kind,
+    /// The number of its family.
+    pub family: u64,
     pub client: ClientNo,
     /// `None` where it is the client's own.
     pub owner: Option<OwnerNo>,
@@ -21,5 +23,16 @@ pub struct Found<'a> {
     /// It was used.
     pub spent: bool,
     /// Its family has ended.
+    pub ended: bool,
+}
+
+/// What the codes and tokens of a family share, one of which has not expired.
+#[derive(Clone, Copy)]
+pub struct Family {
+    pub client: ClientNo,
+    /// `None` where it is the client's own.
+    pub owner: Option<OwnerNo>,
+    /// The scope of the family's code, if one opened it.
+    pub code_scope: Option<ScopeSet>,
     pub ended: bool,
 }

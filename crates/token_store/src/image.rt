@@ -39,14 +39,10 @@ pub(crate) fn is_of(kept: &KeptRecord<'_>, shared: &Shared) -> bool
         && kept.ended == shared.ended
 }
 
-// The record in the family with the number.
-pub(crate) fn record_of(
-    alloc: Global,
-    kept: &KeptRecord<'_>,
-    number: usize,
-) -> Result<Record, AllocError>
-    ensures kept { IfOk result (IsRecordOf kept.now number) }
-    ensures family { IfOk result (λ r. r.family ≡ number) }
+// The record.
+pub(crate) fn record_of(alloc: Global, kept: &KeptRecord<'_>) -> Result<Record, AllocError>
+    ensures kept { IfOk result (IsRecordOf kept.now) }
+    ensures family { IfOk result (λ r. r.family ≡ kept.now.family) }
 {
     let given = match kept.kind {
         KeptKind::Code {
@@ -65,7 +61,7 @@ pub(crate) fn record_of(
     };
     Ok(Record {
         given,
-        family: number,
+        family: kept.family,
         scope: kept.scope,
         moment: kept.moment,
         life: kept.life,
@@ -89,7 +85,7 @@ impl Record {
         KeptRecord {
             digest: *digest,
             kind,
-            family: self.family as u64,
+            family: self.family,
             client: shared.client,
             owner: shared.owner,
             scope: self.scope,

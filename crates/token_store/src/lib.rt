@@ -19,7 +19,7 @@ mod store;
 mod tables;
 
 pub use fault::StoreFault;
-pub use found::Found;
+pub use found::{Family, Found};
 pub use laws::facts_say_what_is_kept;
 pub use restoring::RestoreFault;
 pub use store::Store;

@@ -1,12 +1,12 @@
 //! A code or token as the store keeps it, and what those of a family share.
 ghost use Rattle.std.specs.Prelude.{◌≡◌, ◌+◌, ℕ, List, IfOk};
-ghost use Rattle.token_store.specs.Found.{found_seen, kept_seen};
-ghost use Rattle.token_store.specs.Records.{kept_under, code_shared, own_shared, texts_seen, texts_given};
-ghost use Rattle.token_store.specs.RecordsParts.{is_live_at, IsCodeRecord, token_kept, owner_no};
+ghost use Rattle.token_store.specs.Found.{family_seen, found_seen, kept_seen};
+ghost use Rattle.token_store.specs.Records.{kept_under, code_shared, home_shared, texts_seen, texts_given};
+ghost use Rattle.token_store.specs.RecordsParts.{is_live_at, shared_seen, IsCodeRecord, token_kept};
 
-use crate::found::Found;
+use crate::found::{Family, Found};
 use consent::{
-    CODE_LIFE, ClientNo, CodeFacts, Kind, Moment, NewToken, OwnerNo, ScopeSet, TokenKind,
+    CODE_LIFE, ClientNo, CodeFacts, Home, Kind, Moment, NewToken, OwnerNo, ScopeSet, TokenKind,
 };
 use std::alloc::{AllocError, Global};
 
@@ -29,7 +29,7 @@ pub(crate) enum Given {
 #[derive(Drop)]
 pub(crate) struct Record {
     pub(crate) given: Given,
-    pub(crate) family: usize,
+    pub(crate) family: u64,
     pub(crate) scope: ScopeSet,
     pub(crate) moment: Moment,
     pub(crate) life: u32,
@@ -47,16 +47,6 @@ pub(crate) struct Shared {
     pub(crate) ended: bool,
     /// How many records are of the family.
     pub(crate) count: usize,
-}
-
-// The owner's number, unless it is 0.
-fn owner_no(number: u32) -> Option<OwnerNo>
-    ensures { result ≡ owner_no number }
-{
-    if number == 0 {
-        return None;
-    }
-    Some(OwnerNo::new(number))
 }
 
 impl CodeTexts {
@@ -87,16 +77,28 @@ impl Shared {
         }
     }
 
-    /// That of a family of the client's own, without records.
-    pub(crate) fn of_client(client: ClientNo) -> Shared
-        ensures { result ≡ own_shared client 0 }
+    /// That of a family without a code, without records.
+    pub(crate) fn of_home(home: &Home) -> Shared
+        ensures { result ≡ home_shared home.now 0 }
     {
         Shared {
-            client,
-            owner: 0,
+            client: home.client,
+            owner: OwnerNo::number_of(home.owner),
             code_scope: None,
             ended: false,
             count: 0,
+        }
+    }
+
+    /// What is answered of the family.
+    pub(crate) fn family(&self) -> Family
+        ensures { family_seen result ≡ shared_seen self.now }
+    {
+        Family {
+            client: self.client,
+            owner: OwnerNo::numbered(self.owner),
+            code_scope: self.code_scope,
+            ended: self.ended,
         }
     }
 }
@@ -126,10 +128,11 @@ impl Record {
                 texts.redirect.as_str(),
                 texts.challenge.as_str(),
             ),
-            Given::Token(kind) => (Kind::Token(*kind), owner_no(shared.owner), "", ""),
+            Given::Token(kind) => (Kind::Token(*kind), OwnerNo::numbered(shared.owner), "", ""),
         };
         Found {
             kind,
+            family: self.family,
             client: shared.client,
             owner,
             scope: self.scope,
@@ -147,7 +150,7 @@ impl Record {
         texts: Box<CodeTexts>,
         facts: &CodeFacts<'_>,
         moment: Moment,
-        number: usize,
+        number: u64,
     ) -> Record
         requires { texts_seen texts ≡ texts_given facts.now }
         ensures kept { IsCodeRecord number facts.now moment result }
@@ -164,7 +167,7 @@ impl Record {
     }
 
     /// That of a token, in the family with the number.
-    pub(crate) fn of_token(token: &NewToken, moment: Moment, number: usize) -> Record
+    pub(crate) fn of_token(token: &NewToken, moment: Moment, number: u64) -> Record
         ensures kept { (shared : Shared) → kept_under shared token.now.digest result ≡ token_kept number shared moment token.now }
         ensures family { result.family ≡ number }
     {

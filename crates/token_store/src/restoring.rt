@@ -1,5 +1,5 @@
 //! A store's records as a list, and tables made of such a list.
-ghost use Rattle.std.specs.Prelude.{◌≡◌, filter, count_by, ◌<◌, ◌↔◌, ℕ, [], ◌∷◌, ◌++◌, None, true, is_some, IfOk, OnOk, IsErrOf};
+ghost use Rattle.std.specs.Prelude.{◌≡◌, filter, count_by, ◌<◌, ◌≤◌, ◌↔◌, ℕ, [], ◌∷◌, ◌++◌, None, true, is_some, IfOk, OnOk, IsErrOf};
 ghost use Rattle.std.specs.Str.{bytes_eq};
 ghost use Rattle.std.specs.Map.{lookup};
 ghost use Rattle.consent.specs.Limits.{record_limit};
@@ -8,15 +8,14 @@ ghost use Rattle.token_store.specs.Kept.{kept_unexpired};
 ghost use Rattle.token_store.specs.Records.{family_numbered, kept_of, IsTied};
 ghost use Rattle.token_store.specs.RecordsParts.{kept_with, HasEntered, HasPut, TellsSame};
 ghost use Rattle.token_store.specs.Image.{as_kept, is_unexpired_record, HasDigestTwice, HasFamilyDiffering};
-ghost use Rattle.token_store.specs.ImageParts.{FindsAtMost, IsRestored, IsSecond};
-ghost use Rattle.token_store.specs.Homes.{AreHomes, ComesBy, HasHome, AllHome, HasGrown, HomesStay, IsAtOdds, as_numbered};
+ghost use Rattle.token_store.specs.ImageParts.{FindsAtMost, IsSecond};
+ghost use Rattle.token_store.specs.Homes.{all_passed, passed, ComesBy, HasHome, AllHome, HasGrown, HomesStay, IsAtOdds};
 
 use crate::image::{is_of, is_unexpired, record_of, shared_by};
 use crate::record::Record;
 use crate::tables::Tables;
 use consent::{Digest, KeptRecord, Moment, RECORD_LIMIT};
 use std::alloc::{AllocError, Global};
-use std::collections::HashMap;
 
 /// Why no store is made of records.
 #[derive(Clone, Copy, Debug, PartialEq, Eq)]
@@ -41,12 +40,14 @@ fn unexpired_count(records: &[KeptRecord<'_>], moment: Moment) -> usize
 impl Tables {
     // Keeps a record under a digest that nothing is kept under.
     fn put_new(&mut self, alloc: Global, digest: &Digest, new: Record) -> Result<(), AllocError>
-        requires tied { IsTied self.old [] }
-        requires open { is_some (family_numbered self.old.families.slots new.family) ≡ true }
+        requires tied { IsTied self.old }
+        requires open { is_some (family_numbered self.old.families.entries new.family) ≡ true }
+        requires passed { new.family ≤ self.old.last }
         requires absent { lookup (bytes_eq digest.now) self.old.records.entries ≡ None }
-        ensures tied { OnOk result (IsTied self.new []) }
+        ensures tied { OnOk result (IsTied self.new) }
+        ensures last { OnOk result (self.new.last ≡ self.old.last) }
         ensures tells { OnOk result ((moment : ℕ) → TellsSame (kept_with self.old digest.now new) (kept_of self.new) moment) }
-        ensures entered { OnOk result (HasEntered self.old.families.slots self.new.families.slots new.family 1) }
+        ensures entered { OnOk result (HasEntered self.old.families.entries self.new.families.entries new.family 1) }
         ensures found { OnOk result (HasPut self.old.records.entries self.new.records.entries digest.now new) }
     {
         self.make_room(alloc, 1)?;
@@ -55,62 +56,47 @@ impl Tables {
     }
 
     // Sees to it that the family of a record that is unexpired is there and shares what the record says.
-    fn open_home(
-        &mut self,
-        numbers: &mut HashMap<u64, usize>,
-        kept: &KeptRecord<'_>,
-        moment: Moment,
-    ) -> Result<(), RestoreFault>
-        requires tied { IsTied self.old [] }
-        requires homes { AreHomes numbers.old.entries self.old.families.slots }
-        ensures tied { OnOk result (IsTied self.new []) }
+    fn open_home(&mut self, kept: &KeptRecord<'_>, moment: Moment) -> Result<(), RestoreFault>
+        requires tied { IsTied self.old }
+        ensures tied { OnOk result (IsTied self.new) }
+        ensures last { OnOk result (self.new.last ≡ self.old.last) }
         ensures records { OnOk result (self.new.records.entries ≡ self.old.records.entries) }
-        ensures homes { OnOk result (AreHomes numbers.new.entries self.new.families.slots) }
-        ensures grown { OnOk result (HasGrown numbers.old.entries self.old.families.slots numbers.new.entries self.new.families.slots) }
-        ensures here { OnOk result (is_unexpired_record moment kept.now ≡ true → HasHome numbers.new.entries self.new.families.slots kept.now) }
+        ensures grown { OnOk result (HasGrown self.old.families.entries self.new.families.entries) }
+        ensures here { OnOk result (is_unexpired_record moment kept.now ≡ true → HasHome self.new.families.entries kept.now) }
         ensures full { IsErrOf result RestoreFault.Full → ⊥ }
         ensures twice { IsErrOf result RestoreFault.DigestTwice → ⊥ }
-        ensures comes { OnOk result (ComesBy numbers.old.entries numbers.new.entries moment kept.now) }
-        ensures differs { IsErrOf result RestoreFault.FamilyDiffers → IsAtOdds numbers.old.entries self.old.families.slots moment kept.now }
+        ensures comes { OnOk result (ComesBy self.old.families.entries self.new.families.entries moment kept.now) }
+        ensures differs { IsErrOf result RestoreFault.FamilyDiffers → IsAtOdds self.old.families.entries moment kept.now }
     {
         if !is_unexpired(kept, moment) {
             return Ok(());
         }
-        if let Some(number) = numbers.get(&kept.family) {
-            return match self.families.get(*number) {
-                Some(shared) if is_of(kept, shared) => Ok(()),
-                _ => Err(RestoreFault::FamilyDiffers),
-            };
+        if let Some(shared) = self.families.get(&kept.family) {
+            if is_of(kept, shared) {
+                return Ok(());
+            }
+            return Err(RestoreFault::FamilyDiffers);
         }
-        let Ok(number) = self.open_family(shared_by(kept)) else {
-            return Err(RestoreFault::Memory);
-        };
-        let Ok(_) = numbers.insert(kept.family, number) else {
+        let Ok(()) = self.open_family(kept.family, shared_by(kept)) else {
             return Err(RestoreFault::Memory);
         };
         Ok(())
     }
 
     // Opens the families of the unexpired records.
-    fn open_all(
-        &mut self,
-        numbers: &mut HashMap<u64, usize>,
-        records: &[KeptRecord<'_>],
-        moment: Moment,
-    ) -> Result<(), RestoreFault>
-        requires tied { IsTied self.old [] }
-        requires homes { AreHomes numbers.old.entries self.old.families.slots }
-        requires none { numbers.old.entries ≡ [] }
-        ensures tied { OnOk result (IsTied self.new []) }
+    fn open_all(&mut self, records: &[KeptRecord<'_>], moment: Moment) -> Result<(), RestoreFault>
+        requires tied { IsTied self.old }
+        requires none { self.old.families.entries ≡ [] }
+        ensures tied { OnOk result (IsTied self.new) }
+        ensures last { OnOk result (self.new.last ≡ self.old.last) }
         ensures records { OnOk result (self.new.records.entries ≡ self.old.records.entries) }
-        ensures homes { OnOk result (AreHomes numbers.new.entries self.new.families.slots) }
-        ensures all { OnOk result (AllHome numbers.new.entries self.new.families.slots moment records.now) }
+        ensures all { OnOk result (AllHome self.new.families.entries moment records.now) }
         ensures full { IsErrOf result RestoreFault.Full → ⊥ }
         ensures twice { IsErrOf result RestoreFault.DigestTwice → ⊥ }
         ensures differs { IsErrOf result RestoreFault.FamilyDiffers → HasFamilyDiffering records.now moment }
     {
         for kept in records {
-            self.open_home(numbers, kept, moment)?;
+            self.open_home(kept, moment)?;
         }
         Ok(())
     }
@@ -119,15 +105,15 @@ impl Tables {
     fn put_home(
         &mut self,
         alloc: Global,
-        numbers: &HashMap<u64, usize>,
         kept: &KeptRecord<'_>,
         moment: Moment,
     ) -> Result<(), RestoreFault>
-        requires tied { IsTied self.old [] }
-        requires home { is_unexpired_record moment kept.now ≡ true → HasHome numbers.now.entries self.old.families.slots kept.now }
-        ensures tied { OnOk result (IsTied self.new []) }
-        ensures tells { OnOk result (TellsSame (kept_of self.old ++ as_numbered numbers.now.entries (kept.now ∷ [])) (kept_of self.new) moment) }
-        ensures homes { OnOk result (HomesStay numbers.now.entries self.old.families.slots self.new.families.slots) }
+        requires tied { IsTied self.old }
+        requires home { is_unexpired_record moment kept.now ≡ true → HasHome self.old.families.entries kept.now }
+        ensures tied { OnOk result (IsTied self.new) }
+        ensures last { OnOk result (self.new.last ≡ passed moment self.old.last kept.now) }
+        ensures tells { OnOk result (TellsSame (kept_of self.old ++ as_kept (kept.now ∷ [])) (kept_of self.new) moment) }
+        ensures homes { OnOk result (HomesStay self.old.families.entries self.new.families.entries) }
         ensures found { OnOk result (FindsAtMost self.old.records.entries self.new.records.entries moment kept.now) }
         ensures full { IsErrOf result RestoreFault.Full → ⊥ }
         ensures differs { IsErrOf result RestoreFault.FamilyDiffers → ⊥ }
@@ -139,12 +125,10 @@ impl Tables {
         if self.records.contains_key(&kept.digest) {
             return Err(RestoreFault::DigestTwice);
         }
-        let Some(number) = numbers.get(&kept.family) else {
-            unreachable!();
-        };
-        let Ok(record) = record_of(alloc, kept, *number) else {
+        let Ok(record) = record_of(alloc, kept) else {
             return Err(RestoreFault::Memory);
         };
+        self.pass(kept.family);
         let Ok(()) = self.put_new(alloc, &kept.digest, record) else {
             return Err(RestoreFault::Memory);
         };
@@ -155,21 +139,21 @@ impl Tables {
     fn put_all(
         &mut self,
         alloc: Global,
-        numbers: &HashMap<u64, usize>,
         records: &[KeptRecord<'_>],
         moment: Moment,
     ) -> Result<(), RestoreFault>
-        requires tied { IsTied self.old [] }
+        requires tied { IsTied self.old }
         requires empty { self.old.records.entries ≡ [] }
-        requires all { AllHome numbers.now.entries self.old.families.slots moment records.now }
-        ensures tied { OnOk result (IsTied self.new []) }
-        ensures tells { OnOk result (TellsSame (as_numbered numbers.now.entries records.now) (kept_of self.new) moment) }
+        requires all { AllHome self.old.families.entries moment records.now }
+        ensures tied { OnOk result (IsTied self.new) }
+        ensures last { OnOk result (self.new.last ≡ all_passed moment self.old.last records.now) }
+        ensures tells { OnOk result (TellsSame (as_kept records.now) (kept_of self.new) moment) }
         ensures full { IsErrOf result RestoreFault.Full → ⊥ }
         ensures differs { IsErrOf result RestoreFault.FamilyDiffers → ⊥ }
         ensures twice { IsErrOf result RestoreFault.DigestTwice → HasDigestTwice (as_kept records.now) moment }
     {
         for kept in records {
-            if let Err(fault) = self.put_home(alloc, numbers, kept, moment) {
+            if let Err(fault) = self.put_home(alloc, kept, moment) {
                 return Err(fault);
             }
         }
@@ -182,7 +166,7 @@ impl Tables {
         alloc: Global,
         moment: Moment,
     ) -> Result<Vec<KeptRecord<'_>>, AllocError>
-        requires tied { IsTied self.now [] }
+        requires tied { IsTied self.now }
         ensures { IfOk result (λ v. as_kept v.items ≡ filter (λ k. is_unexpired moment k.grant) (kept_of self.now)) }
     {
         let mut kept = Vec::new(alloc);
@@ -190,7 +174,7 @@ impl Tables {
             if !record.is_unexpired(moment) {
                 continue;
             }
-            let Some(shared) = self.families.get(record.family) else {
+            let Some(shared) = self.families.get(&record.family) else {
                 continue;
             };
             let Ok(()) = kept.push(record.kept(digest, shared)) else {
@@ -204,10 +188,12 @@ impl Tables {
     pub(crate) fn restored(
         alloc: Global,
         records: &[KeptRecord<'_>],
+        last: u64,
         moment: Moment,
     ) -> Result<Tables, RestoreFault>
-        ensures tied { IfOk result (λ t. IsTied t []) }
-        ensures restored { IfOk result (λ t. (renumber : ℕ → ℕ) × IsRestored (as_kept records.now) (kept_of t) moment renumber) }
+        ensures tied { IfOk result (λ t. IsTied t) }
+        ensures last { IfOk result (λ t. t.last ≡ all_passed moment last records.now) }
+        ensures tells { IfOk result (λ t. TellsSame (as_kept records.now) (kept_of t) moment) }
         ensures full { IsErrOf result RestoreFault.Full ↔ record_limit < kept_unexpired (as_kept records.now) moment }
         ensures twice { IsErrOf result RestoreFault.DigestTwice → HasDigestTwice (as_kept records.now) moment }
         ensures differs { IsErrOf result RestoreFault.FamilyDiffers → HasFamilyDiffering records.now moment }
@@ -216,9 +202,9 @@ impl Tables {
             return Err(RestoreFault::Full);
         }
         let mut tables = Tables::new(alloc);
-        let mut numbers = HashMap::new(alloc);
-        tables.open_all(&mut numbers, records, moment)?;
-        tables.put_all(alloc, &numbers, records, moment)?;
+        tables.open_all(records, moment)?;
+        tables.pass(last);
+        tables.put_all(alloc, records, moment)?;
         Ok(tables)
     }
 }

@@ -1,21 +1,21 @@
 //! The store of codes and tokens.
 ghost use Rattle.std.specs.Prelude.{◌≡◌, ◌<◌, ◌≤◌, ◌↔◌, ℕ, List, [], length, option_map, OnOk, IfOk, IsErrOf};
 ghost use Rattle.consent.specs.Limits.{record_limit};
-ghost use Rattle.consent.specs.History.{Event, unexpired_count};
+ghost use Rattle.consent.specs.History.{Event, greatest_family, is_new, next_family, unexpired_count};
 ghost use Rattle.consent.specs.Changes.{as_list};
 ghost use Rattle.consent.specs.Seen.{seen_at};
 ghost use Rattle.token_store.specs.Kept.{Held, kept_unexpired};
-ghost use Rattle.token_store.specs.Records.{IsTied, kept_of};
-ghost use Rattle.token_store.specs.Room.{room_of, HasRoom};
+ghost use Rattle.token_store.specs.Records.{IsTied};
+ghost use Rattle.token_store.specs.Room.{held_of, HasRoom};
 ghost use Rattle.token_store.specs.Fits.{FitsHistory, FitsStore, ForEachHistory, MakesChanges, refusal};
 ghost use Rattle.token_store.specs.Image.{as_kept, HasDigestTwice, HasFamilyDiffering};
-ghost use Rattle.token_store.specs.Found.{code_scope_at, found_seen};
+ghost use Rattle.token_store.specs.Found.{family_at, family_seen, found_seen};
 
 use crate::fault::StoreFault;
-use crate::found::Found;
+use crate::found::{Family, Found};
 use crate::restoring::RestoreFault;
 use crate::tables::Tables;
-use consent::{Changes, Digest, KeptRecord, Moment, ScopeSet};
+use consent::{Changes, Digest, FAMILY_LIMIT, KeptRecord, Moment};
 use std::alloc::{AllocError, Global};
 use std::marker::Model;
 
@@ -29,9 +29,9 @@ pub struct Store {
 impl Model for Store {
     ghost Value = { Held };
 
-    ghost view = { λ s. record { kept = kept_of s.tables; room = room_of s.tables } };
+    ghost view = { λ s. held_of s.tables };
 
-    ghost invariant = { λ s. IsTied s.tables [] };
+    ghost invariant = { λ s. IsTied s.tables };
 }
 
 impl Store {
@@ -47,26 +47,28 @@ impl Store {
 
     /// The unexpired codes and tokens, of which a store can be made again.
     pub fn records(&self, alloc: Global, moment: Moment) -> Result<Vec<KeptRecord<'_>>, AllocError>
-        ensures { IfOk result (λ list. ForEachHistory self.now.kept moment (λ history. FitsHistory (as_kept list.items) history moment)) }
+        ensures { IfOk result (λ list. ForEachHistory self.now moment (λ history. FitsHistory (as_kept list.items) history moment)) }
     {
         self.tables.kept_records(alloc, moment)
     }
 
-    /// A store of these codes and tokens, without those that are expired at the moment. It answers
-    /// as one does that the records are of, and has no more unexpired ones than may be.
+    /// A store of these codes and tokens, without those that are expired at the moment, with the greatest number of a family
+    /// so far. It answers as one does that the records are of, and has no more unexpired ones than may be.
     pub fn restored(
         alloc: Global,
         records: &[KeptRecord<'_>],
+        last: u64,
         moment: Moment,
     ) -> Result<Self, RestoreFault>
-        ensures fits { IfOk result (λ store. ForEachHistory (as_kept records.now) moment (λ history. FitsStore store history moment)) }
+        ensures fits { IfOk result (λ store. (history : List Event) → FitsHistory (as_kept records.now) history moment →
+            last ≡ greatest_family history → FitsStore store history moment) }
         ensures few { IfOk result (λ store. kept_unexpired store.kept moment ≤ record_limit) }
         // Full comes before the others.
         ensures full { IsErrOf result RestoreFault.Full ↔ record_limit < kept_unexpired (as_kept records.now) moment }
         ensures twice { IsErrOf result RestoreFault.DigestTwice → HasDigestTwice (as_kept records.now) moment }
         ensures differs { IsErrOf result RestoreFault.FamilyDiffers → HasFamilyDiffering records.now moment }
     {
-        let tables = match Tables::restored(alloc, records, moment) {
+        let tables = match Tables::restored(alloc, records, last, moment) {
             Ok(tables) => tables,
             Err(fault) => return Err(fault),
         };
@@ -75,23 +77,51 @@ impl Store {
 
     /// What the digest names, if it is unexpired.
     pub fn at(&self, digest: &Digest, moment: Moment) -> Option<Found<'_>>
-        ensures { ForEachHistory self.now.kept moment (λ history. option_map found_seen result ≡ seen_at history digest.now moment) }
+        ensures { ForEachHistory self.now moment (λ history. option_map found_seen result ≡ seen_at history digest.now moment) }
     {
-        let (record, shared) = self.tables.at(digest, moment)?;
+        let record = self.tables.record_at(digest, moment)?;
+        let shared = self.tables.families.get(&record.family)?;
         Some(record.found(shared))
     }
 
-    /// The scope of the code that opened the family of what the digest names, if a code did.
-    pub fn code_scope(&self, digest: &Digest, moment: Moment) -> Option<ScopeSet>
-        ensures { ForEachHistory self.now.kept moment (λ history. result ≡ code_scope_at history digest.now moment) }
+    /// The family of the number, if something of it is unexpired.
+    pub fn family(&self, number: u64, moment: Moment) -> Option<Family>
+        ensures { ForEachHistory self.now moment (λ history. option_map family_seen result ≡ family_at history moment number) }
     {
-        let (_, shared) = self.tables.at(digest, moment)?;
-        shared.code_scope
+        if !self.tables.lives(number, moment) {
+            return None;
+        }
+        let shared = self.tables.families.get(&number)?;
+        Some(shared.family())
+    }
+
+    /// Whether the number is greater than that of each family so far.
+    pub fn is_new(&self, number: u64) -> bool
+        ensures { (history : List Event) (moment : ℕ) → FitsStore self.now history moment → result ≡ is_new history number }
+    {
+        self.tables.last < number
+    }
+
+    /// The number of the family that is opened next. There is one, unless 2^64 - 1 has been one's.
+    pub fn next_family(&self) -> Option<u64>
+        ensures { (history : List Event) (moment : ℕ) → FitsStore self.now history moment → result ≡ next_family history }
+    {
+        if self.tables.last < FAMILY_LIMIT {
+            return Some(self.tables.last + 1);
+        }
+        None
+    }
+
+    /// The greatest number of a family so far, 0 where there is none.
+    pub fn last_family(&self) -> u64
+        ensures { (history : List Event) (moment : ℕ) → FitsStore self.now history moment → result ≡ greatest_family history }
+    {
+        self.tables.last
     }
 
     /// Why codes or tokens of these digests may not be given. Full comes before DrawTaken.
     pub fn refusal(&self, digests: &[Digest], moment: Moment) -> Option<StoreFault>
-        ensures { ForEachHistory self.now.kept moment (λ history. result ≡ refusal history moment digests.now) }
+        ensures { ForEachHistory self.now moment (λ history. result ≡ refusal history moment digests.now) }
     {
         self.tables.refusal(digests, moment)
     }
@@ -107,7 +137,7 @@ impl Store {
     /// Makes the changes, which room was made for.
     pub fn apply(&mut self, changes: &Changes<'_>, moment: Moment)
         requires { HasRoom self.old (as_list changes.now) }
-        ensures { MakesChanges self.old.kept self.new.kept moment (as_list changes.now) }
+        ensures { MakesChanges self.old self.new moment (as_list changes.now) }
     {
         self.tables.apply(changes, moment);
     }
@@ -115,9 +145,9 @@ impl Store {
     /// Lets go of what has expired, which changes no answer.
     #[inline]
     pub fn drop_expired(&mut self, moment: Moment)
-        ensures fits { ForEachHistory self.old.kept moment (λ history. FitsStore self.new history moment) }
+        ensures fits { ForEachHistory self.old moment (λ history. FitsStore self.new history moment) }
         // Spent ones and those of ended families are unexpired too.
-        ensures kept { ForEachHistory self.old.kept moment (λ history. length self.new.kept ≡ unexpired_count history moment) }
+        ensures kept { ForEachHistory self.old moment (λ history. length self.new.kept ≡ unexpired_count history moment) }
     {
         self.tables.drop_expired(moment);
     }
@@ -126,6 +156,6 @@ impl Store {
     pub fn kept(&self) -> usize
         ensures { result ≡ length self.now.kept }
     {
-        self.tables.count()
+        self.tables.records.len()
     }
 }

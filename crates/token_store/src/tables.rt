@@ -1,32 +1,34 @@
 //! The tables: records by digest, the families, and those of each owner and client.
-ghost use Rattle.std.specs.Prelude.{◌≡◌, ◌+◌, ◌<◌, ◌≤◌, ◌^◌, ℕ, [], ◌∷◌, ◌++◌, None, Some, true, false, not, nat_lt, length, count_by, is_some, option_map, option_copied, IfOk, OnOk, OnErr};
+ghost use Rattle.std.specs.Prelude.{◌≡◌, ◌+◌, ◌<◌, ◌≤◌, ◌^◌, ℕ, [], ◌∷◌, ◌++◌, None, Some, true, false, not, nat_lt, max, count_by, is_some, option_map, option_copied, OnOk, OnErr};
 ghost use Rattle.std.specs.List.{list_any, IsDistinct};
 ghost use Rattle.std.specs.Str.{bytes_eq};
 ghost use Rattle.std.specs.Map.{lookup, keys_of, values_of};
 ghost use Rattle.token_store.specs.Agenda.{deadlines_of, least};
 ghost use Rattle.token_store.specs.AgendaParts.{HasCome};
-ghost use Rattle.token_store.specs.Kept.{kept_at, kept_unexpired};
+ghost use Rattle.token_store.specs.Kept.{kept_at, kept_lives, kept_unexpired};
 ghost use Rattle.token_store.specs.FitsParts.{are_kept, has_kept_room, kept_refusal};
 ghost use Rattle.token_store.specs.Room.{HasSpare, Waits, room_of};
 ghost use Rattle.token_store.specs.Records.{family_numbered, kept_under, kept_of, shared_at, IsOwned, IsTied};
-ghost use Rattle.token_store.specs.RecordsParts.{is_live_at, IsNextOwned, IsUnused, start_of, kept_found, HasEntered, HasLeft, HasClosed, HasEnded, HasIndexed, HasOpened, HasLowered, HasPut, lowered_by, AllLive, KeepsToo, OthersStay, TellsSame, spent_in};
+ghost use Rattle.token_store.specs.RecordsParts.{is_live_at, is_member_at, IsNextOwned, start_of, kept_found, HasEntered, HasLeft, HasClosed, HasEnded, HasIndexed, HasLowered, HasPut, lowered_by, AllLive, KeepsToo, OthersStay, TellsSame, spent_in};
 
 use crate::agenda::Agenda;
 use crate::fault::StoreFault;
 use crate::record::{CodeTexts, Record, Shared};
 use consent::{Digest, Moment, RECORD_LIMIT, ScopeSet};
-use slab::Slab;
 use std::alloc::{AllocError, Global};
 use std::collections::{BTreeSet, HashMap};
 use std::ops::Bound;
 
 /// Families that a code opened: the numbers of its owner and client, and the family's.
-pub(crate) type Owners = BTreeSet<((u32, u32), usize)>;
+pub(crate) type Owners = BTreeSet<((u32, u32), u64)>;
+
+/// What the families of these numbers share.
+pub(crate) type Families = HashMap<u64, Shared>;
 
 /// A family without records, for a code or a token that is about to come.
 #[derive(Drop)]
 pub(crate) struct Coming {
-    pub(crate) number: usize,
+    pub(crate) number: u64,
     /// A code's texts.
     pub(crate) texts: Option<Box<CodeTexts>>,
 }
@@ -36,32 +38,30 @@ pub(crate) struct Tables {
     pub(crate) records: HashMap<Digest, Record>,
     /// When each of the records expires.
     pub(crate) agenda: Agenda,
-    pub(crate) families: Slab<Shared>,
+    pub(crate) families: Families,
     /// The families that a code opened, by its owner and client.
     pub(crate) owners: Owners,
     /// What room was made for.
     pub(crate) coming: Option<Coming>,
+    /// The greatest number of a family so far.
+    pub(crate) last: u64,
 }
 
 impl Tables {
     pub(crate) fn new(alloc: Global) -> Self
-        ensures tied { IsTied result [] }
+        ensures tied { IsTied result }
         ensures empty { kept_of result ≡ [] }
+        ensures homeless { result.families.entries ≡ [] }
+        ensures last { result.last ≡ 0 }
     {
         Tables {
             records: HashMap::new(alloc),
             agenda: Agenda::new(alloc),
-            families: Slab::new(alloc),
+            families: HashMap::new(alloc),
             owners: BTreeSet::new(alloc),
             coming: None,
+            last: 0,
         }
-    }
-
-    /// How many records there are.
-    pub(crate) fn count(&self) -> usize
-        ensures { result ≡ length (kept_of self.now) }
-    {
-        self.records.len()
     }
 
     /// The unexpired record of the digest.
@@ -77,19 +77,9 @@ impl Tables {
         Some(record)
     }
 
-    /// The unexpired record of the digest, and what its family shares.
-    pub(crate) fn at(&self, digest: &Digest, moment: Moment) -> Option<(&Record, &Shared)>
-        requires { IsTied self.now [] }
-        ensures { option_map (λ p. kept_under p.1.now digest.now p.0.now) result ≡ kept_at (kept_of self.now) digest.now moment }
-    {
-        let record = self.record_at(digest, moment)?;
-        let shared = self.families.get(record.family)?;
-        Some((record, shared))
-    }
-
     // How many records are unexpired.
     fn count_unexpired(&self, moment: Moment) -> usize
-        requires { IsTied self.now [] }
+        requires { IsTied self.now }
         ensures { result ≡ kept_unexpired (kept_of self.now) moment }
     {
         if self.is_none_expired(moment) {
@@ -112,16 +102,16 @@ impl Tables {
     // Whether the moment comes before any record expires.
     #[inline]
     pub(crate) fn is_none_expired(&self, moment: Moment) -> bool
-        requires { IsTied self.now [] }
+        requires { IsTied self.now }
         ensures value { result ≡ nat_lt moment (least (deadlines_of self.now.agenda)) }
         ensures live { result ≡ true → AllLive self.now.records.entries moment }
     {
-        self.agenda.is_ahead(moment)
+        moment.get() < self.agenda.earliest
     }
 
     /// So many more would be one too many.
     pub(crate) fn is_full(&self, more: usize, moment: Moment) -> bool
-        requires { IsTied self.now [] }
+        requires { IsTied self.now }
         ensures { result ≡ not (has_kept_room (kept_of self.now) moment more) }
     {
         if more > RECORD_LIMIT {
@@ -150,7 +140,7 @@ impl Tables {
 
     /// Why codes or tokens of these digests may not be given.
     pub(crate) fn refusal(&self, digests: &[Digest], moment: Moment) -> Option<StoreFault>
-        requires { IsTied self.now [] }
+        requires { IsTied self.now }
         ensures { result ≡ kept_refusal (kept_of self.now) moment digests.now }
     {
         if self.is_full(digests.len(), moment) {
@@ -161,37 +151,85 @@ impl Tables {
         }
         None
     }
-}
 
-impl Tables {
-    /// Opens a family without records.
-    pub(crate) fn open_family(&mut self, shared: Shared) -> Result<usize, AllocError>
-        requires tied { IsTied self.old [] }
+    // Whether records are of the family.
+    pub(crate) fn is_peopled(&self, number: u64) -> bool
+        ensures { result ≡ nat_lt 0 (shared_at self.now.families.entries number).count }
+    {
+        match self.families.get(&number) {
+            Some(shared) => shared.count > 0,
+            None => false,
+        }
+    }
+
+    /// Whether one of the family's records is unexpired.
+    pub(crate) fn lives(&self, number: u64, moment: Moment) -> bool
+        requires { IsTied self.now }
+        ensures { result ≡ kept_lives (kept_of self.now) moment number }
+    {
+        if self.is_none_expired(moment) {
+            return self.is_peopled(number);
+        }
+        self.has_live(number, moment)
+    }
+
+    // Whether one is, where the least deadline has come: all records are looked at.
+    fn has_live(&self, number: u64, moment: Moment) -> bool
+        requires { HasCome (deadlines_of self.now.agenda) moment }
+        ensures { result ≡ list_any (is_member_at number moment) (values_of self.now.records.entries) }
+    {
+        self.records.values().any(|record| record.family == number && record.is_unexpired(moment))
+    }
+
+    /// The number is a family's.
+    pub(crate) fn pass(&mut self, number: u64)
+        requires { IsTied self.old }
+        ensures tied { IsTied self.new }
+        ensures same { self.new ≡ record self.old { last = max self.old.last number } }
+    {
+        if self.last < number {
+            self.last = number;
+        }
+    }
+
+    /// Opens a family without records, in the place of one without any.
+    pub(crate) fn open_family(&mut self, number: u64, shared: Shared) -> Result<(), AllocError>
+        requires tied { IsTied self.old }
         requires empty { shared.count ≡ 0 }
-        ensures tied { IsTied self.new [] }
-        ensures opened { IfOk result (λ n. HasOpened self.old.families.slots self.new.families.slots n shared) }
+        requires bare { (shared_at self.old.families.entries number).count ≡ 0 }
+        ensures tied { IsTied self.new }
+        ensures here { OnOk result (family_numbered self.new.families.entries number ≡ Some shared) }
+        ensures others { OthersStay self.old.families.entries self.new.families.entries number }
         ensures same { kept_of self.new ≡ kept_of self.old }
         ensures records { self.new.records ≡ self.old.records }
         ensures agenda { self.new.agenda ≡ self.old.agenda }
+        ensures coming { self.new.coming ≡ self.old.coming }
+        ensures last { self.new.last ≡ self.old.last }
     {
+        close(&mut self.families, &mut self.owners, number);
         self.families.reserve(1)?;
-        let number = self.families.vacant_key();
         let parties = (shared.owner, shared.client.get());
         add_owner(&mut self.owners, shared.code_scope, parties, number)?;
-        self.families.insert_reserved(shared);
-        Ok(number)
+        let Ok(_) = self.families.insert(number, shared) else {
+            unreachable!()
+        };
+        Ok(())
     }
 
     /// Keeps the record in its family, in the place of what has expired under its digest.
     pub(crate) fn put(&mut self, digest: &Digest, new: Record)
-        requires tied { IsTied self.old [] }
-        requires open { is_some (family_numbered self.old.families.slots new.family) ≡ true }
+        requires tied { IsTied self.old }
+        requires open { is_some (family_numbered self.old.families.entries new.family) ≡ true }
+        requires passed { new.family ≤ self.old.last }
         requires room { HasSpare (room_of self.old) 1 }
-        ensures tied { IsTied self.new [] }
+        ensures tied { IsTied self.new }
+        ensures last { self.new.last ≡ self.old.last }
+        ensures coming { self.new.coming ≡ self.old.coming }
+        ensures peopled { 0 < (shared_at self.new.families.entries new.family).count }
         ensures keeps { KeepsToo self.old self.new digest.now new }
         ensures room { (room_of self.old).records ≤ (room_of self.new).records + 1 }
         ensures found { HasPut self.old.records.entries self.new.records.entries digest.now new }
-        ensures entered { lookup (bytes_eq digest.now) self.old.records.entries ≡ None → HasEntered self.old.families.slots self.new.families.slots new.family 1 }
+        ensures entered { lookup (bytes_eq digest.now) self.old.records.entries ≡ None → HasEntered self.old.families.entries self.new.families.entries new.family 1 }
     {
         // There are fewer than 2^63, and so there are of the family.
         let _ = self.records.len();
@@ -204,21 +242,23 @@ impl Tables {
             leave(&mut self.families, &mut self.owners, expired.family);
         }
     }
-}
 
-impl Tables {
     /// Keeps the record in its family, which waited for it and is as it is given.
     pub(crate) fn put_expected(&mut self, shared: Shared, digest: &Digest, new: Record)
-        requires tied { IsTied self.old [] }
-        requires waits { Waits self.old.families.slots new.family shared }
+        requires tied { IsTied self.old }
+        requires waits { Waits self.old.families.entries new.family shared }
         requires empty { shared.count ≡ 0 }
+        requires passed { new.family ≤ self.old.last }
         requires room { HasSpare (room_of self.old) 1 }
-        ensures tied { IsTied self.new [] }
-        ensures unused { (moment : ℕ) → IsUnused (kept_of self.old) moment new.family }
+        ensures tied { IsTied self.new }
+        ensures last { self.new.last ≡ self.old.last }
+        ensures coming { self.new.coming ≡ self.old.coming }
+        ensures peopled { 0 < (shared_at self.new.families.entries new.family).count }
+        ensures room { (room_of self.old).records ≤ (room_of self.new).records + 1 }
         ensures keeps { (moment : ℕ) → kept_at (kept_of self.old) digest.now moment ≡ None →
             TellsSame (kept_of self.old ++ kept_under shared digest.now new ∷ []) (kept_of self.new) moment }
     {
-        renew(&mut self.families, new.family, shared);
+        share(&mut self.families, new.family, shared);
         self.put(digest, new);
     }
 }
@@ -228,7 +268,7 @@ fn add_owner(
     owners: &mut Owners,
     code_scope: Option<ScopeSet>,
     parties: (u32, u32),
-    number: usize,
+    number: u64,
 ) -> Result<(), AllocError>
     ensures coded { OnOk result (is_some code_scope ≡ true → HasIndexed owners.old.keys owners.new.keys (parties, number)) }
     ensures uncoded { OnOk result (is_some code_scope ≡ false → owners.new.keys ≡ owners.old.keys) }
@@ -241,32 +281,34 @@ fn add_owner(
     Ok(())
 }
 
-// So many records more are of the family.
-fn enter(families: &mut Slab<Shared>, number: usize, more: usize)
-    requires few { (shared_at families.old.slots number).count + more < 2 ^ 64 }
-    ensures entered { HasEntered families.old.slots families.new.slots number more }
+// The family, if it is there, is as it is given.
+fn share(families: &mut Families, number: u64, shared: Shared)
+    ensures here { family_numbered families.new.entries number ≡ option_map (λ was. shared) (family_numbered families.old.entries number) }
+    ensures others { OthersStay families.old.entries families.new.entries number }
 {
-    if let Some(shared) = families.get_mut(number) {
-        shared.count += more;
-    }
-}
-
-// The family, which has no records, is as it is given.
-fn renew(families: &mut Slab<Shared>, number: usize, shared: Shared)
-    ensures here { is_some (family_numbered families.old.slots number) ≡ true → family_numbered families.new.slots number ≡ Some shared }
-    ensures others { OthersStay families.old.slots families.new.slots number }
-{
-    if let Some(found) = families.get_mut(number) {
+    if let Some(found) = families.get_mut(&number) {
         *found = shared;
     }
 }
 
-// Ends the family, if there is one with the number.
-pub(crate) fn end_one(families: &mut Slab<Shared>, number: usize)
-    ensures ended { HasEnded families.old.slots families.new.slots number }
+// So many records more are of the family.
+fn enter(families: &mut Families, number: u64, more: usize)
+    requires few { (shared_at families.old.entries number).count + more < 2 ^ 64 }
+    ensures entered { HasEntered families.old.entries families.new.entries number more }
 {
-    if let Some(shared) = families.get_mut(number) {
+    if let Some(mut shared) = families.get(&number).copied() {
+        shared.count += more;
+        share(families, number, shared);
+    }
+}
+
+// Ends the family, if there is one with the number.
+pub(crate) fn end_one(families: &mut Families, number: u64)
+    ensures ended { HasEnded families.old.entries families.new.entries number }
+{
+    if let Some(mut shared) = families.get(&number).copied() {
         shared.ended = true;
+        share(families, number, shared);
     }
 }
 
@@ -281,14 +323,14 @@ pub(crate) fn spend_one(records: &mut HashMap<Digest, Record>, digest: &Digest)
 
 // Ends each family of the two whose code's scope is not within the mask.
 pub(crate) fn lower_all(
-    families: &mut Slab<Shared>,
+    families: &mut Families,
     owners: &Owners,
     owner: u32,
     client: u32,
     mask: ScopeSet,
 )
-    requires owned { IsOwned families.old.slots owners.now.keys }
-    ensures lowered { HasLowered families.old.slots families.new.slots owner client mask }
+    requires owned { IsOwned families.old.entries owners.now.keys }
+    ensures lowered { HasLowered families.old.entries families.new.entries owner client mask }
 {
     let mut after = None;
     while let Some(number) = next_owned(owners, owner, client, after) {
@@ -298,7 +340,7 @@ pub(crate) fn lower_all(
 }
 
 // The first number after the one given of a family of the two that a code opened.
-fn next_owned(owners: &Owners, owner: u32, client: u32, after: Option<usize>) -> Option<usize>
+fn next_owned(owners: &Owners, owner: u32, client: u32, after: Option<u64>) -> Option<u64>
     ensures { IsNextOwned owners.now.keys owner client after result }
 {
     let start = start_of(owner, client, after);
@@ -309,7 +351,7 @@ fn next_owned(owners: &Owners, owner: u32, client: u32, after: Option<usize>) ->
     Some(key.1)
 }
 
-fn start_of(owner: u32, client: u32, after: Option<usize>) -> Bound<((u32, u32), usize)>
+fn start_of(owner: u32, client: u32, after: Option<u64>) -> Bound<((u32, u32), u64)>
     ensures { result ≡ start_of owner client after }
 {
     match after {
@@ -318,14 +360,15 @@ fn start_of(owner: u32, client: u32, after: Option<usize>) -> Bound<((u32, u32),
     }
 }
 
-fn lower_one(families: &mut Slab<Shared>, number: usize, mask: ScopeSet)
-    ensures lowered { family_numbered families.new.slots number ≡ option_map (lowered_by mask) (family_numbered families.old.slots number) }
-    ensures others { OthersStay families.old.slots families.new.slots number }
+fn lower_one(families: &mut Families, number: u64, mask: ScopeSet)
+    ensures lowered { family_numbered families.new.entries number ≡ option_map (lowered_by mask) (family_numbered families.old.entries number) }
+    ensures others { OthersStay families.old.entries families.new.entries number }
 {
-    if let Some(shared) = families.get_mut(number) {
+    if let Some(mut shared) = families.get(&number).copied() {
         if let Some(scope) = shared.code_scope {
             if !scope.is_within(mask) {
                 shared.ended = true;
+                share(families, number, shared);
             }
         }
     }
@@ -338,26 +381,27 @@ fn is_among(digest: &Digest, digests: &[Digest]) -> bool
 }
 
 // One record of the family is gone, and so is the family with the last.
-pub(crate) fn leave(families: &mut Slab<Shared>, owners: &mut Owners, number: usize)
-    ensures owned { IsOwned families.old.slots owners.old.keys → IsOwned families.new.slots owners.new.keys }
-    ensures left { HasLeft families.old.slots families.new.slots number }
+pub(crate) fn leave(families: &mut Families, owners: &mut Owners, number: u64)
+    ensures owned { IsOwned families.old.entries owners.old.keys → IsOwned families.new.entries owners.new.keys }
+    ensures left { HasLeft families.old.entries families.new.entries number }
 {
-    let Some(shared) = families.get_mut(number) else {
+    let Some(mut shared) = families.get(&number).copied() else {
         return;
     };
     if shared.count > 1 {
         shared.count -= 1;
+        share(families, number, shared);
         return;
     }
     close(families, owners, number);
 }
 
 // Lets go of the family, which the index has only if a code of some scope opened it.
-pub(crate) fn close(families: &mut Slab<Shared>, owners: &mut Owners, number: usize)
-    ensures owned { IsOwned families.old.slots owners.old.keys → IsOwned families.new.slots owners.new.keys }
-    ensures closed { HasClosed families.old.slots families.new.slots number }
+pub(crate) fn close(families: &mut Families, owners: &mut Owners, number: u64)
+    ensures owned { IsOwned families.old.entries owners.old.keys → IsOwned families.new.entries owners.new.keys }
+    ensures closed { HasClosed families.old.entries families.new.entries number }
 {
-    let Some(shared) = families.try_remove(number) else {
+    let Some(shared) = families.remove(&number) else {
         return;
     };
     if shared.code_scope.is_some() {

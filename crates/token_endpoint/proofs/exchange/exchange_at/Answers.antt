@@ -1,4 +1,4 @@
-use Rattle.std.proofs.Common.{ap, sym, Some, ◌∙◌}
+use Rattle.std.proofs.Common.{ap, sym, ◌∙◌}
 use Rattle.answers.specs.Found.{grant_found}
 use Rattle.answers.specs.Setting.{HostSays, Setting}
 use Rattle.answers.specs.Views.{known_of, setting_of}
@@ -11,9 +11,9 @@ returns-clause-decides g c = λ history names fault shows.
     let host : HostSays = record { answer = g.H.HookHost.answer c.args.host.now; names = names; fault = fault } in
     let s : Setting = setting_of c.args.view.now history host in
     let found = c.in-Some.ensures.found history shows in
-    let code = grant_found history c.args.sent.now.digest c.args.view.now.moment c.in-Some.code in
+    let code = grant_found c.args.sent.now.digest c.in-Some.code in
     let left = c.decided-left.ensures ∙ ap (left_by_host s) (c.ask_for-ask.ensures history host shows) in
     c.exchanged.ensures.decides history host shows found
-    ∙ ap Some (sym (code_told s (known_of c.args.known.now) c.args.sent.now code c.decided-left.result
+    ∙ sym (code_told s (known_of c.args.known.now) c.args.sent.now code c.decided-left.result
     (sym (c.in-Some.ensures.value history shows)) (sym found.spent_is ∙ c.if-code.false) (sym found.ended_is ∙ c.if-code-2.false)
-    (sym c.ne.ensures ∙ c.if-ne.false) (sym c.matches.ensures ∙ c.if-not-matches.false) left))
+    (sym c.ne.ensures ∙ c.if-ne.false) (sym c.matches.ensures ∙ c.if-not-matches.false) left)

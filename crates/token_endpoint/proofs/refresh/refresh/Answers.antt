@@ -12,7 +12,7 @@ returns-clause-decides g c = λ history names fault shows.
     let host : HostSays = record { answer = g.H.HookHost.answer c.args.host.now; names = names; fault = fault } in
     let s : Setting = setting_of c.args.view.now history host in
     let found = c.in-Some-own_token.ensures.found history shows in
-    let token = grant_found history c.in-Some-digest_told.digest c.args.view.now.moment c.in-Some-own_token.token in
+    let token = grant_found c.in-Some-digest_told.digest c.in-Some-own_token.token in
     let left = c.decided.ensures ∙ ap (left_by_host s) (c.ask_for-ask.ensures history host shows) in
     subst (λ points. Decides s c.refreshed.result points)
     (sym (refresh_told s c.args.params.now (known_of c.args.known.now) c.in-Some.text.now c.in-Some-digest_told.digest token

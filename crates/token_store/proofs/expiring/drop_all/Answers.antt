@@ -12,7 +12,7 @@ loop-deadline-preserved c =
     let i = c.loop-deadline.deadline-index in
     let e = c.deadline-item.result in
     let inv = c.loop-deadline.invariant in
-    let f = c.loop-deadline.families.slots in
+    let f = c.loop-deadline.families.entries in
     let es = c.loop-deadline.records.entries in
     let o = c.loop-deadline.owners.keys in
     let front : take (i + 1) xs ≡ take i xs ++ e ∷ [] = take_more xs i e c.loop-deadline-test.true ∙ ap (λ y. take i xs ++ y ∷ []) (sym c.deadline-item.is) in
@@ -20,12 +20,12 @@ loop-deadline-preserved c =
       | then-deadline-get w ↦
           let n = w.drop_one.new in
           rw (w.records-is, w.families-is, w.owners-is, front)
-          (sheds_on a.families.now.slots f n.families.slots a.records.now.entries es n.records.entries a.owners.now.keys o n.owners.keys (take i xs) (e ∷ []) m inv w.drop_one.ensures)
+          (sheds_on a.families.now.entries f n.families.entries a.records.now.entries es n.records.entries a.owners.now.keys o n.owners.keys (take i xs) (e ∷ []) m inv w.drop_one.ensures)
       | else-deadline-get w ↦
           let later = w.if-deadline-get.false in
           let is = c.get.ensures.value in
           let none = sheds_none f es o (e ∷ []) m inv.once inv.counted (gone_ahead e es m (omega (arith, later, is))) in
-          rw (w.records-is, w.families-is, w.owners-is, front) (sheds_on a.families.now.slots f f a.records.now.entries es es a.owners.now.keys o o (take i xs) (e ∷ []) m inv none)
+          rw (w.records-is, w.families-is, w.owners-is, front) (sheds_on a.families.now.entries f f a.records.now.entries es es a.owners.now.keys o o (take i xs) (e ∷ []) m inv none)
     ]
 
 pub returns : goal.returns

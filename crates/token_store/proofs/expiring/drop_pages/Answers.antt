@@ -14,7 +14,7 @@ loop-page-preserved c =
     let n = c.drop_page.new in
     let front : take (i + 1) xs ≡ take i xs ++ page ∷ [] = take_more xs i page c.loop-page-test.true ∙ ap (λ y. take i xs ++ y ∷ []) (sym c.page-item.is) in
     rw (front, pages_pushed (take i xs) page)
-    (sheds_on a.families.now.slots l.families.slots n.families.slots a.records.now.entries l.records.entries n.records.entries a.owners.now.keys l.owners.keys n.owners.keys
+    (sheds_on a.families.now.entries l.families.entries n.families.entries a.records.now.entries l.records.entries n.records.entries a.owners.now.keys l.owners.keys n.owners.keys
     (deadlines_in (take i xs)) page.deadlines.items a.moment l.invariant c.drop_page.ensures)
 
 pub returns : goal.returns

@@ -3,7 +3,7 @@ use Rattle.token_store.proofs.Families.{LoweredTo}
 use Rattle.token_store.proofs.tables.lower_all.Given as goal
 
 abbrev pub invariant-loop-number : goal.invariant-loop-number
-invariant-loop-number l = LoweredTo l.fn.families.slots l.families.slots l.owner l.client l.mask l.after
+invariant-loop-number l = LoweredTo l.fn.families.entries l.families.entries l.owner l.client l.mask l.after
 
 abbrev to_go : Option ℕ → ℕ
 to_go None = 18446744073709551616

@@ -6,5 +6,4 @@ use Rattle.token_store.proofs.store.Store.records.Goals as goal
 pub returns : goal.returns
 returns c = rw (← c.self.view_is) (IfOk-weaker c.kept_records.result _ _ (λ v is history fits.
     let m = c.args.moment in
-    let all = fits_unexpired (kept_of c.self.inside.tables) history m fits.number fits.fits in
-    subst (λ (ks : List Kept). FitsHistory ks history m) (sym is) (record { number = fits.number; fits = all })) c.kept_records.ensures)
+    subst (λ (ks : List Kept). FitsHistory ks history m) (sym is) (fits_unexpired (kept_of c.self.inside.tables) history m fits.kept)) c.kept_records.ensures)

@@ -1,13 +1,14 @@
-use Rattle.std.proofs.Common.{refl, ap, ◌∙◌}
+use Rattle.std.proofs.Common.{refl, ap, inl, ◌∙◌}
 use Rattle.token_store.proofs.Names.{is_some, or_nothing, is_coded}
 use Rattle.token_store.proofs.tables.Tables.expect.Goals as goal
 
 pub returns-clause-expected : goal.returns-clause-expected
 returns-clause-expected c =
-    let here = c.in_ok-number.ensures.opened.here in
-    record {
-      coming = record { number = c.in_ok-number.number; texts = c.args.texts };
+    let here = c.in_ok-open_family.ensures.here in
+    inl (record {
+      coming = record { number = c.args.number; texts = c.args.texts };
       is = refl;
+      number_is = refl;
       texts_are = refl;
       waits = record { there = ap is_some here; empty = ap (λ o. (or_nothing o).count) here ∙ c.requires.empty; alike = λ owner client. ap (is_coded owner client) here };
-    }
+    })

@@ -1,11 +1,11 @@
-use Rattle.std.proofs.Common.{◌≡◌, ◌∙◌, sym, ap}
-use Rattle.token_store.proofs.Names.{option_copied, or_nothing, shared_at}
+use Rattle.std.proofs.Common.{◌≡◌, arith}
+use Rattle.token_store.proofs.Names.{shared_at, nat_tests}
 use Rattle.token_store.proofs.Families.{unseen_empty}
 use Rattle.token_store.proofs.tables.Tables.forget_coming.Goals as goal
 
-pub returns-then-shared-eq0-clause-same : goal.returns-then-shared-eq0-clause-same
-returns-then-shared-eq0-clause-same c =
+pub returns-then-not-is_peopled-clause-same : goal.returns-then-not-is_peopled-clause-same
+returns-then-not-is_peopled-clause-same c =
     let t = c.args.self.now in
     let n = c.in-Some.coming.number in
-    let empty : (shared_at t.families.slots n).count ≡ 0 = ap (λ o. (or_nothing o).count) (sym c.get.ensures ∙ ap option_copied c.in-Some-get.is) ∙ c.if-shared-eq0.true in
-    unseen_empty t c.close.new.families.slots n c.requires.tied empty c.close.ensures.closed.others
+    let empty : (shared_at t.families.entries n).count ≡ 0 = (let is = c.is_peopled.ensures in let no = c.if-not-is_peopled.true in grind (arith, nat_tests, is, no)) in
+    unseen_empty t c.close.new.families.entries n c.requires.tied empty c.close.ensures.closed.others

@@ -5,6 +5,6 @@ use Rattle.token_store.proofs.tables.Tables.kept_records.Given as goal
 
 abbrev pub invariant-loop-digest : goal.invariant-loop-digest
 invariant-loop-digest l = record {
-  so_far : as_kept l.kept.items ++ filter (λ k. is_unexpired l.fn.moment k.grant) (all_kept l.fn.self.families.slots l.digest-iterator) ≡ filter (λ k. is_unexpired l.fn.moment k.grant) (kept_of l.fn.self);
+  so_far : as_kept l.kept.items ++ filter (λ k. is_unexpired l.fn.moment k.grant) (all_kept l.fn.self.families.entries l.digest-iterator) ≡ filter (λ k. is_unexpired l.fn.moment k.grant) (kept_of l.fn.self);
   found : All (λ e. lookup (bytes_eq e.0) l.fn.self.records.entries ≡ Some e.1) l.digest-iterator;
 }

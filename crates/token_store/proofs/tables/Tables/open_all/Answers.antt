@@ -11,16 +11,14 @@ loop-kept-preserved c =
     let m = c.args.moment in
     let lt : i < length rs = c.loop-kept-test.true in
     let more : take (i + 1) rs ≡ take i rs ++ r ∷ [] = take_more rs i r lt ∙ ap (λ x. take i rs ++ x ∷ []) (sym c.kept-item.is) in
-    let n = c.loop-kept.numbers.entries in
-    let f = c.loop-kept.self.families.slots in
-    let n' = c.open_home.new.numbers.entries in
-    let f' = c.open_home.new.self.families.slots in
+    let f = c.loop-kept.self.families.entries in
+    let f' = c.open_home.new.self.families.entries in
     record {
       tied = c.in_ok-open_home.ensures.tied;
+      last_is = c.in_ok-open_home.ensures.last ∙ c.loop-kept.invariant.last_is;
       records_are = c.in_ok-open_home.ensures.records ∙ c.loop-kept.invariant.records_are;
-      homes = c.in_ok-open_home.ensures.homes;
-      all = rw more (all_push n' f' m (take i rs) r (all_mapped n n' f f' m (take i rs) (λ x. home_grown n n' f f' x c.in_ok-open_home.ensures.grown) c.loop-kept.invariant.all) c.in_ok-open_home.ensures.here);
-      said = rw more (said_push n n' f f' m (take i rs) r c.loop-kept.invariant.homes c.in_ok-open_home.ensures.grown c.in_ok-open_home.ensures.comes c.in_ok-open_home.ensures.here c.loop-kept.invariant.said);
+      all = rw more (all_push f' m (take i rs) r (all_mapped f f' m (take i rs) (λ x. home_grown f f' x c.in_ok-open_home.ensures.grown) c.loop-kept.invariant.all) c.in_ok-open_home.ensures.here);
+      said = rw more (said_push f f' m (take i rs) r c.in_ok-open_home.ensures.grown c.in_ok-open_home.ensures.comes c.in_ok-open_home.ensures.here c.loop-kept.invariant.said);
     }
 
 pub returns-in_err-open_home-clause-differs : goal.returns-in_err-open_home-clause-differs
@@ -29,4 +27,4 @@ returns-in_err-open_home-clause-differs c is =
     let i = c.loop-kept.kept-index in
     let r = c.kept-item.result in
     let whole : rs ≡ take i rs ++ r ∷ drop (i + 1) rs = parts_at rs i r c.loop-kept-test.true ∙ ap (λ x. take i rs ++ x ∷ drop (i + 1) rs) (sym c.kept-item.is) in
-    differing_at c.loop-kept.numbers.entries c.loop-kept.self.families.slots c.args.moment rs (take i rs) r (drop (i + 1) rs) whole c.loop-kept.invariant.homes c.loop-kept.invariant.said (c.in_err-open_home.ensures.differs (let from = c.from_residual.ensures in grind (arith, is, from)))
+    differing_at c.loop-kept.self.families.entries c.args.moment rs (take i rs) r (drop (i + 1) rs) whole c.loop-kept.invariant.said (c.in_err-open_home.ensures.differs (let from = c.from_residual.ensures in grind (arith, is, from)))

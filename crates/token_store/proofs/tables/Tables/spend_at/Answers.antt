@@ -1,7 +1,8 @@
-use Rattle.std.proofs.Common.{arith, ◌≡◌, ◌∙◌, ap, true, None}
-use Rattle.token_store.proofs.Names.{is_some, kept_at, kept_of, all_kept}
+use Rattle.std.proofs.Common.{arith, refl, ◌≡◌, ◌∙◌, ap, true, None}
+use Rattle.token_store.proofs.Names.{is_some, event_at, told, kept_at, kept_of, all_kept}
 use Rattle.token_store.proofs.Spending.{tied_spent, view_spent, unspent_same}
 use Rattle.token_store.proofs.Following.{fits_spent}
+use Rattle.token_store.proofs.Changing.{last_pushed_none}
 use Rattle.token_store.proofs.tables.Tables.spend_at.Goals as goal
 
 pub returns-then-is_some : goal.returns-then-is_some
@@ -15,10 +16,10 @@ returns-then-is_some c =
     let yes = c.if-is_some.true in
     let there : is_some (kept_at (kept_of t) d m) ≡ true = grind (arith, at, test, yes) in
     let spent = c.spend_one.ensures.spent in
-    let changed = ap (all_kept t.families.slots) spent ∙ view_spent t.families.slots es d m c.requires.tied.once there in
+    let changed = ap (all_kept t.families.entries) spent ∙ view_spent t.families.entries es d m c.requires.tied.once there in
     record {
-      tied = rw spent (tied_spent t.families.slots es t.agenda t.owners.keys d c.requires.tied);
-      makes = λ history fits can. record { number = fits.number; fits = rw changed (fits_spent (kept_of t) history fits.number m d fits.fits) };
+      tied = rw spent (tied_spent t.families.entries es t.agenda t.owners.keys t.last d c.requires.tied);
+      makes = λ history fits can. record { kept = rw changed (fits_spent (kept_of t) history m d fits.kept); last = last_pushed_none t.last history (event_at m (told.Spent d)) fits.last refl };
     }
 
 pub returns-else-is_some-clause-makes : goal.returns-else-is_some-clause-makes
@@ -30,4 +31,4 @@ returns-else-is_some-clause-makes c = λ history fits can.
     let test = c.is_some.ensures in
     let no = c.if-is_some.false in
     let none : kept_at (kept_of t) d m ≡ None = grind (arith, at, test, no) in
-    record { number = fits.number; fits = rw (← unspent_same (kept_of t) d m none) (fits_spent (kept_of t) history fits.number m d fits.fits) }
+    record { kept = rw (← unspent_same (kept_of t) d m none) (fits_spent (kept_of t) history m d fits.kept); last = last_pushed_none t.last history (event_at m (told.Spent d)) fits.last refl }

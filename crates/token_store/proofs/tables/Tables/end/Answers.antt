@@ -1,0 +1,24 @@
+use Rattle.std.proofs.Common.{◌≡◌, ◌∙◌, arith}
+use Rattle.token_store.proofs.Names.{all_kept, event_at, told}
+use Rattle.token_store.proofs.Families.{tied_ended, view_ended}
+use Rattle.token_store.proofs.Following.{fits_ended}
+use Rattle.token_store.proofs.Changing.{last_pushed}
+use Rattle.token_store.proofs.tables.Tables.end.Goals as goal
+
+pub returns : goal.returns
+returns c =
+    let t = c.args.self.now in
+    let t' = c.pass.new.self in
+    let slots' = c.end_one.new.families.entries in
+    let es = t.records.entries in
+    let n = c.args.family in
+    let m = c.args.moment in
+    let ended = rw c.pass.ensures.same at c.end_one.ensures.ended in
+    let changed = view_ended t.families.entries slots' n es ended (λ k. (let same = c.requires.tied.counted k in omega (arith, same))) in
+    record {
+      tied = rw c.pass.ensures.same (tied_ended t.families.entries slots' n es t.agenda t.owners.keys _ ended (rw c.pass.ensures.same at c.pass.ensures.tied));
+      makes = λ history fits can. rw c.pass.ensures.same (record {
+        kept = rw changed (fits_ended (all_kept t.families.entries es) history m n fits.kept);
+        last = last_pushed t.last history (event_at m (told.FamilyEnded n)) fits.last;
+      });
+    }
