@@ -1,12 +1,14 @@
 -- What a ruling comes to is answered, at its endpoint and by its path.
 use Rattle.std.proofs.Common.{◌≡◌, ◌≤◌, ℕ, List, [], ◌++◌, Bool, true, false, max, refl, ap, sym, ◌∙◌, arith, append-nil, subst, Result, Ok, Err, Option, Some, None}
 use Rattle.endpoints.specs.Names.{all_dated, Endpoint}
-use Rattle.endpoints.proofs.Names.{RegistryRecord, changes_of, as_list, AllFollow, Event, happening, with_changes, Changes, DatedFact, HookFault, Hosting, Asked, path_of, Written, in_writing, Draws}
+use Rattle.endpoints.proofs.Names.{RegistryRecord, changes_of, as_list, AllFollowAt, Event, happening, with_changes, Changes, HookFault, Hosting, Asked, path_of, Written, in_writing, Draws}
 use Rattle.endpoints.proofs.Names.{Held, FitsStore, fits_later, Outcome, bare, reply_of, Ruling, hook_change_at, HostRun, IsHostFault, says_with, IsSame, Makes, MakesHost, with_notes}
 use Rattle.endpoints.proofs.Names.{AllRightAfter, CanMakeAll, endpoint_at, method_at, Asking, FitsNow, IsRuling, comes_to, setting_now, AnswersRequest, before_now, SeenServer, Outset, Before}
 use Rattle.endpoints.proofs.Names.{FitsServer, AreUnkept, AreNoted, IsStep, outset_of}
 use Rattle.std.specs.Prelude.{bytes_eq}
-use Rattle.change_codec.specs.HappenedLaws.{Happened-joined, Happened-own}
+use Rattle.change_codec.specs.HappenedLaws.{all_dated-own}
+use Rattle.consent.specs.History.{AllFollow}
+use Rattle.consent.specs.HistoryLaws.{Happened-joined}
 use Rattle.endpoints.specs.Replies.{request_outcome, hook_change}
 use Rattle.endpoints.proofs.Ruled.{told_parts}
 
@@ -14,14 +16,16 @@ pub at_moment : (greatest m moment n : ℕ) → n ≡ max greatest moment → gr
 at_moment greatest m moment n is same = (omega (arith, is, same), is ∙ ap (λ x. max x moment) same)
 
 -- what is noted at the moment is what is changed
-pub notes_on : (unkept : Option (List DatedFact)) (kept : Option (List Event)) (history : List Event) (m : ℕ) (changes : Changes) (next : List happening) →
-    changes_of history m (as_list changes) ≡ Some next → AllFollow history m next →
-    AreUnkept unkept kept history → AreUnkept (with_notes unkept m changes) kept (with_changes history m next)
-notes_on None None history m changes next meant follow noted = tt
-notes_on None (Some kept) history m changes next meant follow noted = absurd noted
-notes_on (Some facts) None history m changes next meant follow noted = absurd noted
-notes_on (Some facts) (Some kept) history m changes next meant follow noted =
-    Happened-joined kept history (with_changes history m next) facts (all_dated m changes) noted (Happened-own history m changes next meant follow)
+pub notes_on : (unkept : Option (List Event)) (kept : Option (List Event)) (history : List Event) (m : ℕ) (changes : Changes) →
+    AllFollowAt history m (changes_of (as_list changes)) →
+    AreUnkept unkept kept history → AreUnkept (with_notes unkept m changes) kept (with_changes history m (changes_of (as_list changes)))
+notes_on None None history m changes follow noted = tt
+notes_on None (Some kept) history m changes follow noted = absurd noted
+notes_on (Some facts) None history m changes follow noted = absurd noted
+notes_on (Some facts) (Some kept) history m changes follow noted =
+    let own = all_dated-own m changes in
+    Happened-joined kept history (with_changes history m (changes_of (as_list changes))) facts (all_dated m changes) noted
+    (record { follow = subst (AllFollow history) (sym own) follow; leads = ap (λ es. history ++ es) (sym own) })
 
 -- nothing is noted where nothing happens
 still_noted : {H : Type 0} (old new : SeenServer H) (history : List Event) → new.unkept ≡ old.unkept → AreNoted old new history (history ++ [])
@@ -64,23 +68,26 @@ module _ {H : Type 0} (hosting : Hosting H) where
       let o = comes_to hosting old history asking r.fault in
       let told = told_parts hosting (setting_now hosting old history asking.draws r.fault) ruling.decision o r.told_is in
       let changes = told.0 in
-      let go = subst (λ (n : ℕ). FitsServer hosting mid outset history n → changes_of history n (as_list ruling.decision.changes) ≡ Some o.changes →
-      AllFollow history n o.changes → AllRightAfter old.rules history n o.changes →
+      let own = subst (λ (cs : List happening). FitsServer hosting mid outset history mid.greatest → AllFollowAt history mid.greatest cs →
+      AllRightAfter old.rules history mid.greatest cs → CanMakeAll hosting mid.host (as_list ruling.decision.changes) ruling.checked →
+      FitsServer hosting new outset (with_changes history mid.greatest cs) mid.greatest) changes (makes outset history) in
+      let go = subst (λ (n : ℕ). FitsServer hosting mid outset history n → AllFollowAt history n o.changes → AllRightAfter old.rules history n o.changes →
       CanMakeAll hosting mid.host (as_list ruling.decision.changes) ruling.checked → FitsServer hosting new outset (with_changes history n o.changes) n)
-      same.greatest (makes outset history o.changes) in (
+      same.greatest own in (
         r.fault,
         r.host_has,
         record {
           reply_is = is ∙ ap in_writing (sym told.1);
-          fits = go (same.fits outset history old.greatest fits) changes r.follow r.right (rw same.host r.hooks);
+          fits = go (same.fits outset history old.greatest fits) r.follow r.right (rw same.host r.hooks);
           hosts =
               subst (λ (h : H). HostRun hosting h (with_changes [] old.greatest o.changes) new.host) same.host
-              (runs history old.greatest o.changes (rw same.host r.hooks) changes);
+              (subst (λ (cs : List happening). HostRun hosting mid.host (with_changes [] old.greatest cs) new.host) changes (runs old.greatest (rw same.host r.hooks)));
           noted = λ kept before.
               let now : new.unkept ≡ with_notes old.unkept old.greatest ruling.decision.changes =
               noted ∙ ap (λ u. with_notes u mid.greatest ruling.decision.changes) same.unkept ∙ ap (λ n. with_notes old.unkept n ruling.decision.changes) same.greatest in
               subst (λ u. AreUnkept u kept (with_changes history old.greatest o.changes)) (sym now)
-              (notes_on old.unkept kept history old.greatest ruling.decision.changes o.changes changes r.follow before);
+              (subst (λ (cs : List happening). AreUnkept (with_notes old.unkept old.greatest ruling.decision.changes) kept (with_changes history old.greatest cs)) changes
+              (notes_on old.unkept kept history old.greatest ruling.decision.changes (subst (AllFollowAt history old.greatest) (sym changes) r.follow) before));
         },
       )
 

@@ -1,8 +1,8 @@
 -- What comes of a request may come next and is right, whichever way the request goes.
 use Rattle.std.proofs.Common.{◌≡◌, inl, inr, sym, subst, refl, ap, ℕ, List, [], ◌∷◌, Option, true, Some, arith}
-use Rattle.endpoints.proofs.Names.{is_some, option_map_or, ClientRecord, client_at, is_taken-parts, IsHistory, is_within, is_within-self, is_within-trans, grant_at, grant_at-placed}
-use Rattle.endpoints.proofs.Names.{code_terms-of_code, opener-fresh, sha256, plain, Setting, KnownClient, Asked, own_ask, is_of_code, allowed_to, MayHave, AllRight}
-use Rattle.consent.specs.History.{Change}
+use Rattle.endpoints.proofs.Names.{is_some, option_map_or, ClientRecord, client_at, is_taken-parts, IsHistory, is_within, is_within-self, is_within-trans, grant_at, lives_of}
+use Rattle.endpoints.proofs.Names.{code_terms-of_code, opener-new, nat_tests, sha256, plain, Setting, KnownClient, Asked, own_ask, is_of_code, allowed_to, MayHave, AllRight}
+use Rattle.consent.specs.History.{Change, Event, is_new, next_family}
 use Rattle.consent.specs.History.Change.{HookSet, HookGone}
 use Rattle.endpoints.proofs.Telling.{good}
 use Rattle.endpoints.proofs.Sound.{IsFair, IsRightToken, still, access_fair, both_fair, ends_fair, left_within, refresh_no_code, right_may, right_token, scope_is_within}
@@ -10,6 +10,10 @@ use Rattle.endpoints.proofs.Ways.{Proven, TokenWay, Refused, Wanting, Again, InV
 use Rattle.endpoints.proofs.Ways.{IsAt, code_ask, refresh_ask, token_outcome, outcome_by}
 use Rattle.answers.specs.declared.endpoint.Endpoint.{Endpoint}
 use Rattle.answers.specs.declared.endpoint.Endpoint.TheVariants.{InstallHook, RemoveHook}
+
+-- the next number is new
+pub next_new : (history : List Event) (family : ℕ) → next_family history ≡ Some family → is_new history family ≡ true
+next_new history family next = grind (arith, nat_tests, next)
 
 -- the change is not of the hooks
 abbrev pub IsUnhooked : Change → Type 0
@@ -52,12 +56,12 @@ module _ (s : Setting) (is : IsHistory s.history s.moment) (all : AllRight s.rul
       let right = right_token s.rules s.history x.token.digest s.moment g all x.token.named (refresh_no_code g.kind x.token.kind_is) in
       let within = is_within-trans left.scope x.scope g.scope less.0 (scope_is_within s.rules g.scope x.token.sender.params x.scope x.asks) in
       both_fair s is x.token.digest g x.token.named left g.scope right x.alive within (is_within-self g.scope) less.1 free
-  token_fair (Own sender typed scope left e free) =
+  token_fair (Own sender typed scope left family new e free) =
       let known = sender.known in
       let less = left_within s (own_ask s known scope) left.scope left.life e in
-      let own = inl (record { no_owner = refl; no_code = ap is_of_code (opener-fresh s.history is.placed) }) in
+      let own = inl (record { no_owner = refl; no_code = ap is_of_code (opener-new s.history family (next_new s.history family new)) }) in
       record {
-        follow = ((inl refl, (is_taken-parts s.history s.moment (sha256 s.draws.first) [] free.0).0), tt);
+        follow = ((let is_it = next_new s.history family new in grind (arith, is_it), (is_taken-parts s.history s.moment (sha256 s.draws.first) [] free.0).0), tt);
         right = ((may known left.scope sender.known_is (is_within-trans left.scope scope known.client.allowed less.0 (scope_is_within s.rules known.client.allowed sender.params scope free.1)), less.1, own), tt);
       }
 
@@ -65,17 +69,17 @@ module _ (s : Setting) (is : IsHistory s.history s.moment) (all : AllRight s.rul
   way_fair (Quiet status body moves active) = still s (plain status body)
   way_fair (ByToken way) = token_fair way
   way_fair (Turned x error) = still s _
-  way_fair (Coded x code key of) =
+  way_fair (Coded x code family new key of) =
       let names = x.names in
       let at : client_at x.known.number s.rules.clients ≡ Some x.known.client = grind (arith, names) in
       record {
-        follow = ((refl, (is_taken-parts s.history s.moment (sha256 s.draws.first) [] of.4).0), tt);
+        follow = ((next_new s.history family new, (is_taken-parts s.history s.moment (sha256 s.draws.first) [] of.4).0), tt);
         right = ((subst (λ n. MayHave s.rules n code.scope) (sym of.0) (may x.known code.scope at of.2), of.3), tt);
       }
   way_fair (Consents owner client mask key) = record { follow = (tt, tt); right = (tt, tt) }
   way_fair (Revokes x own) =
       let named = good s.history x.digest s.moment (grant_at s.history x.digest s.moment) x.token x.live in
-      record { follow = (grant_at-placed s.history x.digest s.moment x.token is.placed named, tt); right = (tt, tt) }
+      record { follow = (lives_of s.history x.digest s.moment x.token named, tt); right = (tt, tt) }
   way_fair (Tells x) = still s _
   way_fair (Installs name version code operator) = record { follow = (tt, tt); right = (tt, tt) }
   way_fair (Removes name operator) = record { follow = (tt, tt); right = (tt, tt) }

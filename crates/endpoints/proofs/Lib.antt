@@ -5,6 +5,7 @@ pub mod Walking
 pub mod Ways
 pub mod Sound
 pub mod Fair
+pub mod Homing
 pub mod ReadingOn
 pub mod Ruled
 pub mod Shorter

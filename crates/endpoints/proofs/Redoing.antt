@@ -1,27 +1,24 @@
 -- What is made again.
 use Rattle.std.proofs.Common.{◌≡◌, ◌≤◌, ◌⊎◌, ◌∙◌, ap, sym, refl, inl, inr, not, ℕ, List, [], ◌∷◌, Bool, true, false, Option, Some, None, arith, subst}
-use Rattle.endpoints.proofs.Names.{◌<◌, ◌↔◌, find, nat_le, is_some, option_map, OnOk, nat_tests, and_parts, eqb-true, leb-true, not-true, RegistryRecord, change_of, changes_of, issued_with}
-use Rattle.endpoints.proofs.Names.{family_ended, FitsConsents, is_taken-parts, Event, Happening, Grant, Terms, IsHistory, code_terms, consented_scope, grant_at, grants, has_ended, is_code_of}
-use Rattle.endpoints.proofs.Names.{is_taken, is_within, terms_of, with_change, CanFollow, code_terms-kin, grant_at-kin, grant_at-placed, opener-fresh, NewToken, IssuedAlone, Spent, Hosting}
+use Rattle.endpoints.proofs.Names.{◌<◌, ◌↔◌, ◌||◌, find, nat_le, option_map, OnOk, nat_tests, and_parts, eqb-true, leb-true, not-true, RegistryRecord, change_of, parties_of}
+use Rattle.endpoints.proofs.Names.{FitsConsents, is_taken-parts, Event, Grant, Terms, IsHistory, code_terms, consented_scope, grant_at, grants, has_ended, is_code_of}
+use Rattle.endpoints.proofs.Names.{is_taken, is_within, terms_of, with_change, CanFollow, code_terms-kin, opener-new, NewToken, Spent, Hosting}
 use Rattle.endpoints.proofs.Names.{FitsStore, refusal, fits_later, store_history, Held, IsOfCode, IsOwn, IsRightChange, MayHave, is_of_code, token_life_limit, IsSame, Makes, RedoesChange}
-use Rattle.endpoints.proofs.Names.{RefusesRedo, history_refusal, or_not_right, unless_known, wanting, comes_of, is_right, is_right_of, may_have, may_have_token, CanMake, FitsServer, Outset}
+use Rattle.endpoints.proofs.Names.{RefusesRedo, history_refusal, or_not_right, unless_known, wanting, comes_of, comes_of_family, is_right, may_have, may_have_token, CanMake, FitsServer, Outset}
 use Rattle.endpoints.proofs.Names.{SeenServer, Checked}
 use Rattle.std.specs.Prelude.{◌==◌, Result, Ok, Err}
-use Rattle.std.specs.Option.{option_and_then}
-use Rattle.consent.specs.Seen.{seen_at}
+use Rattle.consent.specs.History.{is_home, is_new, lives}
+use Rattle.consent.specs.HistoryLaws.{no_live-new}
+use Rattle.consent.specs.Owners.{owner_number}
 use Rattle.consent.specs.declared.change.Change.{Change}
 use Rattle.consent.specs.declared.change.Change.TheVariants.{Consented, CodeGiven, Issued, FamilyEnded, HookSet, HookGone}
-use Rattle.token_store.specs.Found.{code_scope_of, found_seen}
-use Rattle.token_store.specs.declared.found.Found.{Found}
+use Rattle.consent.specs.declared.parties.Parties.{Parties}
+use Rattle.token_store.specs.Found.{code_scope_of, family_at, family_of_grant}
 use Rattle.endpoints.specs.RedoParts.{FollowsEach, IsOfHistory}
 use Rattle.endpoints.specs.declared.redo.RedoFault.{RedoFault}
 use Rattle.endpoints.specs.declared.redo.RedoFault.TheVariants.{MomentBack, Store, Hook, Memory}
 use Rattle.endpoints.proofs.Answering.{swept}
-
--- what is found is what is named
-pub known_is : (history : List Event) (digest : List ℕ) (m : ℕ) (o : Option Found) → option_map found_seen o ≡ seen_at history digest m →
-    is_some o ≡ is_some (grant_at history digest m)
-known_is history digest m o is = grind (arith, is)
+use Rattle.endpoints.proofs.Homing.{IsHomeOf, home_family}
 
 -- a digest that nothing refuses is free
 free : (history : List Event) (m : ℕ) (digest : List ℕ) → option_map Store (refusal history m (digest ∷ [])) ≡ None → grant_at history digest m ≡ None
@@ -48,33 +45,49 @@ terms_are : (c o : ℕ) (t : Terms) → t.client ≡ c → t.owner ≡ o → t �
 terms_are c o t client owner =
     ap (λ n. record { client = n; owner = t.owner; scope = t.scope }) client ∙ ap (λ n. record { client = c; owner = n; scope = t.scope }) owner
 
--- what may come of a family is its own client's, or comes of its code
-comes : (history : List Event) (of : List ℕ) (m : ℕ) (g : Grant) (scope : ℕ) → IsHistory history m → grant_at history of m ≡ Some g →
-    comes_of (has_ended history g.family) g.owner (code_scope_of history g) scope ≡ true →
-    IsOwn history g.family g.owner ⊎ IsOfCode history g.family g.client g.owner scope
-comes history of m g scope is at may_come = by (code_terms history g.family) refl may_come
+-- what may come of a home is its own client's, or comes of its code
+comes : (history : List Event) (m family : ℕ) (parties : Parties) (scope : ℕ) → IsHistory history m → is_home history m family parties ≡ true →
+    comes_of_family (family_at history m family) parties.owner scope ≡ true →
+    IsOwn history family parties.owner ⊎ IsOfCode history family parties.client parties.owner scope
+comes history m family parties scope is home may_come =
+    let seen = home_family history m family parties is home in
+    by_terms seen.grant seen (ap (λ o. comes_of_family o parties.owner scope) (sym seen.at) ∙ may_come) (code_terms history seen.grant.family) refl
   where
-    by : (o : Option Terms) → code_terms history g.family ≡ o → comes_of (has_ended history g.family) g.owner (option_map (λ (t : Terms). t.scope) o) scope ≡ true →
-        IsOwn history g.family g.owner ⊎ IsOfCode history g.family g.client g.owner scope
-    by None none h = inl (record { no_owner = eqb-true g.owner 0 h; no_code = uncoded g.family (grants history) none })
-    by (Some t) terms h =
-        let parts = and_parts (is_within scope t.scope) (not (has_ended history g.family)) h in
-        let kin = code_terms-kin history of m g t is.kin at terms in
-        inr (t.scope, terms ∙ ap (λ (x : Terms). Some x) (terms_are g.client g.owner t kin.0 kin.1), parts.0, not-true (has_ended history g.family) parts.1)
+    by_terms : (g : Grant) (seen : IsHomeOf history m family parties) → comes_of (has_ended history seen.grant.family) parties.owner (code_scope_of history seen.grant) scope ≡ true →
+        (o : Option Terms) → code_terms history seen.grant.family ≡ o → IsOwn history family parties.owner ⊎ IsOfCode history family parties.client parties.owner scope
+    by_terms g seen h None none =
+        let own = ap (λ o. comes_of (has_ended history seen.grant.family) parties.owner (option_map (λ (t : Terms). t.scope) o) scope) (sym none) ∙ h in
+        inl (record { no_owner = eqb-true parties.owner 0 own; no_code = uncoded family (grants history) (ap (code_terms history) (sym seen.family_is) ∙ none) })
+    by_terms g seen h (Some t) terms =
+        let of = ap (λ o. comes_of (has_ended history seen.grant.family) parties.owner (option_map (λ (t : Terms). t.scope) o) scope) (sym terms) ∙ h in
+        let parts = and_parts (is_within scope t.scope) (not (has_ended history seen.grant.family)) of in
+        let kin = code_terms-kin history seen.grant.digest m seen.grant t is.kin seen.named terms in
+        inr (
+          t.scope,
+          ap (code_terms history) (sym seen.family_is) ∙ terms
+              ∙ ap (λ (x : Terms). Some x) (terms_are parties.client parties.owner t (kin.0 ∙ seen.client) (kin.1 ∙ seen.owner)),
+          parts.0,
+          ap (has_ended history) (sym seen.family_is) ∙ not-true (has_ended history seen.grant.family) parts.1,
+        )
+
+-- a new family is not there
+new_family : (history : List Event) (m family : ℕ) → is_new history family ≡ true → family_at history m family ≡ None
+new_family history m family new = ap (option_map (family_of_grant history)) (no_live-new history m family new)
+
+-- what may come of a new family is the client's own
+comes_new : (history : List Event) (m family owner scope : ℕ) → is_new history family ≡ true → comes_of_family (family_at history m family) owner scope ≡ true →
+    IsOwn history family owner
+comes_new history m family owner scope new may_come = record {
+  no_owner = eqb-true owner 0 (ap (λ o. comes_of_family o owner scope) (sym (new_family history m family new)) ∙ may_come);
+  no_code = ap is_of_code (opener-new history family new);
+}
 
 -- WHAT COMES NEXT
 
--- what a change means that may come next, and is right
+-- what may come next, and is right
 pub record IsNext (rules : RegistryRecord) (history : List Event) (m : ℕ) (change : Change) : Type 0 where
-  pub next : Happening
-  pub meant : change_of history m change ≡ Some next
-  pub can : CanFollow history m next
-  pub right : IsRightChange rules history next
-
-issued_next : (rules : RegistryRecord) (history : List Event) (m : ℕ) (of : List ℕ) (change : Change) → (o : Option Grant) → grant_at history of m ≡ o →
-    ((g : Grant) → grant_at history of m ≡ Some g → IsNext rules history m change) → is_some o ≡ true → IsNext rules history m change
-issued_next rules history m of change None at go known = absurd (cc)
-issued_next rules history m of change (Some g) at go known = go g at
+  pub can : CanFollow history m (change_of change)
+  pub right : IsRightChange rules history (change_of change)
 
 known_some : (known : Bool) (fault : Option RedoFault) → unless_known known fault ≡ None → (known ≡ true) × (fault ≡ None)
 known_some known fault is = (grind (arith, is), grind (arith, is))
@@ -84,43 +97,29 @@ refusal_parts right fault h = (grind (arith, h), grind (arith, h))
 
 wanted_next : (rules : RegistryRecord) (history : List Event) (m : ℕ) (change : Change) → IsHistory history m → is_right rules history m change ≡ true →
     wanting history m change ≡ None → IsNext rules history m change
-wanted_next rules history m (Consented owner client mask) is right free_of = record { next = _; meant = refl; can = tt; right = tt }
-wanted_next rules history m (CodeGiven facts digest) is right free_of =
+wanted_next rules history m (Consented owner client mask) is right free_of = record { can = tt; right = tt }
+wanted_next rules history m (CodeGiven family facts digest) is right free_of =
     let parts = and_parts (may_have rules facts.client facts.scope) (is_within facts.scope (consented_scope history facts.owner facts.client)) right in
-    record { next = _; meant = refl; can = (refl, free history m digest free_of); right = (may rules facts.client facts.scope parts.0, parts.1) }
-wanted_next rules history m (IssuedAlone client token) is right free_of =
-    let held = may_token rules client token right in
+    let known = known_some (is_new history family) _ free_of in
+    record { can = (known.0, free history m digest known.1); right = (may rules facts.client facts.scope parts.0, parts.1) }
+wanted_next rules history m (Issued home token) is right free_of =
+    let known = known_some (is_new history home.family || is_home history m home.family (parties_of home)) _ free_of in
+    let both = and_parts (may_have_token rules home.client token) (comes_of_family (family_at history m home.family) (owner_number home.owner) token.scope) right in
+    let held = may_token rules home.client token both.0 in
     record {
-      next = _;
-      meant = refl;
-      can = (inl refl, free history m token.digest free_of);
-      right = (held.0, held.1, inl (record { no_owner = refl; no_code = ap is_of_code (opener-fresh history is.placed) }));
+      can = (known.0, free history m token.digest known.1);
+      right = (held.0, held.1, by (is_new history home.family) refl known.0 both.1);
     }
-wanted_next rules history m (Issued of token) is right free_of =
-    let parts = known_some (is_some (grant_at history of m)) _ free_of in
-    issued_next rules history m of (Issued of token) (grant_at history of m) refl
-    (λ g at.
-    let both = and_parts (may_have_token rules g.client token) (comes_of (has_ended history g.family) g.owner (code_scope_of history g) token.scope)
-    (ap (is_right_of rules history token) (sym at) ∙ right) in
-    let held = may_token rules g.client token both.0 in
-    record {
-      next = issued_with token g;
-      meant = ap (option_map (issued_with token)) at;
-      can = (inr (grant_at-kin history of m g is.kin at), free history m token.digest parts.1);
-      right = (held.0, held.1, comes history of m g token.scope is at both.1);
-    }) parts.0
-wanted_next rules history m (Spent digest) is right free_of = record { next = _; meant = refl; can = tt; right = tt }
-wanted_next rules history m (FamilyEnded of) is right free_of =
-    let parts = known_some (is_some (grant_at history of m)) _ free_of in
-    issued_next rules history m of (FamilyEnded of) (grant_at history of m) refl
-    (λ g at. record {
-      next = family_ended g;
-      meant = ap (option_map family_ended) at;
-      can = grant_at-placed history of m g is.placed at;
-      right = tt;
-    }) parts.0
-wanted_next rules history m (HookSet name version code) is right free_of = record { next = _; meant = refl; can = tt; right = tt }
-wanted_next rules history m (HookGone name) is right free_of = record { next = _; meant = refl; can = tt; right = tt }
+  where
+    by : (new : Bool) → is_new history home.family ≡ new → (new || is_home history m home.family (parties_of home)) ≡ true →
+        comes_of_family (family_at history m home.family) (owner_number home.owner) token.scope ≡ true →
+        IsOwn history home.family (owner_number home.owner) ⊎ IsOfCode history home.family home.client (owner_number home.owner) token.scope
+    by true new known may_come = inl (comes_new history m home.family (owner_number home.owner) token.scope new may_come)
+    by false new known may_come = comes history m home.family (parties_of home) token.scope is known may_come
+wanted_next rules history m (Spent digest) is right free_of = record { can = tt; right = tt }
+wanted_next rules history m (FamilyEnded family) is right free_of = record { can = (known_some (lives history m family) _ free_of).0; right = tt }
+wanted_next rules history m (HookSet name version code) is right free_of = record { can = tt; right = tt }
+wanted_next rules history m (HookGone name) is right free_of = record { can = tt; right = tt }
 
 pub next_of : (rules : RegistryRecord) (history : List Event) (m : ℕ) (change : Change) → IsHistory history m → history_refusal rules history m change ≡ None →
     IsNext rules history m change
@@ -179,16 +178,12 @@ module _ {H : Type 0} (hosting : Hosting H) where
       let makes = subst (λ cs. Makes hosting (record mid { greatest = moment }) cs checked applied) only wide in
       let now = swept hosting mid outset history m moment mid.store (omega (arith, le, fits.greatest_is)) (same.fits outset history m fits) (λ f. f) in
       let n = next_of outset.rules history moment change (store_history mid.store history moment now.store) (follows outset history m fits) in
-      let meant : changes_of history moment (change ∷ []) ≡ Some (n.next ∷ []) =
-      ap (λ o. option_and_then (λ (c : Happening). option_map (λ later. c ∷ later) (changes_of (with_change history moment c) moment [])) o) n.meant in
-      let done = makes outset history (n.next ∷ []) now meant (n.can, tt) (n.right, tt) (rw same.host can) in (
-        n.next,
-        n.meant,
+      let done = makes outset history now (n.can, tt) (n.right, tt) (rw same.host can) in (
         n.can,
         record {
           rules_are = done.rules_are;
           greatest_is = done.greatest_is;
-          store = dropped (with_change history moment n.next) done.store;
+          store = dropped (with_change history moment (change_of change)) done.store;
           consents = done.consents;
           hosts = done.hosts;
           right = done.right;

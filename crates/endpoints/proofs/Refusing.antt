@@ -1,5 +1,5 @@
 -- What a host's refusal comes to.
-use Rattle.std.proofs.Common.{◌≡◌, ap, Option, Some, arith}
+use Rattle.std.proofs.Common.{◌≡◌, Option, Some, arith}
 use Rattle.endpoints.proofs.Names.{◌≢◌, HookFault, Hosting, plain, refused_body, only, Setting, Halt, Refuse, NoMemory, IsHostFault, by_fault, IsHookRefused, RulesHooks, Ruling}
 use Rattle.std.specs.Prelude.{Result, Ok, Err}
 use Rattle.consent.specs.History.{Change}
@@ -15,4 +15,4 @@ pub refused_rules : {H : Type 0} (hosting : Hosting H) (host : H) (s : Setting) 
 refused_rules hosting host s change asked fault (Err (Refuse error)) is host_fault refusal = absurd refusal
 refused_rules hosting host s change asked fault (Err NoMemory) is host_fault refusal = tt
 refused_rules hosting host s change asked fault (Ok ruling) is host_fault refusal =
-    rw is (rw (refusal.1) (Some fault, host_fault, ap Some (fault_told asked fault refusal.0), tt))
+    rw is (rw (refusal.1) (Some fault, host_fault, fault_told asked fault refusal.0, tt))

@@ -8,9 +8,8 @@ use Rattle.std.specs.Str.{bytes_eq}
 use Rattle.std.proofs.lemmas.Slice.Eq.{bytes_eq-Decides}
 use Rattle.consent.specs.History.{Change}
 use Rattle.consent.specs.ListLaws.{find-map, find-one, find-passes}
-use Rattle.consent.specs.declared.kept_consent.KeptConsent.{KeptConsent}
+use Rattle.endpoints.specs.Restoring.{Remains}
 use Rattle.token_store.specs.Image.{as_kept, kept_record}
-use Rattle.consent.specs.declared.kept_record.KeptRecord.{KeptRecord}
 use Rattle.endpoints.proofs.Sound.{right_may, right_token}
 use Rattle.endpoints.proofs.Walking.{option_map_some}
 
@@ -46,8 +45,8 @@ module _ (rules : RegistryRecord) (history : List Event) (m : ℕ) (is : IsHisto
   )
 
   -- what it leaves under a digest is allowed
-  pub allowed : (number : ℕ → ℕ) → is_allowed rules m (to_keep history number digest m g) ≡ true
-  allowed number =
+  pub allowed : is_allowed rules m (to_keep history digest m g) ≡ true
+  allowed =
       let k = keeps g.kind refl in
       let may = may_back rules g.client g.scope k.0 in
       let within = k.1 in
@@ -63,9 +62,11 @@ first_not p (x ∷ xs) none = elim (cases_Bool (p x)) [
 ]
 
 -- no right history leaves what is not allowed
-pub none_right : (rules : RegistryRecord) (records : List KeptRecord) (given : List KeptConsent) (m : ℕ) → are_allowed rules m records ≡ false →
-    (history : List Event) → AreOf records given history m → AllRight rules [] history → ⊥
-none_right rules records given m bad history are all =
+pub none_right : (rules : RegistryRecord) (left : Remains) → are_allowed rules left.moment left.records ≡ false →
+    (history : List Event) → AreOf left history → AllRight rules [] history → ⊥
+none_right rules left bad history are all =
+    let records = left.records in
+    let m = left.moment in
     let first = first_not (λ r. is_allowed rules m (kept_record r)) records bad in
     let k = kept_record first.0 in
     let found : find (λ k. not (is_allowed rules m k)) (as_kept records) ≡ Some k =
@@ -74,6 +75,6 @@ none_right rules records given m bad history are all =
     let live : is_unexpired m k.grant ≡ true = grind (arith, nat_tests, wrong) in
     let named : is_named k.grant.digest m k.grant ≡ true = and_from (bytes_eq k.grant.digest k.grant.digest) (is_unexpired m k.grant) ((bytes_eq-Decides k.grant.digest k.grant.digest).1 refl) live in
     let there : kept_at (as_kept records) k.grant.digest m ≡ Some k =
-    find-one (λ (x : Kept). is_named k.grant.digest m x.grant) (λ k. not (is_allowed rules m k)) (as_kept records) k (are.kept.fits.once k.grant.digest) found named in
-    option_map_some (to_keep history are.kept.number k.grant.digest m) (grant_at history k.grant.digest m) k (sym (are.kept.fits.answers k.grant.digest m (omega arith)) ∙ there) (λ g at same.
-    false≢true (sym wrong ∙ ap (is_allowed rules m) (sym same) ∙ allowed rules history m are.kept.fits.is_history all k.grant.digest g at are.kept.number))
+    find-one (λ (x : Kept). is_named k.grant.digest m x.grant) (λ k. not (is_allowed rules m k)) (as_kept records) k (are.kept.once k.grant.digest) found named in
+    option_map_some (to_keep history k.grant.digest m) (grant_at history k.grant.digest m) k (sym (are.kept.answers k.grant.digest m (omega arith)) ∙ there) (λ g at same.
+    false≢true (sym wrong ∙ ap (is_allowed rules m) (sym same) ∙ allowed rules history m are.kept.is_history all k.grant.digest g at))

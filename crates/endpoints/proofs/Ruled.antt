@@ -1,6 +1,6 @@
 -- A decision is a ruling that the server can carry out.
 use Rattle.std.proofs.Common.{◌≡◌, inl, ◌∙◌, ap, sym, subst, ℕ, List, [], ◌∷◌, Bool, true, Option, Some, None, arith}
-use Rattle.endpoints.proofs.Names.{IfOk, result_ok, read_params, change_of, changes_of, as_list, begins, Event}
+use Rattle.endpoints.proofs.Names.{IfOk, result_ok, read_params, change_of, changes_of, as_list, Event}
 use Rattle.endpoints.proofs.Names.{happening, HookFault, Hosting, Asked, query_of, InvalidRequest, AccessDenied, Draws, Halts, Outcome, bare, need, point, refuse, reply_of}
 use Rattle.endpoints.proofs.Names.{Parameters, form_of, Setting, outcome_told, Halt, store_history, Checked, NoHook, Installs, Removes, Ruling, hook_change_at, hook_gone}
 use Rattle.endpoints.proofs.Names.{hook_set_by, is_operator, with_operator, IsHostFault, hook_points, CanMake, CanMakeAll, CanTake}
@@ -14,33 +14,29 @@ use Rattle.endpoints.specs.Reading.{IsRequestRead}
 use Rattle.endpoints.proofs.Fair.{AllUnhooked, IsHookless, IsUnhooked, way_fair, way_unhooked}
 use Rattle.endpoints.proofs.ReadingOn.{points_of}
 use Rattle.endpoints.proofs.Sound.{IsFair}
-use Rattle.endpoints.proofs.Walking.{option_map_some}
 use Rattle.endpoints.proofs.Ways.{IsAt, Way, ByToken, token_at, at_authorize, at_consent, at_document, at_hooks, at_introspect, at_revoke, at_token, is_of_hooks, outcome_by}
 use Rattle.endpoints.specs.HookPaths.{change_hooks, installation, removal}
 
 -- WITHOUT A CHANGE OF THE HOOKS
 
 module _ {H : Type 0} (hosting : Hosting H) where
-  made : (host : H) (history : List Event) (m : ℕ) (c : Change) (next : happening) → change_of history m c ≡ Some next → IsUnhooked next → CanMake hosting host c NoHook
-  made host history m c next is tame = grind (arith, is, tame)
+  made : (host : H) (c : Change) → IsUnhooked (change_of c) → CanMake hosting host c NoHook
+  made host c tame = grind (arith, tame)
 
-  made_all : (host : H) (history : List Event) (m : ℕ) (cs : List Change) (next : List happening) → changes_of history m cs ≡ Some next →
-      AllUnhooked next → CanMakeAll hosting host cs NoHook
-  made_all host history m [] next is tame = tt
-  made_all host history m (c ∷ d ∷ cs) next is tame = tt
-  made_all host history m (c ∷ []) next is tame = let b = begins history m c [] next is in made host history m c b.first b.first_is (subst AllUnhooked b.told_is tame).0
+  made_all : (host : H) (cs : List Change) → AllUnhooked (changes_of cs) → CanMakeAll hosting host cs NoHook
+  made_all host [] tame = tt
+  made_all host (c ∷ d ∷ cs) tame = tt
+  made_all host (c ∷ []) tame = made host c tame.0
 
-  -- what was told of a decision is what its changes mean, and its reply
-  pub told_parts : (s : Setting) (d : Decision) (o : Outcome) → outcome_told s d ≡ Some o →
-      (changes_of s.history s.moment (as_list d.changes) ≡ Some o.changes) × (o.reply ≡ reply_of s.rules s.host.names d.answer)
-  told_parts s d o is =
-      option_map_some (λ changes. record { reply = reply_of s.rules s.host.names d.answer; changes = changes }) (changes_of s.history s.moment (as_list d.changes)) o is
-      (λ changes are same. (are ∙ ap (λ (o : Outcome). Some o.changes) same, sym (ap (λ (o : Outcome). o.reply) same)))
+  -- what was told of a decision is what its changes say, and its reply
+  pub told_parts : (s : Setting) (d : Decision) (o : Outcome) → outcome_told s d ≡ o →
+      (changes_of (as_list d.changes) ≡ o.changes) × (o.reply ≡ reply_of s.rules s.host.names d.answer)
+  told_parts s d o is = (ap (λ (o : Outcome). o.changes) is, sym (ap (λ (o : Outcome). o.reply) is))
 
   -- an outcome without a change of the hooks
   pub alone_ruling : (server : SeenServer H) (history : List Event) (asking : Asking) (d : Decision) →
       IsFair (setting_now hosting server history asking.draws None) (comes_to hosting server history asking None) × AllUnhooked (comes_to hosting server history asking None).changes →
-      outcome_told (setting_now hosting server history asking.draws None) d ≡ Some (comes_to hosting server history asking None) →
+      outcome_told (setting_now hosting server history asking.draws None) d ≡ comes_to hosting server history asking None →
       IsRuling hosting server history asking (record { decision = d; checked = NoHook })
   alone_ruling server history asking d fair is =
       let changes = (told_parts (setting_now hosting server history asking.draws None) d (comes_to hosting server history asking None) is).0 in
@@ -50,7 +46,7 @@ module _ {H : Type 0} (hosting : Hosting H) where
         told_is = is;
         follow = fair.0.follow;
         right = fair.0.right;
-        hooks = made_all server.host history server.greatest (as_list d.changes) _ changes fair.1;
+        hooks = made_all server.host (as_list d.changes) (subst AllUnhooked (sym changes) fair.1);
       }
 
 module _ {H : Type 0} (hosting : Hosting H) (server : SeenServer H) (first : H) (history : List Event) (asked : Asked) (draws : Draws) (fits : FitsNow hosting server first history) where
@@ -107,8 +103,8 @@ module _ {H : Type 0} (hosting : Hosting H) (server : SeenServer H) (history : L
   hooks_ruled (Err halt) points same fair rules = subst (λ o. Halts halt o) (sym (points None)) rules
   hooks_ruled (Ok ruling) points same fair rules =
       let fault = rules.0 in
-      let told_is : outcome_told (setting_now hosting server history asking.draws fault) ruling.decision ≡ Some (comes_to hosting server history asking fault) =
-      rules.2 ∙ ap Some (sym (points fault)) in
+      let told_is : outcome_told (setting_now hosting server history asking.draws fault) ruling.decision ≡ comes_to hosting server history asking fault =
+      rules.2 ∙ sym (points fault) in
       record {
         fault = fault;
         host_has = subst (λ c. IsHostFault hosting server.host c fault) (sym same) rules.1;

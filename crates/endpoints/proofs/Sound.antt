@@ -1,24 +1,25 @@
 -- What comes of codes and tokens may come next and is right.
-use Rattle.std.proofs.Common.{◌≡◌, ◌≤◌, ℕ, List, [], ◌∷◌, ◌++◌, true, false, Some, bit_and, refl, sym, ap, ◌∙◌, arith, subst, inl, inr}
+use Rattle.std.proofs.Common.{◌≡◌, ◌≤◌, ℕ, List, [], ◌∷◌, ◌++◌, true, false, Some, None, bit_and, refl, sym, ap, ◌∙◌, arith, subst, inl, inr}
 use Rattle.endpoints.proofs.Names.{eq-eqb, false≢true, same_Some, sha256, RegistryRecord, is_within-trans, code_terms-keep, has_ended-push_other}
 use Rattle.endpoints.proofs.Names.{Event, Grant, event_at, grant_by, grant_at, is_code, is_within, code_terms, has_ended, grant_at-given, Kind, Allowed, Reply, Extent}
 use Rattle.endpoints.proofs.Names.{Outcome, only, Parameters, scope_within, Setting, is_refresh, ends_family, access_issued, both_digests}
-use Rattle.endpoints.proofs.Names.{all_right-at, AllFollow, IsHistory, CanFollow, with_change, is_taken, is_taken-parts, grant_at-placed, grant_at-kin, left_by_host, new_token, AllRight}
+use Rattle.endpoints.proofs.Names.{all_right-at, AllFollowAt, IsHistory, CanFollow, with_change, is_taken, is_taken-parts, home_of, lives_of, left_by_host, new_token, AllRight}
 use Rattle.endpoints.proofs.Names.{AllRightAfter, IsRightChange, IsOfCode, IsOwn, MayHave, allowed_to, own-later}
 use Rattle.std.specs.Prelude.{◌⊎◌}
 use Rattle.consent.specs.History.{Change}
 use Rattle.consent.specs.History.Change.{CodeGiven, Issued, Spent}
-use Rattle.consent.specs.HistoryLaws.{is_history-push}
+use Rattle.consent.specs.Changes.{issued_with}
+use Rattle.consent.specs.declared.change.NewToken.{NewToken}
 use Rattle.consent.specs.GrowthLaws.{grant_at-keep, is_taken-push}
 use Rattle.token_endpoint.specs.Grants.{refresh_issued}
-use Rattle.consent.specs.declared.grant.TokenKind.TheVariants.{Access}
+use Rattle.consent.specs.declared.grant.TokenKind.TheVariants.{Access, Refresh}
 use Rattle.hook_record.specs.declared.Ask.{Ask}
 use Rattle.hook_host.specs.DecisionLaws.{met_with_narrows}
 use Rattle.endpoints.proofs.Ways.{both_issued, one_issued}
 
 -- the changes may come next, and each is right
 pub record IsFair (s : Setting) (o : Outcome) : Type 0 where
-  pub follow : AllFollow s.history s.moment o.changes
+  pub follow : AllFollowAt s.history s.moment o.changes
   pub right : AllRightAfter s.rules s.history s.moment o.changes
 
 -- a client that may have a scope may have less
@@ -114,27 +115,32 @@ module _ (s : Setting) where
 -- what comes of a right grant that is in the history
 module _ (s : Setting) (is : IsHistory s.history s.moment) (digest : List ℕ) (g : Grant) (at : grant_at s.history digest s.moment ≡ Some g) where
   pub ends_fair : IsFair s (ends_family g)
-  ends_fair = record { follow = (grant_at-placed s.history digest s.moment g is.placed at, tt); right = (tt, tt) }
+  ends_fair = record { follow = (lives_of s.history digest s.moment g at, tt); right = (tt, tt) }
+
+  -- a token may be issued in its family
+  can_join : (history : List Event) (new : NewToken) → grant_at history digest s.moment ≡ Some g → has_ended history g.family ≡ false →
+      grant_at history new.digest s.moment ≡ None → CanFollow history s.moment (issued_with new g)
+  can_join history new there alive free = (let home = home_of history digest s.moment g there alive in grind (arith, home), free)
 
   -- tokens of both draws in its family
-  both_follow : (left kept : Extent) → is_taken s.history s.moment (both_digests s.draws) ≡ false →
-      AllFollow s.history s.moment (access_issued g s.draws.first left ∷ refresh_issued g s.draws.second kept ∷ Spent g.digest ∷ [])
-  both_follow left kept free =
+  both_follow : (left kept : Extent) → has_ended s.history g.family ≡ false → is_taken s.history s.moment (both_digests s.draws) ≡ false →
+      AllFollowAt s.history s.moment (access_issued g s.draws.first left ∷ refresh_issued g s.draws.second kept ∷ Spent g.digest ∷ [])
+  both_follow left kept alive free =
       let m = s.moment in
       let change : Change = access_issued g s.draws.first left in
       let first = (is_taken-parts s.history m (sha256 s.draws.first) (sha256 s.draws.second ∷ []) free).0 in
-      let can : CanFollow s.history m change = (inr (grant_at-kin s.history digest m g is.kin at), first) in
-      let next = is_history-push s.history m change is can in
+      let can : CanFollow s.history m change = can_join s.history (new_token Access s.draws.first left) at alive first in
       let still_there = grant_at-keep s.history (event_at m change ∷ []) digest m g at in
+      let still_alive = has_ended-push_other s.history (event_at m change) g.family refl ∙ alive in
       let second = is_taken-push s.history (event_at m change) _ m (sha256 s.draws.second ∷ []) refl free in
       let untaken = (is_taken-parts (with_change s.history m change) m (sha256 s.draws.second) [] second).0 in
-      (can, ((inr (grant_at-kin (with_change s.history m change) digest m g next.kin still_there), untaken), (tt, tt)))
+      (can, (can_join (with_change s.history m change) (new_token Refresh s.draws.second kept) still_there still_alive untaken, (tt, tt)))
 
   pub access_fair : (left : Extent) → IsRightToken s.rules s.history g → has_ended s.history g.family ≡ false →
       is_within left.scope g.scope ≡ true → left.life ≤ s.rules.access_life →
       is_taken s.history s.moment (sha256 s.draws.first ∷ []) ≡ false → IsFair s (one_issued s g left)
   access_fair left right alive within short free = record {
-    follow = ((inr (grant_at-kin s.history digest s.moment g is.kin at), (is_taken-parts s.history s.moment (sha256 s.draws.first) [] free).0), (tt, tt));
+    follow = (can_join s.history (new_token Access s.draws.first left) at alive (is_taken-parts s.history s.moment (sha256 s.draws.first) [] free).0, (tt, tt));
     right = (
       (may_have-less s.rules g.client g.scope left.scope right.0 within, short, first s g left.scope alive within right.1),
       (tt, tt),
@@ -145,7 +151,7 @@ module _ (s : Setting) (is : IsHistory s.history s.moment) (digest : List ℕ) (
       is_within left.scope g.scope ≡ true → is_within kept g.scope ≡ true → left.life ≤ s.rules.access_life →
       is_taken s.history s.moment (both_digests s.draws) ≡ false → IsFair s (both_issued s g left kept)
   both_fair left kept right alive within more short free = record {
-    follow = both_follow left (record { scope = kept; life = s.rules.refresh_life }) free;
+    follow = both_follow left (record { scope = kept; life = s.rules.refresh_life }) alive free;
     right = (
       (may_have-less s.rules g.client g.scope left.scope right.0 within, short, first s g left.scope alive within right.1),
       (

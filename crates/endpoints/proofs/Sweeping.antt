@@ -20,7 +20,7 @@ module _ {H : Type 0} (hosting : Hosting H) where
       let there : FitsStore mid.store after mid.greatest = subst (λ (n : ℕ). FitsStore mid.store after n) (sym fits.greatest_is) fits.store in
       let here : FitsStore kept after mid.greatest = dropped after there in
       let other : FitsStore kept history mid.greatest = subst (λ (n : ℕ). FitsStore kept history n) (sym fits'.greatest_is) fits'.store in
-      few after there ∙ sym (here.fits.count mid.greatest (omega arith)) ∙ other.fits.count mid.greatest (omega arith)
+      few after there ∙ sym (here.kept.count mid.greatest (omega arith)) ∙ other.kept.count mid.greatest (omega arith)
       ∙ ap (unexpired_count history) fits'.greatest_is
 
   pub sweeps : (old mid : SeenServer H) (kept : Held) (arrival : Arrival) (reply : Written) →

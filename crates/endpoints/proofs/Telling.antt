@@ -1,14 +1,12 @@
 -- What was decided is what the points come to.
 use Rattle.std.proofs.Common.{◌≡◌, ◌∙◌, ◌+◌, ap, sym, subst, refl, ℕ, List, [], ◌∷◌, Bool, true, false, Option, Some, arith}
 use Rattle.endpoints.specs.Names.{scope_text, TokenKind}
-use Rattle.endpoints.proofs.Names.{eq-eqb, eqb-true, eqb-false, ne_eqb, not-true, not-false, RegistryRecord, Event, Grant, grant_at, has_consent_room}
-use Rattle.endpoints.proofs.Names.{where_good, Kind, Code, Token, One, consent_body, plain, Active, Empty, Inactive, InvalidGrant, Halts, Outcome, bare, need, only, point, refuse, unavailable, id_of}
-use Rattle.endpoints.proofs.Names.{Setting, outcome_told, Halt, consent_given, introspect, told_of, live_of, with_presented, Presented, revoke_token, revoked, Asked}
+use Rattle.endpoints.proofs.Names.{eq-eqb, eqb-true, eqb-false, ne_eqb, not-true, not-false, RegistryRecord, Event, Grant, has_consent_room}
+use Rattle.endpoints.proofs.Names.{where_good, Kind, Code, Token, consent_body, plain, Active, Inactive, InvalidGrant, Halts, Outcome, bare, need, only, point, refuse, unavailable, id_of}
+use Rattle.endpoints.proofs.Names.{Setting, Halt, consent_given, introspect, told_of, live_of, with_presented, Presented, revoke_token, revoked, Asked}
 use Rattle.std.specs.Prelude.{◌==◌, not}
 use Rattle.clients.specs.Owners.{sub_of}
-use Rattle.consent.specs.History.Change.{Consented, FamilyEnded}
-use Rattle.consent.specs.declared.change.Change.TheVariants as change
-use Rattle.answers.specs.declared.answer.Answer.TheVariants as answer
+use Rattle.consent.specs.History.Change.{Consented}
 
 -- the points are others that end so
 pub halts_by : (halt : Halt) (points same : Outcome) → points ≡ same → Halts halt same → Halts halt points
@@ -31,10 +29,6 @@ consent_room s owner client mask room = rw room refl
 pub good : (history : List Event) (digest : List ℕ) (m : ℕ) (at : Option Grant) (g : Grant) →
     where_good history digest m at ≡ Some g → at ≡ Some g
 good history digest m at g is = grind (arith, is)
-
--- the live token is named
-pub live_named : (history : List Event) (digest : List ℕ) (m : ℕ) (g : Grant) → live_of history m (Some digest) ≡ Some g → grant_at history digest m ≡ Some g
-live_named history digest m g is = grind (arith, is)
 
 -- what is done of the live token, if there is one
 abbrev pub revoked_by : ℕ → Option Grant → Outcome
@@ -66,11 +60,6 @@ differs b n k is true_is = eqb-false n k (not-true (n == k) (sym is ∙ true_is)
 
 pub agrees : (b : Bool) (n k : ℕ) → b ≡ not (n == k) → b ≡ false → n ≡ k
 agrees b n k is false_is = eqb-true n k (not-false (n == k) (sym is ∙ false_is))
-
-pub revoked_told : (s : Setting) (digest : List ℕ) (g : Grant) → grant_at s.history digest s.moment ≡ Some g →
-    outcome_told s (record { answer = answer.Done; changes = One (change.FamilyEnded digest) })
-    ≡ Some (record { reply = plain 200 Empty; changes = FamilyEnded g.family ∷ [] })
-revoked_told s digest g at = rw at refl
 
 -- WHAT WAS PRESENTED
 

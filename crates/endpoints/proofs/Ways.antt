@@ -1,5 +1,5 @@
 -- The ways that a request may go to its outcome, and what it has passed on each.
-use Rattle.std.proofs.Common.{◌≡◌, ◌⊎◌, ℕ, List, [], ◌∷◌, Bool, true, false, Option, Some, None, Result, Ok, Err, length, refl, sym, ap, subst, ◌∙◌, arith}
+use Rattle.std.proofs.Common.{◌≡◌, ◌⊎◌, ℕ, List, [], ◌∷◌, Bool, true, false, Option, Some, None, Result, Ok, Err, refl, sym, ap, subst, ◌∙◌, arith}
 use Rattle.endpoints.proofs.Names.{result_ok, eqb-true, false≢true, not-true, nat_tests, sha256, read_params, value_sent, RegistryRecord, ClientRecord, client_at, has_grant, grant_named}
 use Rattle.endpoints.proofs.Names.{AuthorizationCode}
 use Rattle.endpoints.proofs.Names.{RefreshToken, ClientCredentials, told as Change, Grant, grant_at, live_grant, is_code, is_spent, is_taken, has_ended, consented_scope, is_within}
@@ -20,6 +20,7 @@ use Rattle.hook_record.specs.declared.Ask.{Ask}
 use Rattle.hook_record.specs.declared.Narrowed.{Narrowed}
 use Rattle.hook_record.specs.Narrowing.{IsNarrowing}
 use Rattle.messages.specs.Reply.{Body, hook_body}
+use Rattle.consent.specs.History.{next_family}
 use Rattle.token_endpoint.specs.Grants.{issued_alone, refresh_issued}
 use Rattle.token_endpoint.specs.TokenPath.{issue_token, grant_points}
 use Rattle.endpoints.specs.HookPaths.{change_hooks}
@@ -142,10 +143,10 @@ both_issued s g left kept = record {
       ∷ [];
 }
 
-abbrev pub own_issued : Setting → ℕ → Extent → Outcome
-own_issued s client left = record {
+abbrev pub own_issued : Setting → ℕ → ℕ → Extent → Outcome
+own_issued s family client left = record {
   reply = access_reply s.rules s.draws.first left.scope left.life;
-  changes = issued_alone s client left ∷ [];
+  changes = issued_alone s family client left ∷ [];
 }
 
 -- the host leaves so much of the ask
@@ -172,7 +173,7 @@ pub data TokenWay (s : Setting) (asked : Asked) : Type 0 where
   Refreshed : (x : Refreshing s asked) (left : Extent) → IsLeft s (refresh_ask x) left →
       is_taken s.history s.moment (both_digests s.draws) ≡ false → TokenWay s asked
   Own : (sender : Sender s.rules asked) → value_sent (codes "grant_type") sender.params ≡ Some (codes "client_credentials") →
-      (scope : ℕ) (left : Extent) → IsLeft s (own_ask s sender.known scope) left →
+      (scope : ℕ) (left : Extent) (family : ℕ) → next_family s.history ≡ Some family → IsLeft s (own_ask s sender.known scope) left →
       (is_taken s.history s.moment (sha256 s.draws.first ∷ []) ≡ false) × (scope_within s.rules sender.known.client.allowed sender.params ≡ Some scope) → TokenWay s asked
 
 -- where they lead
@@ -184,7 +185,7 @@ token_outcome (InVain x error) = spent_in_vain x.code.grant error
 token_outcome {s = s} (Once x left is untaken) = one_issued s x.code.grant left
 token_outcome {s = s} (Twice x left is untaken) = both_issued s x.code.grant left left.scope
 token_outcome {s = s} (Refreshed x left is untaken) = both_issued s x.token.grant left x.token.grant.scope
-token_outcome {s = s} (Own sender typed scope left is untaken) = own_issued s sender.known.number left
+token_outcome {s = s} (Own sender typed scope left family new is untaken) = own_issued s family sender.known.number left
 
 -- the setting with a host that allows all, and has these names and this fault
 abbrev pub open_to_all : Setting → Setting
@@ -199,7 +200,7 @@ abbrev pub beside : {s : Setting} {asked : Asked} → TokenWay s asked → Outco
 beside {s = s} (Once x left is untaken) other = one_issued s x.code.grant (whole (code_ask x))
 beside {s = s} (Twice x left is untaken) other = both_issued s x.code.grant (whole (code_ask x)) x.code.grant.scope
 beside {s = s} (Refreshed x left is untaken) other = both_issued s x.token.grant (whole (refresh_ask x)) x.token.grant.scope
-beside {s = s} (Own sender typed scope left is untaken) other = own_issued s sender.known.number (whole (own_ask s sender.known scope))
+beside {s = s} (Own sender typed scope left family new is untaken) other = own_issued s family sender.known.number (whole (own_ask s sender.known scope))
 beside way other = other
 
 -- what an ask holds some of is left of it by a host that allows all
@@ -335,8 +336,9 @@ module _ (P : Outcome → Outcome → Type 0) (s : Setting) (asked : Asked)
         both_need P {A = ℕ} (scope_within s.rules sender.known.client.allowed sender.params) (refuse InvalidScope) _ _ (no InvalidScope) (λ scope asks.
         let ask = own_ask s sender.known scope in
         at_left P s ask (refuse UnauthorizedClient) (refuse InvalidScope) _ _ (ways (Refused UnauthorizedClient)) (ways (Refused InvalidScope)) (λ left is.
-        both_untaken P s (sha256 s.draws.first ∷ []) (own_issued s sender.known.number left) (own_issued s sender.known.number (whole ask))
-        none (λ untaken. ways (Own sender typed scope left is (untaken, asks)) unavailable)))
+        both_need P {A = ℕ} (next_family s.history) unavailable _ _ none (λ family new.
+        both_untaken P s (sha256 s.draws.first ∷ []) (own_issued s family sender.known.number left) (own_issued s family sender.known.number (whole ask))
+        none (λ untaken. ways (Own sender typed scope left family new is (untaken, asks)) unavailable))))
 
     by_type : (grant : GrantType) → value_sent (codes "grant_type") sender.params ≡ Some (type_name grant) →
         P (grant_points grant s sender.params sender.known) (grant_points grant (open_to_all s) sender.params sender.known)
@@ -392,7 +394,7 @@ pub data Way (s : Setting) (asked : Asked) : Type 0 where
   Quiet : (status : ℕ) (body : Body) → (status ≡ 302 → ⊥) → (IsActive body → ⊥) → Way s asked
   ByToken : TokenWay s asked → Way s asked
   Turned : Turn s asked → ErrorName → Way s asked
-  Coded : (x : Turn s asked) (code : GivenCode) → owner_of_key s.rules asked ≡ Some code.owner → IsCodeOf x code → Way s asked
+  Coded : (x : Turn s asked) (code : GivenCode) (family : ℕ) → next_family s.history ≡ Some family → owner_of_key s.rules asked ≡ Some code.owner → IsCodeOf x code → Way s asked
   Consents : (owner client mask : ℕ) → owner_of_key s.rules asked ≡ Some owner → Way s asked
   Revokes : (x : Shown s asked) → x.token.client ≡ x.sender.known.number → Way s asked
   Tells : Shown s asked → Way s asked
@@ -404,9 +406,9 @@ abbrev pub outcome_by : {s : Setting} {asked : Asked} → Way s asked → Outcom
 outcome_by (Quiet status body moves active) = only (plain status body)
 outcome_by (ByToken way) = token_outcome way
 outcome_by (Turned x error) = turned_back x.uri x.params error
-outcome_by {s = s} (Coded x code key of) = record {
+outcome_by {s = s} (Coded x code family new key of) = record {
   reply = sent_back x.uri (codes "code") (token_text s.draws.first) (state_sent x.params);
-  changes = CodeGiven (length s.history) code (sha256 s.draws.first) ∷ [];
+  changes = CodeGiven family code (sha256 s.draws.first) ∷ [];
 }
 outcome_by {s = s} (Consents owner client mask key) =
     record { reply = plain 200 (consent_body (scope_text s.rules.scopes mask)); changes = Consented owner client mask ∷ [] }
@@ -420,7 +422,7 @@ abbrev pub IsAt : (Endpoint → Type 0) → {s : Setting} {asked : Asked} → Wa
 IsAt At (ByToken Wanting) = Unit {0}
 IsAt At (ByToken (Refused error)) = Unit {0}
 IsAt At (ByToken way) = At endpoint.IssueToken
-IsAt At (Coded x code key of) = At endpoint.Authorize
+IsAt At (Coded x code family new key of) = At endpoint.Authorize
 IsAt At (Consents owner client mask key) = At endpoint.GiveConsent
 IsAt At (Revokes x own) = At endpoint.RevokeToken
 IsAt At (Installs name version code operator) = At endpoint.InstallHook ⊎ At endpoint.RemoveHook
@@ -454,7 +456,8 @@ module _ (P : Outcome → Type 0) (s : Setting) (asked : Asked) (At : Endpoint �
       at_need P {A = ℕ} (scope_within s.rules known.client.allowed params) (turned_back uri params InvalidScope) _ (ways (Turned x InvalidScope) tt) (λ scope asks.
       at_need P {A = ℕ} (owner_of_key s.rules asked) (turned_back uri params AccessDenied) _ (ways (Turned x AccessDenied) tt) (λ owner key.
       at_unless P (is_within scope (consented_scope s.history owner known.number)) (turned_back uri params AccessDenied) _ (ways (Turned x AccessDenied) tt) (λ consented.
-      both_untaken (λ o _. P o) s (sha256 s.draws.first ∷ []) _ unavailable wanting (λ untaken. ways (Coded x (record { client = known.number; owner = owner; scope = scope; redirect = uri; challenge = challenge }) key (refl, refl, grind (arith, asks), consented, untaken)) here)))))))))))
+      at_need P {A = ℕ} (next_family s.history) unavailable _ wanting (λ family new.
+      both_untaken (λ o _. P o) s (sha256 s.draws.first ∷ []) _ unavailable wanting (λ untaken. ways (Coded x (record { client = known.number; owner = owner; scope = scope; redirect = uri; challenge = challenge }) family new key (refl, refl, grind (arith, asks), consented, untaken)) here))))))))))))
 
   pub at_consent : At endpoint.GiveConsent → P (give_consent s asked)
   at_consent here =

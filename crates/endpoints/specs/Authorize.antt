@@ -1,11 +1,12 @@
 -- GET /authorize (RFC 6749, section 4.1.1; RFC 7636, section 4.3)
 use Rattle.std.specs.Prelude.{◌&&◌, ◌≤◌, ℕ, List, [], ◌∷◌, not, Option, codes, bytes_eq, length, option_and_then, unwrap_or}
 use Rattle.endpoints.specs.Names.{result_ok, read_params, value_sent, ClientRecord, has_redirect, has_grant, AuthorizationCode, is_within, consented_scope, GivenCode, Asked, query_of, ErrorName}
-use Rattle.endpoints.specs.Names.{InvalidRequest, InvalidScope, UnauthorizedClient, UnsupportedResponseType, AccessDenied, sent_back, error_text, Outcome, point, need, only, refuse, unless_taken}
+use Rattle.endpoints.specs.Names.{InvalidRequest, InvalidScope, UnauthorizedClient, UnsupportedResponseType, AccessDenied, sent_back, error_text, Outcome, point, need, only, refuse, unavailable, unless_taken}
 use Rattle.endpoints.specs.Names.{Parameters, client_named, owner_of_key, scope_within, Setting, state_limit, where_passes}
 use Rattle.sha2.specs.Sha256.{sha256}
 use Rattle.pkce.specs.Proof.{is_challenge}
 use Rattle.pkce.specs.Token.{token_text}
+use Rattle.consent.specs.History.{next_family}
 use Rattle.consent.specs.History.Change.{CodeGiven}
 
 -- the point "the parameters of the query"
@@ -35,15 +36,17 @@ challenge_sent params =
     (λ method. where_passes (λ challenge. bytes_eq method (codes "S256") && is_challenge challenge) (value_sent (codes "code_challenge") params))
     (value_sent (codes "code_challenge_method") params)
 
--- the user agent is sent back with a code: its text is the draw's, and its digest is kept
+-- The user agent is sent back with a code, which opens a family, as long as there is a number for one: its text is the draw's,
+-- and its digest is kept.
 abbrev pub code_sent_back : Setting → Parameters → GivenCode → Outcome
 code_sent_back setting params code =
     let digest = sha256 setting.draws.first in
+    need (next_family setting.history) unavailable (λ family.
     unless_taken setting (digest ∷ [])
     (record {
       reply = sent_back code.redirect (codes "code") (token_text setting.draws.first) (state_sent params);
-      changes = CodeGiven (length setting.history) code digest ∷ [];
-    })
+      changes = CodeGiven family code digest ∷ [];
+    }))
 
 abbrev pub authorize : Setting → Asked → Outcome
 authorize setting asked =

@@ -1,6 +1,6 @@
 -- What is made of changes.
-use Rattle.std.specs.Prelude.{◌≡◌, ◌≤◌, ℕ, List, [], ◌∷◌, Some}
-use Rattle.endpoints.specs.Names.{changes_of, as_list, AllFollow, KeptConsents, Event, Happening, with_changes, Changes, Hosting, Checked}
+use Rattle.std.specs.Prelude.{◌≡◌, ◌≤◌, ℕ, List, [], ◌∷◌}
+use Rattle.endpoints.specs.Names.{changes_of, as_list, AllFollowAt, KeptConsents, Event, with_changes, Changes, Hosting, Checked}
 use Rattle.consent.specs.declared.change.Change.{Change}
 use Rattle.consent.specs.declared.change.Change.TheVariants.{Consented}
 use Rattle.token_store.specs.Room.{HasRoom}
@@ -34,17 +34,16 @@ pub record IsReadyToMake {H : Type 0} (hosting : Hosting H) (server : SeenServer
   pub rooms : HasRooms server server.greatest changes
   pub hook : CanTake hosting server.host (as_list changes) checked
 
--- Whatever the changes mean, the host comes by them from the one before, where it can make its own.
+-- the host comes by the changes from the one before, where it can make its own
 abbrev pub MakesHost : {H : Type 0} → Hosting H → H → List Change → Checked H → H → Type 0
 MakesHost hosting old changes checked new =
-    (history : List Event) (m : ℕ) (next : List Happening) → CanMakeAll hosting old changes checked → changes_of history m changes ≡ Some next →
-    HostRun hosting old (with_changes [] m next) new
+    (m : ℕ) → CanMakeAll hosting old changes checked → HostRun hosting old (with_changes [] m (changes_of changes)) new
 
 -- Whatever history the server fitted, it then fits that history with the changes, where they may come next and are right, and
 -- the host can make its own.
 abbrev pub Makes : {H : Type 0} → Hosting H → SeenServer H → List Change → Checked H → SeenServer H → Type 0
 Makes {H = H} hosting old changes checked new =
-    (outset : Outset H) (history : List Event) (next : List Happening) → FitsServer hosting old outset history old.greatest →
-    changes_of history old.greatest changes ≡ Some next → AllFollow history old.greatest next → AllRightAfter outset.rules history old.greatest next →
+    (outset : Outset H) (history : List Event) → FitsServer hosting old outset history old.greatest →
+    AllFollowAt history old.greatest (changes_of changes) → AllRightAfter outset.rules history old.greatest (changes_of changes) →
     CanMakeAll hosting old.host changes checked →
-    FitsServer hosting new outset (with_changes history old.greatest next) old.greatest
+    FitsServer hosting new outset (with_changes history old.greatest (changes_of changes)) old.greatest

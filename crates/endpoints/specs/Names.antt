@@ -10,22 +10,21 @@ pub use Rattle.answers.specs.Told.{outcome_told, Decides}
 pub use Rattle.answers.specs.declared.endpoint.Endpoint.{Endpoint}
 pub use Rattle.answers.specs.declared.halt.Halt.{Halt}
 pub use Rattle.answers.specs.declared.halt.Halt.TheVariants.{Refuse, NoMemory}
-pub use Rattle.change_codec.specs.Happened.{all_dated, Happened}
+pub use Rattle.consent.specs.History.{Happened}
+pub use Rattle.change_codec.specs.Happened.{all_dated}
 pub use Rattle.change_codec.specs.Keeping.{Crashes, Keeps, KeepsNot}
-pub use Rattle.change_codec.specs.Spelling.{DatedFact}
 pub use Rattle.clients.specs.ClientRecord.{ClientRecord}
 pub use Rattle.clients.specs.Clients.{has_redirect, client_at}
 pub use Rattle.clients.specs.Grants.{has_grant}
 pub use Rattle.clients.specs.RegistryRecord.{RegistryRecord}
 pub use Rattle.clients.specs.declared.grant.GrantType.TheVariants.{AuthorizationCode}
-pub use Rattle.consent.specs.Changes.{changes_of, as_list, AllFollow, change_of}
+pub use Rattle.consent.specs.Changes.{changes_of, as_list, change_of, parties_of}
 pub use Rattle.consent.specs.Consents.{KeptConsents, FitsConsents, kept_consents}
 pub use Rattle.consent.specs.CoveredLaws.{is_covered-start, is_covered-push, is_within-trans}
 pub use Rattle.consent.specs.Facts.{GivenCode, code_of}
 pub use Rattle.consent.specs.History.{is_within, consented_scope, Event, Grant, is_code, has_ended, opener, code_terms, with_change, grant_by, grants, is_code_of, IsHistory, has_consent_room}
-pub use Rattle.consent.specs.History.{Change as Happening, with_changes, live_grant, grant_at, CanFollow, is_unexpired, unexpired_count}
+pub use Rattle.consent.specs.History.{Change as Happening, with_changes, live_grant, grant_at, AllFollowAt, CanFollow, greatest_family, is_unexpired, unexpired_count}
 pub use Rattle.consent.specs.History.Change.{Spent}
-pub use Rattle.consent.specs.declared.change.Change.TheVariants.{IssuedAlone}
 pub use Rattle.consent.specs.declared.change.Changes.{Changes}
 pub use Rattle.consent.specs.declared.change.NewToken.{NewToken}
 pub use Rattle.consent.specs.declared.grant.Kind.{Kind}

@@ -95,7 +95,7 @@ live_of history m told =
 
 -- it was found
 abbrev pub FindsLive : List ℕ → Setting → Option Found → Type 0
-FindsLive digest s found = option_map (grant_found s.history digest s.moment) found ≡ live_of s.history s.moment (Some digest)
+FindsLive digest s found = option_map (grant_found digest) found ≡ live_of s.history s.moment (Some digest)
 
 -- /hooks AND /hooks/remove
 

@@ -1,7 +1,8 @@
 -- What becomes of a change that happened before, when it is made again.
-use Rattle.std.specs.Prelude.{◌≡◌, ◌<◌, ℕ, List, [], ◌∷◌, Bool, Option, Some, None, is_some, option_map, if◌then◌else◌}
-use Rattle.endpoints.specs.Names.{change_of, Event, Happening, grant_at, has_consent_room, with_change, CanFollow, IssuedAlone, Hosting, refusal, RegistryRecord, RedoFault, MomentBack, Unknown}
+use Rattle.std.specs.Prelude.{◌≡◌, ◌<◌, ◌||◌, ℕ, List, [], ◌∷◌, Bool, Option, Some, None, option_map, if◌then◌else◌}
+use Rattle.endpoints.specs.Names.{change_of, parties_of, Event, has_consent_room, with_change, CanFollow, Hosting, refusal, RegistryRecord, RedoFault, MomentBack, Unknown}
 use Rattle.endpoints.specs.Names.{Store, Hook}
+use Rattle.consent.specs.History.{is_home, is_new, lives}
 use Rattle.consent.specs.declared.change.Change.{Change}
 use Rattle.consent.specs.declared.change.Change.TheVariants.{Consented, CodeGiven, Issued, FamilyEnded, HookSet, HookGone}
 use Rattle.endpoints.specs.Layouts.{layout_of}
@@ -9,28 +10,28 @@ use Rattle.endpoints.specs.Right.{is_right}
 use Rattle.endpoints.specs.Server.{SeenServer, Outset, FitsServer}
 use Rattle.endpoints.specs.declared.redo.RedoFault.TheVariants.{ConsentsFull, NotRight, Memory}
 
--- Whatever history the server fitted, the change means what may come next, and the server then fits the history with it, which
--- is right, at its moment.
+-- whatever history the server fitted, the change may come next, and the server then fits the history with it, which is right, at
+-- its moment
 abbrev pub RedoesChange : {H : Type 0} → Hosting H → SeenServer H → ℕ → Change → SeenServer H → Type 0
 RedoesChange {H = H} hosting old moment change new =
     (outset : Outset H) (history : List Event) (m : ℕ) → FitsServer hosting old outset history m →
-    (next : Happening) × (change_of history moment change ≡ Some next) × CanFollow history moment next
-    × FitsServer hosting new outset (with_change history moment next) moment
+    CanFollow history moment (change_of change) × FitsServer hosting new outset (with_change history moment (change_of change)) moment
 
 -- WHY IT IS NOT MADE
 
--- what the digest names is not known
+-- it can be of the family
 abbrev pub unless_known : Bool → Option RedoFault → Option RedoFault
 unless_known known fault = if known then fault else Some Unknown
 
 -- what is wanting for the change at the moment
 abbrev pub wanting : List Event → ℕ → Change → Option RedoFault
 wanting history moment (Consented owner client mask) = if has_consent_room history owner client mask then None else Some ConsentsFull
-wanting history moment (CodeGiven facts digest) = option_map Store (refusal history moment (digest ∷ []))
-wanting history moment (IssuedAlone client token) = option_map Store (refusal history moment (token.digest ∷ []))
-wanting history moment (Issued of token) =
-    unless_known (is_some (grant_at history of moment)) (option_map Store (refusal history moment (token.digest ∷ [])))
-wanting history moment (FamilyEnded of) = unless_known (is_some (grant_at history of moment)) None
+wanting history moment (CodeGiven family facts digest) =
+    unless_known (is_new history family) (option_map Store (refusal history moment (digest ∷ [])))
+wanting history moment (Issued home token) =
+    unless_known (is_new history home.family || is_home history moment home.family (parties_of home))
+    (option_map Store (refusal history moment (token.digest ∷ [])))
+wanting history moment (FamilyEnded family) = unless_known (lives history moment family) None
 wanting history moment _ = None
 
 -- it is not right, unless something is wanting

@@ -1,6 +1,6 @@
 -- When a server is made of codes, tokens and consents, and why none is.
-use Rattle.std.specs.Prelude.{◌<◌, ℕ, List, [], Bool, false, ◌&&◌, ◌||◌, ◌==◌, not, nat_le, length}
-use Rattle.endpoints.specs.Names.{list_all, option_map_or, Hosting, RegistryRecord, FitsConsents, kept_consents, Event, is_unexpired, is_within, Kind, Code, Token, FitsHistory, FitsStore, Kept}
+use Rattle.std.specs.Prelude.{◌≡◌, ◌<◌, ℕ, List, [], Bool, false, ◌&&◌, ◌||◌, ◌==◌, not, nat_le, length}
+use Rattle.endpoints.specs.Names.{list_all, option_map_or, Hosting, RegistryRecord, FitsConsents, kept_consents, Event, greatest_family, is_unexpired, is_within, Kind, Code, Token, FitsHistory, FitsStore, Kept}
 use Rattle.endpoints.specs.Names.{kept_unexpired}
 use Rattle.consent.specs.Consents as consents
 use Rattle.consent.specs.Limits.{code_life, consent_limit, record_limit}
@@ -18,24 +18,25 @@ use Rattle.endpoints.specs.Server.{FitsServer, SeenServer, outset_of}
 use Rattle.endpoints.specs.declared.restoring.RestoreFault.{RestoreFault}
 use Rattle.endpoints.specs.declared.restoring.RestoreFault.TheVariants.{Full, DigestTwice, FamilyDiffers, ConsentsFull, ConsentTwice, NotRight, Memory}
 
--- the codes, tokens and consents are those of the history, from the moment on
-pub record AreOf (records : List KeptRecord) (consents : List KeptConsent) (history : List Event) (moment : ℕ) : Type 0 where
-  pub kept : FitsHistory (as_kept records) history moment
-  pub consented : FitsConsents (kept_consents consents) history
-
--- the codes, tokens and consents that were left up to a moment
+-- the codes, tokens and consents that were left up to a moment, and the greatest number of a family by then
 pub record Remains : Type 0 where
   pub records : List KeptRecord
   pub consents : List KeptConsent
+  pub last : ℕ
   pub moment : ℕ
 
-abbrev pub remains : List KeptRecord → List KeptConsent → ℕ → Remains
-remains records consents moment = record { records = records; consents = consents; moment = moment }
+abbrev pub remains : List KeptRecord → List KeptConsent → ℕ → ℕ → Remains
+remains records consents last moment = record { records = records; consents = consents; last = last; moment = moment }
 
--- whatever history they are of, which is right under the rules and leads to the host, the server goes on from it
+-- the codes, tokens and consents are those of the history, from the moment on
+pub record AreOf (left : Remains) (history : List Event) : Type 0 where
+  pub kept : FitsHistory (as_kept left.records) history left.moment
+  pub consented : FitsConsents (kept_consents left.consents) history
+
+-- whatever history all that is left is of, which is right under the rules and leads to the host, the server goes on from it
 abbrev pub GoesOnFrom : {H : Type 0} → Hosting H → RegistryRecord → H → Remains → SeenServer H → Type 0
 GoesOnFrom {H = H} hosting rules host left server =
-    (first : H) (history : List Event) → AreOf left.records left.consents history left.moment → HostRun hosting first history host →
+    (first : H) (history : List Event) → AreOf left history → left.last ≡ greatest_family history → HostRun hosting first history host →
     AllRight rules [] history → FitsServer hosting server (outset_of rules first) history left.moment
 
 -- whatever history the server fits, these are its codes and tokens
@@ -43,7 +44,11 @@ abbrev pub AreRecordsOf : {H : Type 0} → SeenServer H → List KeptRecord → 
 AreRecordsOf server records =
     (history : List Event) → FitsStore server.store history server.greatest → FitsHistory (as_kept records) history server.greatest
 
--- and its consents
+-- this is its greatest number of a family
+abbrev pub IsLastOf : {H : Type 0} → SeenServer H → ℕ → Type 0
+IsLastOf server last = (history : List Event) (moment : ℕ) → FitsStore server.store history moment → last ≡ greatest_family history
+
+-- and these are its consents
 abbrev pub AreConsentsOf : {H : Type 0} → SeenServer H → List KeptConsent → Type 0
 AreConsentsOf server consents = (history : List Event) → FitsConsents server.consents history → FitsConsents (kept_consents consents) history
 
@@ -74,7 +79,7 @@ RefusesRestore rules left FamilyDiffers = HasFamilyDiffering left.records left.m
 RefusesRestore rules left ConsentsFull = consent_limit < length left.consents
 RefusesRestore rules left ConsentTwice = consents.HasTwo left.consents
 RefusesRestore rules left NotRight =
-    (history : List Event) → AreOf left.records left.consents history left.moment → AllRight rules [] history → ⊥
+    (history : List Event) → AreOf left history → AllRight rules [] history → ⊥
 RefusesRestore rules left Memory = Unit {0}
 
 abbrev pub of_store_fault : StoreFault → RestoreFault

@@ -1,5 +1,5 @@
 -- Beside Ruling: only the contracts of this crate's own parts and their proofs cite this, no public clause.
-use Rattle.std.specs.Prelude.{◌≡◌, ◌≢◌, Option, Some, None, Result, Ok, Err}
+use Rattle.std.specs.Prelude.{◌≡◌, ◌≢◌, Option, None, Result, Ok, Err}
 use Rattle.endpoints.specs.Names.{as_list, HookFault, Hosting, Halts, Setting, outcome_told, Halt, Refuse, NoMemory}
 use Rattle.consent.specs.History as history
 use Rattle.consent.specs.declared.change.Changes.TheVariants.{Nothing}
@@ -23,4 +23,4 @@ abbrev pub RulesHooks : {H : Type 0} → Hosting H → H → Setting → Option 
 RulesHooks hosting host s change (Err halt) = Halts halt (hook_points change None)
 RulesHooks hosting host s change (Ok ruling) =
     (fault : Option HookFault) × IsHostFault hosting host change fault
-    × (outcome_told s ruling.decision ≡ Some (hook_points change fault)) × CanMakeAll hosting host (as_list ruling.decision.changes) ruling.checked
+    × (outcome_told s ruling.decision ≡ hook_points change fault) × CanMakeAll hosting host (as_list ruling.decision.changes) ruling.checked

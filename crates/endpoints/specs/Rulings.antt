@@ -1,6 +1,6 @@
 -- What the server decides, and what it answers by that.
-use Rattle.std.specs.Prelude.{◌≡◌, List, Option, Some, None, Result, Ok, Err}
-use Rattle.endpoints.specs.Names.{as_list, AllFollow, Event, HookFault, Hosting, Asked, Draws, Halts, Outcome, Setting, outcome_told, Halt, Endpoint, Reading}
+use Rattle.std.specs.Prelude.{◌≡◌, List, Option, None, Result, Ok, Err}
+use Rattle.endpoints.specs.Names.{as_list, AllFollowAt, Event, HookFault, Hosting, Asked, Draws, Halts, Outcome, Setting, outcome_told, Halt, Endpoint, Reading}
 use Rattle.endpoints.specs.declared.ruling.Ruling.{Ruling}
 use Rattle.endpoints.specs.Bounded.{AllRightAfter}
 use Rattle.endpoints.specs.HookPaths.{hook_change_at}
@@ -43,8 +43,8 @@ comes_to hosting server history asking fault =
 pub record IsRuling {H : Type 0} (hosting : Hosting H) (server : SeenServer H) (history : List Event) (asking : Asking) (ruling : Ruling H) : Type 0 where
   pub fault : Option HookFault
   pub host_has : IsHostFault hosting server.host (hook_change_at asking.endpoint asking.asked) fault
-  pub told_is : outcome_told (setting_now hosting server history asking.draws fault) ruling.decision ≡ Some (comes_to hosting server history asking fault)
-  pub follow : AllFollow history server.greatest (comes_to hosting server history asking fault).changes
+  pub told_is : outcome_told (setting_now hosting server history asking.draws fault) ruling.decision ≡ comes_to hosting server history asking fault
+  pub follow : AllFollowAt history server.greatest (comes_to hosting server history asking fault).changes
   pub right : AllRightAfter server.rules history server.greatest (comes_to hosting server history asking fault).changes
   pub hooks : CanMakeAll hosting server.host (as_list ruling.decision.changes) ruling.checked
 

@@ -1,6 +1,6 @@
 -- When a server fits a history, and what one request does.
 use Rattle.std.specs.Prelude.{◌≡◌, ℕ, List, [], Option, Some, None}
-use Rattle.endpoints.specs.Names.{Hosting, RegistryRecord, Event, with_changes, KeptConsents, FitsConsents, DatedFact, Happened, Held, FitsStore, Written, in_writing, Outcome}
+use Rattle.endpoints.specs.Names.{Hosting, RegistryRecord, Event, with_changes, KeptConsents, FitsConsents, Happened, Held, FitsStore, Written, in_writing, Outcome}
 use Rattle.endpoints.specs.Hosts.{HostRun}
 use Rattle.endpoints.specs.Bounded.{AllRight}
 
@@ -13,9 +13,9 @@ pub record SeenServer (H : Type 0) : Type 0 where
   -- the greatest moment that a request was handed
   pub greatest : ℕ
   -- what has happened and was not kept yet, where it is noted
-  pub unkept : Option (List DatedFact)
+  pub unkept : Option (List Event)
   -- what is ready to be noted next, without memory
-  pub prepared : Option (List DatedFact)
+  pub prepared : Option (List Event)
 
 -- what a server begins with: its rules, and its host before all that happens
 pub record Outset (H : Type 0) : Type 0 where
@@ -37,7 +37,7 @@ pub record FitsServer {H : Type 0} (hosting : Hosting H) (server : SeenServer H)
   pub right : AllRight outset.rules [] history
 
 -- the facts lead from the history that was kept last to this one; where none is kept, there are none
-abbrev pub AreUnkept : Option (List DatedFact) → Option (List Event) → List Event → Type 0
+abbrev pub AreUnkept : Option (List Event) → Option (List Event) → List Event → Type 0
 AreUnkept None None history = Unit {0}
 AreUnkept (Some facts) (Some kept) history = Happened kept facts history
 AreUnkept facts kept history = ⊥
@@ -51,7 +51,7 @@ abbrev pub AreNoted : {H : Type 0} → SeenServer H → SeenServer H → List Ev
 AreNoted old new before after = (kept : Option (List Event)) → Notes old kept before → Notes new kept after
 
 -- just these facts are noted now: all else is as it was, but for what is ready to be noted
-abbrev pub NowNotes : {H : Type 0} → SeenServer H → SeenServer H → Option (List DatedFact) → Type 0
+abbrev pub NowNotes : {H : Type 0} → SeenServer H → SeenServer H → Option (List Event) → Type 0
 NowNotes old new unkept = new ≡ record old { unkept = unkept; prepared = new.prepared }
 
 -- what is before a step: the server, a history that it fits, and the moment of the step

@@ -1,5 +1,5 @@
 //! GET /authorize (RFC 6749, section 4.1.1; RFC 7636, section 4.3).
-ghost use Rattle.std.specs.Prelude.{◌≡◌, ◌≤◌, Some, IfOk, length, option_copied};
+ghost use Rattle.std.specs.Prelude.{◌≡◌, ◌≤◌, IfOk, length, option_copied};
 ghost use Rattle.clients.specs.Limits.{redirect_limit};
 ghost use Rattle.messages.specs.Asked.{asked_of};
 ghost use Rattle.answers.specs.Halts.{LeadsOnWith, LeadsOrHalts};
@@ -12,7 +12,7 @@ ghost use Rattle.answers.specs.Views.{InEachSetting};
 ghost use Rattle.endpoints.specs.Authorize.{HasShortState, challenge_sent, with_query};
 ghost use Rattle.endpoints.specs.Parts.{DecidesCode, code_by, known_points, known_with, query_points};
 
-use answers::{Answer, Decision, Halt, KnownClient, View, named_client, owner, scope_within};
+use answers::{Answer, Decision, Halt, KnownClient, View, Want, named_client, owner, scope_within};
 use clients::{GrantType, Registry};
 use consent::{Change, Changes, CodeFacts};
 use messages::{ErrorName, Request};
@@ -108,9 +108,12 @@ fn code_facts<'p>(
 
 // The user agent is sent back with a code (RFC 6749, section 4.1.2).
 fn give_code<'p>(view: &View<'_>, params: &'p Params<'_>, facts: &CodeFacts<'p>) -> Decision<'p>
-    ensures told { InEachSetting view.now (λ s. outcome_told s result ≡ Some (code_by s params.now facts.entry.now)) }
+    ensures told { InEachSetting view.now (λ s. outcome_told s result ≡ code_by s params.now facts.entry.now) }
     ensures short { length facts.entry.now.redirect.now ≤ redirect_limit → HasShortState params.now → IsShortAnswer result.answer }
 {
+    let Some(family) = view.next_family() else {
+        return Decision::unavailable(Want::StoreRoom);
+    };
     let draw = view.draws.first;
     let digest = digest_of(&draw);
     if !view.is_free(&[digest]) {
@@ -123,6 +126,7 @@ fn give_code<'p>(view: &View<'_>, params: &'p Params<'_>, facts: &CodeFacts<'p>)
             state: params.get("state"),
         },
         changes: Changes::One(Change::CodeGiven {
+            family,
             facts: CodeFacts {
                 client: facts.client,
                 owner: facts.owner,

@@ -1,31 +1,32 @@
 //! A change that happened before is made again.
-ghost use Rattle.std.specs.Prelude.{◌≡◌, ◌∷◌, [], Some, IfOk, IfErr, IfSome, is_some, option_map};
-ghost use Rattle.consent.specs.Changes.{as_list};
+ghost use Rattle.std.specs.Prelude.{◌≡◌, ◌∷◌, [], Some, IfOk, IfErr, IfSome, option_map};
+ghost use Rattle.consent.specs.Changes.{as_list, parties_of};
 ghost use Rattle.consent.specs.Consents.{FitsConsents};
-ghost use Rattle.consent.specs.History.{grant_at};
+ghost use Rattle.consent.specs.History.{is_home, lives};
 ghost use Rattle.endpoints.specs.Parts.{WhereverFits};
 ghost use Rattle.endpoints.specs.Layouts.{layout_of};
 ghost use Rattle.token_store.specs.Fits.{refusal};
+ghost use Rattle.token_store.specs.Found.{family_seen};
 ghost use Rattle.endpoints.specs.Faults.{of_hook_fault};
 ghost use Rattle.endpoints.specs.Redo.{RefusesHookChange, history_refusal, wanting};
-ghost use Rattle.endpoints.specs.RedoParts.{IsOfHistory};
+ghost use Rattle.endpoints.specs.RedoParts.{IsOfHistory, is_of_home};
 ghost use Rattle.endpoints.specs.Ruling.{CanMake};
 
 use crate::right::is_right;
 use crate::ruling::Checked;
 use clients::Registry;
-use consent::{Change, Changes, Consents, Digest, Moment, RecordVersion};
+use consent::{Change, Changes, Consents, Digest, Home, Moment, OwnerNo, RecordVersion};
 use hook_host::{HookFault, HookHost};
 use insn::layout::Layout;
 use std::fmt::{self, Display, Formatter, Write};
-use token_store::{Store, StoreFault};
+use token_store::{Family, Store, StoreFault};
 
 /// Why a change is not made again.
 #[derive(Clone, Copy, Debug, PartialEq, Eq)]
 pub enum RedoFault {
     /// It is of an earlier moment than what was made before it.
     MomentBack,
-    /// The digest by which it names a family names nothing.
+    /// It cannot be of the family that it names: that is not new and does not live, has ended, or is another's.
     Unknown,
     /// The store refuses the code or the token.
     Store(StoreFault),
@@ -74,11 +75,30 @@ pub(crate) fn alone<'a>(change: &Change<'a>) -> Changes<'a>
     }
 }
 
-// Whether the digest names something that is unexpired.
-fn is_known(store: &Store, digest: &Digest, moment: Moment) -> bool
-    ensures { WhereverFits store.now moment (λ history. result ≡ is_some (grant_at history digest.now moment)) }
+// Whether the family of the number lives.
+fn lives(store: &Store, family: u64, moment: Moment) -> bool
+    ensures { WhereverFits store.now moment (λ h. result ≡ lives h moment family) }
 {
-    store.at(digest, moment).is_some()
+    store.family(family, moment).is_some()
+}
+
+// Whether the family has not ended, and is of the client and the owner.
+fn is_of(family: &Family, home: &Home) -> bool
+    ensures { result ≡ is_of_home (parties_of home.now) (family_seen family.now) }
+{
+    family.client == home.client
+        && OwnerNo::number_of(family.owner) == OwnerNo::number_of(home.owner)
+        && !family.ended
+}
+
+// Whether so it is of a family that lives.
+fn is_home(store: &Store, home: &Home, moment: Moment) -> bool
+    ensures { WhereverFits store.now moment (λ h. result ≡ is_home h moment home.now.family (parties_of home.now)) }
+{
+    let Some(family) = store.family(home.family, moment) else {
+        return false;
+    };
+    is_of(&family, home)
 }
 
 // Why nothing may be given under the digest.
@@ -86,10 +106,8 @@ fn digest_refusal(store: &Store, digest: &Digest, moment: Moment) -> Option<Redo
     ensures refusal { WhereverFits store.now moment (λ h. result ≡ option_map RedoFault.Store (refusal h moment (digest.now ∷ []))) }
     ensures own { IfSome result IsOfHistory }
 {
-    match store.refusal(&[*digest], moment) {
-        Some(fault) => Some(RedoFault::Store(fault)),
-        None => None,
-    }
+    let fault = store.refusal(&[*digest], moment)?;
+    Some(RedoFault::Store(fault))
 }
 
 // What is wanting for the change at the moment.
@@ -113,16 +131,20 @@ fn wanting(
             }
             Some(RedoFault::ConsentsFull)
         }
-        Change::CodeGiven { digest, .. } => digest_refusal(store, digest, moment),
-        Change::IssuedAlone { token, .. } => digest_refusal(store, &token.digest, moment),
-        Change::Issued { of, token } => {
-            if is_known(store, of, moment) {
+        Change::CodeGiven { family, digest, .. } => {
+            if store.is_new(*family) {
+                return digest_refusal(store, digest, moment);
+            }
+            Some(RedoFault::Unknown)
+        }
+        Change::Issued { home, token } => {
+            if store.is_new(home.family) || is_home(store, home, moment) {
                 return digest_refusal(store, &token.digest, moment);
             }
             Some(RedoFault::Unknown)
         }
-        Change::FamilyEnded { of } => {
-            if is_known(store, of, moment) {
+        Change::FamilyEnded { family } => {
+            if lives(store, *family, moment) {
                 return None;
             }
             Some(RedoFault::Unknown)

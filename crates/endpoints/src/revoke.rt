@@ -88,7 +88,9 @@ pub(crate) fn revoke<'c>(
     }
     Ok(Decision {
         answer: Answer::Done,
-        changes: Changes::One(Change::FamilyEnded { of: digest }),
+        changes: Changes::One(Change::FamilyEnded {
+            family: token.family,
+        }),
     })
 }
 

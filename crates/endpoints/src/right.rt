@@ -1,15 +1,15 @@
 //! Whether a change is right under rules.
-ghost use Rattle.std.specs.Prelude.{◌≡◌};
+ghost use Rattle.std.specs.Prelude.{◌≡◌, option_map};
 ghost use Rattle.consent.specs.Consents.{FitsConsents};
-ghost use Rattle.consent.specs.History.{grant_at};
 ghost use Rattle.endpoints.specs.Bounded.{token_life_limit};
 ghost use Rattle.endpoints.specs.Parts.{WhereverFits};
-ghost use Rattle.endpoints.specs.Right.{comes_of, is_right, is_right_of, may_have, may_have_token};
-ghost use Rattle.token_store.specs.Found.{owner_number};
+ghost use Rattle.endpoints.specs.Right.{comes_of_family, is_right, is_right_token, may_have, may_have_token};
+ghost use Rattle.consent.specs.Owners.{owner_number};
+ghost use Rattle.token_store.specs.Found.{family_seen};
 
 use clients::Registry;
-use consent::{Change, ClientNo, Consents, Digest, Moment, NewToken, OwnerNo, ScopeSet, TokenKind};
-use token_store::{Found, Store};
+use consent::{Change, ClientNo, Consents, Home, Moment, NewToken, OwnerNo, ScopeSet, TokenKind};
+use token_store::{Family, Store};
 
 /// Whether the client is one of the registry's, and may be allowed the scope.
 pub(crate) fn may_have(rules: &Registry, client: ClientNo, scope: ScopeSet) -> bool
@@ -38,41 +38,31 @@ fn may_have_token(rules: &Registry, client: ClientNo, token: &NewToken) -> bool
     may_have(rules, client, token.scope) && token.life <= life_limit(rules, token.kind)
 }
 
-// The number of an owner: 0 is none.
-fn owner_number(owner: Option<OwnerNo>) -> u32
-    ensures { result ≡ owner_number owner }
+// Whether a token of the scope may come of the family that lives; a new one is the client's own.
+fn comes_of(family: Option<Family>, owner: Option<OwnerNo>, scope: ScopeSet) -> bool
+    ensures { result ≡ comes_of_family (option_map family_seen family) (owner_number owner) scope }
 {
-    match owner {
-        Some(owner) => owner.get(),
-        None => 0,
+    let Some(family) = family else {
+        return OwnerNo::number_of(owner) == 0;
+    };
+    match family.code_scope {
+        Some(code_scope) => scope.is_within(code_scope) && !family.ended,
+        None => OwnerNo::number_of(owner) == 0,
     }
 }
 
-// Whether a token of the scope may come of what was found, whose family has a code of a scope or none.
-fn comes_of(found: &Found<'_>, code_scope: Option<ScopeSet>, scope: ScopeSet) -> bool
-    ensures { result ≡ comes_of found.now.ended (owner_number found.now.owner) code_scope scope }
-{
-    match code_scope {
-        Some(code_scope) => scope.is_within(code_scope) && !found.ended,
-        None => owner_number(found.owner) == 0,
-    }
-}
-
-// Whether the token may come of what the digest names.
-fn is_right_of(
+// Whether the token may come of the family.
+fn is_right_token(
     rules: &Registry,
     store: &Store,
-    of: &Digest,
     moment: Moment,
+    home: &Home,
     token: &NewToken,
 ) -> bool
-    ensures { WhereverFits store.now moment (λ h. result ≡ is_right_of rules.now h token.now (grant_at h of.now moment)) }
+    ensures { WhereverFits store.now moment (λ h. result ≡ is_right_token rules.now h moment home.now token.now) }
 {
-    let Some(found) = store.at(of, moment) else {
-        return false;
-    };
-    let code_scope = store.code_scope(of, moment);
-    may_have_token(rules, found.client, token) && comes_of(&found, code_scope, token.scope)
+    let family = store.family(home.family, moment);
+    may_have_token(rules, home.client, token) && comes_of(family, home.owner, token.scope)
 }
 
 /// Whether the change is right under the rules at the moment.
@@ -92,8 +82,7 @@ pub(crate) fn is_right(
                     .scope
                     .is_within(consents.get(facts.owner, facts.client))
         }
-        Change::IssuedAlone { client, token } => may_have_token(rules, *client, token),
-        Change::Issued { of, token } => is_right_of(rules, store, of, moment, token),
+        Change::Issued { home, token } => is_right_token(rules, store, moment, home, token),
         Change::Consented { .. }
         | Change::Spent { .. }
         | Change::FamilyEnded { .. }

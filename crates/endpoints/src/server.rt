@@ -15,7 +15,7 @@ ghost use Rattle.endpoints.specs.Reading.{EndsAt, IsRequestRead, IsShortReading,
 ghost use Rattle.endpoints.specs.Ruling.{CanMake, CanTake};
 ghost use Rattle.endpoints.specs.Rulings.{RulesRead, asking_at, read_request};
 ghost use Rattle.endpoints.specs.RulingsParts.{AnswersRequest, IsHalted, RulesReadAlone};
-ghost use Rattle.endpoints.specs.Restoring.{AreConsentsOf, AreRecordsOf, GoesOnFrom, RefusesRestore, are_allowed, remains};
+ghost use Rattle.endpoints.specs.Restoring.{AreConsentsOf, AreRecordsOf, IsLastOf, GoesOnFrom, RefusesRestore, are_allowed, remains};
 ghost use Rattle.endpoints.specs.Server.{FitsServer, Notes, NowNotes, outset_of};
 ghost use Rattle.endpoints.specs.Steps.{Reaches, Steps, Sweeps};
 ghost use Rattle.token_store.specs.Fits.{FitsStore};
@@ -117,22 +117,23 @@ impl<H: HookHost> Server<H> {
     }
 
     /// A server under the rules that goes on from the moment, with a host that has its hooks: made of the codes, tokens and
-    /// consents that are left of another. It notes nothing.
+    /// consents that are left of another, and of the greatest number of a family. It notes nothing.
     pub fn restored(
         alloc: Global,
         rules: Registry,
         host: H,
         moment: Moment,
+        last: u64,
         records: &[KeptRecord<'_>],
         consents: &[KeptConsent],
     ) -> Result<Self, RestoreFault>
-        ensures fits { IfOk result (GoesOnFrom H.HookHost rules host (remains records.now consents.now moment)) }
+        ensures fits { IfOk result (GoesOnFrom H.HookHost rules host (remains records.now consents.now last moment)) }
         ensures notes { IfOk result (λ server. Notes server None []) }
         ensures right { OnOk result (are_allowed rules moment records.now ≡ true) }
         // NotRight comes behind the others, but for Memory.
-        ensures refused { IfErr result (RefusesRestore rules (remains records.now consents.now moment)) }
+        ensures refused { IfErr result (RefusesRestore rules (remains records.now consents.now last moment)) }
     {
-        let store = Store::restored(alloc, records, moment)?;
+        let store = Store::restored(alloc, records, last, moment)?;
         let consents = Consents::restored(alloc, consents)?;
         if !are_allowed(&rules, moment, records) {
             return Err(RestoreFault::NotRight);
@@ -154,6 +155,13 @@ impl<H: HookHost> Server<H> {
         ensures { IfOk result (λ records. AreRecordsOf self.now records.items) }
     {
         self.store.records(alloc, self.greatest)
+    }
+
+    /// The greatest number of a family so far, 0 where there is none.
+    pub fn last_family(&self) -> u64
+        ensures { IsLastOf self.now result }
+    {
+        self.store.last_family()
     }
 
     /// The consents.
@@ -359,6 +367,15 @@ impl<H: HookHost> Server<H> {
         self.greatest = greater(self.greatest, moment);
     }
 
+    /// Lets go of what has expired at the moment, before which nothing is answered from now on.
+    pub fn drop_expired(&mut self, moment: Moment)
+        ensures reached { Reaches H.HookHost self.old moment self.new }
+        ensures same { self.new ≡ record self.old { greatest = max self.old.greatest moment; store = self.new.store } }
+    {
+        self.greatest = greater(self.greatest, moment);
+        self.store.drop_expired(self.greatest);
+    }
+
     // Lets go of what has expired, which changes no answer.
     fn sweep(&mut self)
         ensures same { self.new ≡ record self.old { store = self.new.store } }
@@ -450,8 +467,8 @@ impl<H: HookHost> Server<H> {
         check_hook(&self.host, change)
     }
 
-    /// Makes a change again that happened at the moment, which is then the greatest. What the change means is said by the
-    /// changes that were made before it. One that is not right under the rules is refused. A refused one changes nothing.
+    /// Makes a change again that happened at the moment, which is then the greatest. One that is not right under the rules is
+    /// refused. A refused one changes nothing.
     /// `RedoFault` has the faults in the order in which they come.
     pub fn redo(&mut self, moment: Moment, change: &Change<'_>) -> Result<(), RedoFault>
         ensures redone { OnOk result (RedoesChange H.HookHost self.old moment change.now self.new) }

@@ -1,15 +1,16 @@
 -- What happens, and the end of each family, is borne by credentials and keys.
-use Rattle.std.proofs.Common.{◌≡◌, ◌≢◌, ℕ, suc, List, [], ◌∷◌, Bool, true, false, Option, Some, None, cond, length, refl, sym, ap, ◌∙◌, arith, subst, ◌⊎◌, inl, inr, ◌++◌, append-nil, map}
+use Rattle.std.proofs.Common.{◌≡◌, ◌≢◌, ◌<◌, ℕ, suc, List, [], ◌∷◌, Bool, true, false, Option, Some, None, cond, refl, sym, ap, ◌∙◌, arith, subst, ◌⊎◌, inl, inr, ◌++◌, append-nil, map}
 use Rattle.headline.proofs.Names.{Contains, find, ◌||◌, not, false≢true, and_parts, not-true, nat_tests, All-nil, All-cons, All-contains, All-weaker, All-head, RegistryRecord, authenticated, Change}
-use Rattle.headline.proofs.Names.{Grant, grant_at, grants, is_named, is_of, opener, IsHistory, event_at, Terms, code_terms, ends, has_ended, is_beyond, with_change, with_changes, CodeGiven, Issued}
-use Rattle.headline.proofs.Names.{Spent, FamilyEnded, Consented, opener-fresh, Asked, under_digest, Extent, Outcome, form_of, owner_of_key, Setting, is_operator, access_issued, refresh_issued}
+use Rattle.headline.proofs.Names.{Grant, grant_at, grants, is_named, IsHistory, event_at, Terms, code_terms, ends, has_ended, is_beyond, with_change, with_changes, CodeGiven, Issued}
+use Rattle.headline.proofs.Names.{Spent, FamilyEnded, Consented, Asked, under_digest, Extent, Outcome, form_of, owner_of_key, Setting, is_operator, access_issued, refresh_issued}
 use Rattle.headline.proofs.Names.{list_all, has_ended-push, has_ended-push_other, with_changes-cons, BearsCredentials, BearsOwnerKey, BearsOperatorKey, Occasion, outcome_of, setting_on, history_after, GiveConsent}
 use Rattle.std.specs.Prelude.{All}
 use Rattle.std.specs.Option.{option_map_or}
 use Rattle.std.proofs.lemmas.List.Sums.{AllPass-from_list_all}
 use Rattle.clients.specs.Registry.{is_operator_key}
 use Rattle.clients.specs.Owners.{owner_with}
-use Rattle.consent.specs.History.{Event}
+use Rattle.consent.specs.History.{Event, are_kin, greatest_family, next_family}
+use Rattle.consent.specs.HistoryLaws.{is_other, none_of}
 use Rattle.consent.specs.Growth.{may_end}
 use Rattle.headline.specs.Authority.{IsAuthorized, IsAllAuthorized, IsConsentOf, IsConsentOfOwner, EndsByOwnerAlone, LeavesAlone, IsIsolated, EndsWithAuthority}
 use Rattle.headline.proofs.Spending.{ended_stays, live_is}
@@ -32,23 +33,19 @@ abbrev IsFamilyOf : List Event → ℕ → ℕ → Type 0
 IsFamilyOf history family client = (g : Grant) → Contains (grants history) g → g.family ≡ family → g.client ≡ client
 
 module _ (history : List Event) (m : ℕ) (is : IsHistory history m) where
-  kin_of : (g : Grant) → Contains (grants history) g → is_of g.client g.owner (opener history g.family) ≡ true
-  kin_of g at =
-      All-contains (λ (x : Grant). is_of x.client x.owner (opener history x.family) ≡ true) (grants history) g
-      (AllPass-from_list_all (λ (x : Grant). is_of x.client x.owner (opener history x.family)) (grants history) is.kin) at
-
-  one_client : (c d o p : ℕ) (x : Option Grant) → is_of c o x ≡ true → is_of d p x ≡ true → d ≡ c
-  one_client c d o p x a b = grind (arith, nat_tests, a, b)
-
   family_of : (g : Grant) → Contains (grants history) g → IsFamilyOf history g.family g.client
   family_of g at x in_history same =
-      one_client g.client x.client g.owner x.owner (opener history g.family) (kin_of g at)
-      (ap (λ f. is_of x.client x.owner (opener history f)) (sym same) ∙ kin_of x in_history)
+      let gs = grants history in
+      let each = All-contains (λ (y : Grant). list_all (are_kin y) gs ≡ true) gs g (AllPass-from_list_all (λ (y : Grant). list_all (are_kin y) gs) gs is.kin) at in
+      let kin = All-contains (λ (y : Grant). are_kin g y ≡ true) gs x (AllPass-from_list_all (are_kin g) gs each) in_history in
+      grind (arith, nat_tests, kin, same)
 
-  -- no code or token is of a family that is not there
-  none_new : (g : Grant) → Contains (grants history) g → length history ≢ g.family
-  none_new g at same =
-      false≢true (ap (is_of g.client g.owner) (sym (ap (opener history) (sym same) ∙ opener-fresh history is.placed)) ∙ kin_of g at)
+  -- no code or token is of the family that is opened next
+  none_new : (family : ℕ) → next_family history ≡ Some family → (g : Grant) → Contains (grants history) g → family ≢ g.family
+  none_new family next g at same =
+      let less : greatest_family history < family = grind (arith, nat_tests, next) in
+      let other = All-contains (λ (y : Grant). is_other family y ≡ true) (grants history) g (AllPass-from_list_all (is_other family) (grants history) (none_of history family less)) at in
+      grind (arith, nat_tests, other, same)
 
   module _ (rules : RegistryRecord) (occasion : Occasion) where
     abbrev s : Setting
@@ -111,8 +108,8 @@ module _ (history : List Event) (m : ℕ) (is : IsHistory history m) where
     by_way (ByToken (Once x left is untaken)) _ = once x.code.sender x.code.digest x.code.grant x.code.named x.code.own left
     by_way (ByToken (Twice x left is untaken)) _ = twice x.code.sender x.code.digest x.code.grant x.code.named x.code.own left left.scope
     by_way (ByToken (Refreshed x left is untaken)) _ = twice x.token.sender x.token.digest x.token.grant x.token.named x.token.own left x.token.grant.scope
-    by_way (ByToken (Own sender typed scope left is untaken)) _ = one _ (credentials sender, λ g at same. absurd (none_new g at (sym same)))
-    by_way (Coded x code key of) _ = one _ (owner_key code.owner key, refl)
+    by_way (ByToken (Own sender typed scope left family new is untaken)) _ = one _ (credentials sender, λ g at same. absurd (none_new family new g at (sym same)))
+    by_way (Coded x code family new key of) _ = one _ (owner_key code.owner key, new)
     by_way (Consents owner client mask key) sent = one _ (goes_to occasion GiveConsent sent, owner_key owner key)
     by_way (Revokes x own) _ = one _ (ended x.sender x.digest x.token (live_is history x.digest occasion.arrival.moment x.token x.live).0 own)
     by_way (Installs name version code operator) _ = one _ (operator_key operator)
@@ -132,7 +129,7 @@ module _ (history : List Event) (m : ℕ) (is : IsHistory history m) where
 
     leaves : (client : ℕ) (g : Grant) → BearsCredentials rules asked client → Contains (grants history) g → g.client ≢ client →
         (change : Change) → Right change → LeavesAlone history occasion.arrival.moment g change
-    leaves client g bears at other (CodeGiven family code digest) right = λ same. none_new g at (sym right.1 ∙ same)
+    leaves client g bears at other (CodeGiven family code digest) right = none_new family right.1 g at
     leaves client g bears at other (Issued family parties token) right =
         λ same. other (right.1 g at (sym same) ∙ one_bearer client parties.client bears right.0)
     leaves client g bears at other (Spent digest) right =

@@ -41,7 +41,7 @@ module _ (rules : RegistryRecord) (history : List Event) (occasion : Occasion) (
   by_way form typed (Twice x left is untaken) e = bound x (same_params form x.code.sender)
   by_way form typed (Refreshed x left is untaken) e =
       let theirs = x.token.sender.form in let refreshes = x.token.typed in absurd (grind (arith, form, typed, theirs, refreshes))
-  by_way form typed (Own sender own scope left is untaken) e =
+  by_way form typed (Own sender own scope left family new is untaken) e =
       let theirs = sender.form in absurd (grind (arith, form, typed, theirs, own))
   by_way form typed _ e = absurd (grind (arith, e))
 

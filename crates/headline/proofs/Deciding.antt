@@ -1,5 +1,5 @@
 -- What is given was decided by each hook.
-use Rattle.std.proofs.Common.{arith, ◌≡◌, inl, inr, ℕ, List, [], ◌∷◌, Bool, Some, None, length, refl, sym, ap, ◌∙◌}
+use Rattle.std.proofs.Common.{arith, ◌≡◌, inl, inr, ℕ, List, [], ◌∷◌, Bool, Some, None, refl, sym, ap, ◌∙◌}
 use Rattle.headline.specs.Names.{Access, Refresh, Checked, narrowed_by, narrowed_by_hook}
 use Rattle.headline.proofs.Names.{if◌then◌else◌, ◌==◌, and_from, eq-eqb, digest_told, grant_at, is_code, is_own, is_refresh, where_passes, Kind, fold, All-nil, All-cons, RegistryRecord, Change, Grant, grants, is_named, Spent, Token, Ask, Narrowed, Allowed, Denied, EmptyScope, met, met_with, Extent, Outcome}
 use Rattle.headline.proofs.Names.{Setting, own_ask, access_issued, new_token, Occasion, outcome_of, setting_on}
@@ -125,10 +125,10 @@ module _ (rules : RegistryRecord) (history : List Event) (occasion : Occasion) (
   by_way (ByToken (Twice x left is untaken)) = both_given (code_ask x) left is x.code.grant (asks_code x) (sym x.code.own) refl left.scope (inl refl)
   by_way (ByToken (Refreshed x left is untaken)) =
       both_given (refresh_ask x) left is x.token.grant (asks_refresh x) (sym x.token.own) refl x.token.grant.scope (replaced x left)
-  by_way (ByToken (Own sender typed scope left is free)) =
+  by_way (ByToken (Own sender typed scope left family new is free)) =
       let ask = own_ask s sender.known scope in
-      let asks = by_sender sender (length history) ask (inr (inr (typed, scope, free.1, refl, refl))) in
-      one _ (given ask left is (length history) sender.known.number 0 asks (new_token Access s.draws.first left) refl refl (refl, refl))
+      let asks = by_sender sender family ask (inr (inr (typed, scope, free.1, new, refl))) in
+      one _ (given ask left is family sender.known.number 0 asks (new_token Access s.draws.first left) refl refl (refl, refl))
   by_way _ = search (All-nil Right, one)
 
   pub decided : All (IsDecided hooks s occasion.arrival.asked) (outcome_of rules history occasion).changes

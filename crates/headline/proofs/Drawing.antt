@@ -76,9 +76,9 @@ module _ (rules : RegistryRecord) (history : List Event) (occasion : Occasion) (
   by_way (ByToken (Refused error)) here = tt
   by_way (ByToken way) here =
       where_wanted (wants_draws occasion.arrival.asked) (given_by (ByToken way)) occasion.arrival.draws (wants_tokens occasion here) (by_draws (ByToken way))
-  by_way (Coded x code key of) here =
-      where_wanted (wants_draws occasion.arrival.asked) (given_by (Coded x code key of)) occasion.arrival.draws (wants_code occasion here)
-      (by_draws (Coded x code key of))
+  by_way (Coded x code family new key of) here =
+      where_wanted (wants_draws occasion.arrival.asked) (given_by (Coded x code family new key of)) occasion.arrival.draws (wants_code occasion here)
+      (by_draws (Coded x code family new key of))
   by_way _ here = tt
 
   drawn_once : P (outcome_of rules history occasion)

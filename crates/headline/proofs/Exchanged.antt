@@ -81,7 +81,7 @@ module _ (s : Setting) (text : List ℕ) where
         by_way (Once x left is untaken) e = used_once x.code.digest x.code.grant (told_of_code x.code) x.code.named x.unspent left untaken e
         by_way (Twice x left is untaken) e = used_twice x.code.digest x.code.grant (told_of_code x.code) x.code.named x.unspent left left.scope untaken e
         by_way (Refreshed x left is untaken) e = used_twice x.token.digest x.token.grant (told_of_token x.token) x.token.named x.unspent left x.token.grant.scope untaken e
-        by_way (Own sender typed scope left is untaken) e = absurd (no_own sender typed)
+        by_way (Own sender typed scope left family new is untaken) e = absurd (no_own sender typed)
         by_way _ e = absurd (grind (arith, e))
 
 module _ (rules : RegistryRecord) (history : List Event) (occasion : Occasion) where

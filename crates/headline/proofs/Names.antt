@@ -19,10 +19,10 @@ pub use Rattle.clients.specs.Grants.{grant_named}
 pub use Rattle.clients.specs.declared.grant.GrantType.TheVariants.{AuthorizationCode, RefreshToken}
 pub use Rattle.consent.specs.CoveredLaws.{is_within-self}
 pub use Rattle.consent.specs.GrowthLaws.{has_ended-push, has_ended-push_other, with_changes-cons, grants-append, is_taken-parts, grant_at-append, has_ended-before}
-pub use Rattle.consent.specs.History.{is_named, is_unexpired, IsHistory, is_of, opener}
+pub use Rattle.consent.specs.History.{is_named, is_unexpired, IsHistory}
 pub use Rattle.consent.specs.History.{ends, is_beyond, with_change, grant_by, spends, is_taken, is_good}
 pub use Rattle.consent.specs.History.Change.{HookSet, HookGone}
-pub use Rattle.consent.specs.HistoryLaws.{grant_at-past, opener-fresh, grant_at-given}
+pub use Rattle.consent.specs.HistoryLaws.{grant_at-past, grant_at-given}
 pub use Rattle.consent.specs.declared.grant.Kind.{Kind}
 pub use Rattle.consent.specs.declared.grant.Kind.TheVariants.{Code}
 pub use Rattle.endpoints.specs.Bounded.{AllRight, IsBounded, IsAllowed, IsConsentedAt}

@@ -32,8 +32,8 @@ module _ (s : Setting) where
       parts = ((refl, within, some.no_longer), ((refl, more, omega arith), (refl, tt)));
     }
 
-    own_token : (number : ℕ) → IsNarrowed s.rules (own_issued s number left) (own_issued s number (whole ask))
-    own_token number = record {
+    own_token : (family number : ℕ) → IsNarrowed s.rules (own_issued s family number left) (own_issued s family number (whole ask))
+    own_token family number = record {
       granted = refl;
       told = (refl, refl, some.no_longer, left.scope, ask.scope, refl, refl, within);
       given = (refl, refl, refl);
@@ -50,7 +50,7 @@ module _ (s : Setting) where
       both_tokens (code_ask x) left is x.code.grant left.scope x.code.grant.scope (within (code_ask x) left is)
   by_way asked (Refreshed x left is untaken) p e =
       both_tokens (refresh_ask x) left is x.token.grant x.token.grant.scope x.token.grant.scope (is_within-self x.token.grant.scope)
-  by_way asked (Own sender typed scope left is untaken) p e = own_token (own_ask s sender.known scope) left is sender.known.number
+  by_way asked (Own sender typed scope left family new is untaken) p e = own_token (own_ask s sender.known scope) left is family sender.known.number
   by_way asked _ p e = absurd (grind (arith, e))
 
 pub hooks_narrow : (rules : RegistryRecord) (history : List Event) (occasion : Occasion) → WidensNothing rules history occasion

@@ -34,7 +34,7 @@ module _ (rules : RegistryRecord) (history : List Event) (occasion : Occasion) w
       says = inl (_, refl, refl);
     },
   )
-  by_way (Coded x code key of) sent = (
+  by_way (Coded x code family new key of) sent = (
     refl,
     _,
     refl,

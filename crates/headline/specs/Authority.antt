@@ -1,7 +1,7 @@
 -- Whose credentials and keys bring about what happens.
-use Rattle.std.specs.Prelude.{◌≡◌, ◌≢◌, ◌⊎◌, ℕ, List, true, false, Some, All, Contains, codes, length}
+use Rattle.std.specs.Prelude.{◌≡◌, ◌≢◌, ◌⊎◌, ℕ, List, true, false, Some, All, Contains, codes}
 use Rattle.headline.specs.Names.{RegistryRecord, Change, Grant, Terms, code_terms, grant_at, grants, has_ended, Consented, CodeGiven, Issued, Spent, FamilyEnded}
-use Rattle.consent.specs.History.{Event}
+use Rattle.consent.specs.History.{Event, next_family}
 use Rattle.headline.specs.Bearers.{BearsCredentials, BearsOwnerKey, BearsOperatorKey}
 use Rattle.headline.specs.Occasions.{Occasion, GoesTo, history_after, outcome_of}
 
@@ -13,7 +13,7 @@ IsConsentOf rules occasion owner = GoesTo occasion (codes "/consent") × BearsOw
 abbrev pub IsAuthorized : RegistryRecord → List Event → Occasion → Change → Type 0
 IsAuthorized rules history occasion (Consented owner client mask) = IsConsentOf rules occasion owner
 IsAuthorized rules history occasion (CodeGiven family code digest) =
-    BearsOwnerKey rules occasion.arrival.asked code.owner × (family ≡ length history)
+    BearsOwnerKey rules occasion.arrival.asked code.owner × (next_family history ≡ Some family)
 IsAuthorized rules history occasion (Issued family parties token) =
     BearsCredentials rules occasion.arrival.asked parties.client × ((g : Grant) → Contains (grants history) g → g.family ≡ family → g.client ≡ parties.client)
 IsAuthorized rules history occasion (Spent digest) =

@@ -1,8 +1,8 @@
 -- What hooks decided before tokens are given.
-use Rattle.std.specs.Prelude.{◌≡◌, ◌⊎◌, ℕ, List, [], ◌∷◌, All, Contains, Some, codes, length, option_and_then}
+use Rattle.std.specs.Prelude.{◌≡◌, ◌⊎◌, ℕ, List, [], ◌∷◌, All, Contains, Some, codes, option_and_then}
 use Rattle.headline.specs.Names.{value_sent, RegistryRecord, client_at, Change, Grant, grants, Issued, Token, TokenKind, Access, Refresh, Ask, Allowed, Checked, narrowed_by, narrowed_by_hook}
 use Rattle.headline.specs.Names.{Parameters, KnownClient, digest_told}
-use Rattle.consent.specs.History.{Event}
+use Rattle.consent.specs.History.{Event, next_family}
 use Rattle.hook_record.specs.Narrowing.{met}
 use Rattle.hook_record.specs.declared.Kind.TheVariants as kind
 use Rattle.messages.specs.Asked.{Asked}
@@ -40,7 +40,7 @@ abbrev pub IsOwnAsk : Setting → Parameters → KnownClient → ℕ → Ask →
 IsOwnAsk setting params known family ask =
     (value_sent (codes "grant_type") params ≡ Some (codes "client_credentials"))
     × (scope : ℕ) × (scope_within setting.rules known.client.allowed params ≡ Some scope)
-    × (length setting.history ≡ family) × (ask ≡ own_ask setting known scope)
+    × (next_family setting.history ≡ Some family) × (ask ≡ own_ask setting known scope)
 
 -- just this is asked of the hooks, for tokens of the family: it is for the client whose credentials the request bears, and for
 -- the grant of the type that its form names

@@ -117,9 +117,10 @@ pub fn tokens_come_from_draws_of_their_own<H: HookHost>()
     ensures { AreDrawn H.HookHost }
 {}
 
-/// No grant goes around the hooks: each token that is given is what a chain's hooks left, each asked in its turn, and none of
-/// them denied it. They are asked just what the request asks for (`ask_for`, in each of its fields): a grant of the type that it
-/// names, to its client, by the owner and within the scope of what it presents.
+/// No grant goes around the hooks: each access token that is given is what a chain's hooks left, each asked in its turn, and none
+/// of them denied it; a refresh token has that scope, or an earlier one's of its family. They are asked just what the request asks
+/// for (`ask_for`, in each of its fields): a grant of the type that it names, to its client, by the owner and within the scope of
+/// what it presents.
 pub fn no_grant_goes_around_the_hooks()
     ensures { OnEachOccasion IsAllDecided }
 {}

@@ -7,8 +7,7 @@ use Rattle.http_edge.proofs.Names.{moment_after, faulty_if, SeenLane, lane_at, S
 use Rattle.http_edge.proofs.Names.{SeenEdge, Journey, Reached, BeginsOver, ResumesOver, GoesOn, HappeningLeads, PieceGoesOn, PieceLeads, GivenWithMore, IsBrought, WhereReached, supplied, draws_for}
 use Rattle.http_edge.proofs.Names.{draws_behind, Suffices, Sources, Open, Closing}
 use Rattle.std.specs.Prelude.{Option}
-use Rattle.change_codec.specs.HappenedLaws.{Happened-front}
-use Rattle.change_codec.specs.Spelling.{DatedFact}
+use Rattle.consent.specs.HistoryLaws.{Happened-none}
 use Rattle.endpoints.specs.Bounded.{IsBounded}
 use Rattle.endpoints.specs.BoundedLaws.{tokens_keep_their_bounds}
 use Rattle.http_edge.specs.declared.lane.Phase.{Phase}
@@ -19,7 +18,7 @@ use Rattle.http_edge.proofs.Drawing.{suffices_none}
 -- what a server fits is bounded
 pub fits_bounded : {H : Type 0} (hosting : Hosting H) (server : SeenServer H) (outset : Outset H) (history : List Event) (m : ℕ) → FitsServer hosting server outset history m →
     IsBounded outset.rules history
-fits_bounded hosting server outset history m fits = tokens_keep_their_bounds outset.rules history m fits.store.fits.is_history fits.right
+fits_bounded hosting server outset history m fits = tokens_keep_their_bounds outset.rules history m fits.store.kept.is_history fits.right
 
 pub run_push : {H : Type 0} (hosting : Hosting H) (outset : Outset H) (old middle new : World) (es : List Happening) (e : Happening) →
     Run hosting outset old es middle → Happens hosting outset middle e new → Run hosting outset old (es ++ e ∷ []) new
@@ -105,8 +104,9 @@ on_taken_nothing hosting edge edge' c n same none zero lanes journey reached =
     (inr (record { absent = shows_none edge.lanes journey.world.connections c reached.shows none; nothing = zero; same = refl }))
 
 -- a server that notes does so from this history on, once it was kept
-notes_anew : (unkept : Option (List DatedFact)) (history : List Event) → IsSome unkept → AreUnkept (option_map (λ facts. []) unkept) (Some history) history
-notes_anew unkept history noting = grind (arith, noting)
+notes_anew : (unkept : Option (List Event)) (history : List Event) → IsSome unkept → AreUnkept (option_map (λ facts. []) unkept) (Some history) history
+notes_anew None history noting = cc
+notes_anew (Some facts) history noting = Happened-none history
 
 -- what has happened was kept, and what is noted changes no answer
 pub on_kept : {H : Type 0} (hosting : Hosting H) (edge edge' : SeenEdge H) → NowNotes edge.server edge'.server (option_map (λ facts. []) edge.server.unkept) → edge'.lanes ≡ edge.lanes →
@@ -126,9 +126,9 @@ begun hosting edge none outset fits notes =
     record { run = refl; server = fits; notes = notes; shows = rw none tt; bounded = fits_bounded hosting edge.server outset [] 0 fits }
 
 -- what was kept is the beginning of what has happened
-is_kept_of : (unkept : Option (List DatedFact)) (kept : Option (List Event)) (history : List Event) → AreUnkept unkept kept history → IsKeptOf kept history
+is_kept_of : (unkept : Option (List Event)) (kept : Option (List Event)) (history : List Event) → AreUnkept unkept kept history → IsKeptOf kept history
 is_kept_of unkept None history noted = tt
-is_kept_of (Some facts) (Some kept) history noted = Happened-front kept history facts noted
+is_kept_of (Some facts) (Some kept) history noted = (facts, noted.leads)
 is_kept_of None (Some kept) history noted = absurd noted
 
 -- that goes on from a history
@@ -136,7 +136,7 @@ pub goes_on_from : {H : Type 0} (hosting : Hosting H) (edge : SeenEdge H) → ed
 goes_on_from hosting edge none outset history m kept fits notes = record {
   run = (
     resumed history m kept,
-    (record { first = refl; is_history = fits.store.fits.is_history; right = fits.right; kept = is_kept_of edge.server.unkept kept history notes }, refl),
+    (record { first = refl; is_history = fits.store.kept.is_history; right = fits.right; kept = is_kept_of edge.server.unkept kept history notes }, refl),
     refl,
   );
   server = fits;

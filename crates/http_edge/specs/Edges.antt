@@ -1,6 +1,6 @@
 -- An edge as it is seen, and why its events are refused.
 use Rattle.std.specs.Prelude.{ℕ, List, Option}
-use Rattle.change_codec.specs.Spelling.{DatedFact}
+use Rattle.consent.specs.History.{Event}
 use Rattle.endpoints.specs.Server.{SeenServer}
 use Rattle.http_edge.specs.Lanes.{SeenLane, lane_at, output_in}
 
@@ -12,5 +12,5 @@ abbrev pub output_of : {H : Type 0} → SeenEdge H → ℕ → List ℕ
 output_of edge c = output_in (lane_at edge.lanes c)
 
 -- what has happened and was not kept yet, where it is noted
-abbrev pub unkept_of : {H : Type 0} → SeenEdge H → Option (List DatedFact)
+abbrev pub unkept_of : {H : Type 0} → SeenEdge H → Option (List Event)
 unkept_of edge = edge.server.unkept

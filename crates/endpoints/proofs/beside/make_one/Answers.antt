@@ -7,15 +7,15 @@ use Rattle.endpoints.proofs.beside.make_one.Goals.{in-Removes, in_default-checke
 pub returns-in-Consented-clause-hosts : goal.returns-in-Consented-clause-hosts
 returns-in-Consented-clause-hosts g c =
     let w = c.in-Consented in
-    step_host g.H.HookHost _ _ _ c.args.checked (told.Consented w.owner w.client w.mask) (λ history m. ap (change_of history m) w.is) refl
+    step_host g.H.HookHost _ _ _ c.args.checked (told.Consented w.owner w.client w.mask) (ap change_of w.is) refl
 
 pub returns-in-Installs : goal.returns-in-Installs
 returns-in-Installs g c =
     let w = c.in-HookSet in
     record {
-      consents = hook_consents _ _ (told.HookSet w.name.now w.version w.code.now) (λ history m. ap (change_of history m) w.is) refl;
+      consents = hook_consents _ _ (told.HookSet w.name.now w.version w.code.now) (ap change_of w.is) refl;
       hosts =
-          step_host g.H.HookHost _ _ _ c.args.checked (told.HookSet w.name.now w.version w.code.now) (λ history m. ap (change_of history m) w.is)
+          step_host g.H.HookHost _ _ _ c.args.checked (told.HookSet w.name.now w.version w.code.now) (ap change_of w.is)
           (c.take.ensures.done _ _ _ (rw w.is at (rw c.in-Installs.is at c.requires.hook)));
     }
 
@@ -23,17 +23,17 @@ pub returns-in_default-checked : goal.returns-in_default-checked
 returns-in_default-checked g c =
     let w = c.in-HookSet in
     record {
-      consents = hook_consents _ _ (told.HookSet w.name.now w.version w.code.now) (λ history m. ap (change_of history m) w.is) refl;
+      consents = hook_consents _ _ (told.HookSet w.name.now w.version w.code.now) (ap change_of w.is) refl;
       hosts = unset_host g.H.HookHost _ _ c.args.checked _ _ _ w.is c.in_default-checked.not-Installs;
     }
 
 pub returns-after-checked-3-clause-consents : goal.returns-after-checked-3-clause-consents
 returns-after-checked-3-clause-consents g c =
-    hook_consents _ _ (told.HookGone c.in-HookGone.name.now) (λ history m. ap (change_of history m) c.in-HookGone.is) refl
+    hook_consents _ _ (told.HookGone c.in-HookGone.name.now) (ap change_of c.in-HookGone.is) refl
 
 pub returns-after-checked-3-clause-hosts : goal.returns-after-checked-3-clause-hosts
 returns-after-checked-3-clause-hosts g c = elim c.match-checked-3.branch [
-  | in-Removes w ↦ rw w.host-is (step_host g.H.HookHost _ _ _ c.args.checked (told.HookGone c.in-HookGone.name.now) (λ history m. ap (change_of history m) c.in-HookGone.is) w.drop_named.ensures.done)
+  | in-Removes w ↦ rw w.host-is (step_host g.H.HookHost _ _ _ c.args.checked (told.HookGone c.in-HookGone.name.now) (ap change_of c.in-HookGone.is) w.drop_named.ensures.done)
   | in_default-checked-2 w ↦ rw w.host-is (kept_host g.H.HookHost _ _ c.args.checked _ c.in-HookGone.is w.in_default-checked-2.not-Removes)
 ]
 

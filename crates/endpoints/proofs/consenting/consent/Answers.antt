@@ -1,4 +1,4 @@
-use Rattle.std.proofs.Common.{ap, sym, Some, ◌∙◌}
+use Rattle.std.proofs.Common.{ap, sym, ◌∙◌}
 use Rattle.endpoints.proofs.Names.{setting_of, outcome_told}
 use Rattle.endpoints.proofs.Telling.{halts_by, consent_room, no_consent_room}
 use Rattle.endpoints.proofs.consenting.consent.Goals as goal
@@ -11,9 +11,9 @@ pub returns-then-not-has_room-clause-decides : goal.returns-then-not-has_room-cl
 returns-then-not-has_room-clause-decides c = λ history host shows.
     let full = sym (c.has_room.ensures history shows.consents) ∙ c.if-not-has_room.true in
     ap (outcome_told (setting_of c.args.view.now history host)) c.unavailable.ensures
-    ∙ ap Some (sym (c.in-Ok.ensures _ ∙ c.in-Ok-consented.ensures history host shows ∙ no_consent_room (setting_of c.args.view.now history host) _ _ _ full))
+    ∙ (sym (c.in-Ok.ensures _ ∙ c.in-Ok-consented.ensures history host shows ∙ no_consent_room (setting_of c.args.view.now history host) _ _ _ full))
 
 pub returns-clause-decides : goal.returns-clause-decides
 returns-clause-decides c = λ history host shows.
     let room = sym (c.has_room.ensures history shows.consents) ∙ c.if-not-has_room.false in
-    ap Some (sym (c.in-Ok.ensures _ ∙ c.in-Ok-consented.ensures history host shows ∙ consent_room (setting_of c.args.view.now history host) _ _ _ room))
+    (sym (c.in-Ok.ensures _ ∙ c.in-Ok-consented.ensures history host shows ∙ consent_room (setting_of c.args.view.now history host) _ _ _ room))
