@@ -17,6 +17,7 @@ pub record HookFact : Type 0 where
 pub record ImageFact : Type 0 where
   pub rules : RulesFact
   pub greatest : ℕ
+  pub last : ℕ
   pub records : List RecordFact
   pub consents : List KeptConsent
   pub hooks : List HookFact
@@ -40,6 +41,7 @@ abbrev pub image_fact : Image → ImageFact
 image_fact i = record {
   rules = rules_fact i.rules;
   greatest = i.greatest;
+  last = i.last;
   records = map record_fact i.records.items;
   consents = i.consents.items;
   hooks = map hook_fact i.hooks.items;

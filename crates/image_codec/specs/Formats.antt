@@ -49,12 +49,12 @@ unfoldable pub hook_format : Format HookFact
 hook_format = seen as_hook (text_format then version_format then bytes_format)
 
 abbrev pub ImageParts : Type 0
-ImageParts = RulesFact × (ℕ × (List RecordFact × (List KeptConsent × List HookFact)))
+ImageParts = RulesFact × (ℕ × (ℕ × (List RecordFact × (List KeptConsent × List HookFact))))
 
 abbrev pub as_image : Same ImageParts ImageFact
 as_image = record {
-  to = λ p. record { rules = p.0; greatest = p.1.0; records = p.1.1.0; consents = p.1.1.1.0; hooks = p.1.1.1.1 };
-  from = λ i. (i.rules, (i.greatest, (i.records, (i.consents, i.hooks))));
+  to = λ p. record { rules = p.0; greatest = p.1.0; last = p.1.1.0; records = p.1.1.1.0; consents = p.1.1.1.1.0; hooks = p.1.1.1.1.1 };
+  from = λ i. (i.rules, (i.greatest, (i.last, (i.records, (i.consents, i.hooks)))));
   from_to = λ _. refl;
   to_from = λ _. refl;
 }
@@ -62,4 +62,4 @@ as_image = record {
 unfoldable pub image_format : Format ImageFact
 image_format =
     seen as_image (
-    rules_format then moment_format then list_of record_format then list_of consent_format then list_of hook_format)
+    rules_format then moment_format then u64_format then list_of record_format then list_of consent_format then list_of hook_format)

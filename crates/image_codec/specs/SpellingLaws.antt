@@ -62,8 +62,8 @@ consents_count (c ∷ cs) = ((tt, (tt, tt)), consents_count cs)
 -- an image can be counted where its rules and each of its lists can
 pub image_counts : (i : ImageFact) → RulesCount i.rules → (list_of record_format).Counts i.records → length i.consents < 2 ^ 32 → (list_of hook_format).Counts i.hooks → ImageCounts i
 unfolding image_format
-image_counts i rules records few hooks = (rules, (tt, (records, ((few, consents_count i.consents), hooks))))
+image_counts i rules records few hooks = (rules, (tt, (tt, (records, ((few, consents_count i.consents), hooks)))))
 
 pub parts_of_counted : (i : ImageFact) → ImageCounts i → RulesCount i.rules × ((list_of record_format).Counts i.records × ((length i.consents < 2 ^ 32) × (list_of hook_format).Counts i.hooks))
 unfolding image_format
-parts_of_counted i counts = (counts.0, (counts.1.1.0, (counts.1.1.1.0.0, counts.1.1.1.1)))
+parts_of_counted i counts = (counts.0, (counts.1.1.1.0, (counts.1.1.1.1.0.0, counts.1.1.1.1.1)))

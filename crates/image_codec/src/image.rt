@@ -43,6 +43,8 @@ pub struct Image<'a> {
     pub rules: Rules<'a>,
     /// The greatest moment that a request was handed.
     pub greatest: Moment,
+    /// The greatest number of a family so far, 0 where there is none.
+    pub last: u64,
     pub records: Vec<KeptRecord<'a>>,
     pub consents: Vec<KeptConsent>,
     /// In the order of the chain.
@@ -140,6 +142,7 @@ impl Wire for Image<'_> {
     fn put(&self, out: &mut Vec<u8>) -> Result<(), EncodeFault> {
         self.rules.put(out)?;
         self.greatest.put(out)?;
+        self.last.put(out)?;
         self.records.put(out)?;
         self.consents.put(out)?;
         self.hooks.put(out)
@@ -152,6 +155,7 @@ impl<'a> FromWire<'a> for Image<'a> {
         Ok(Image {
             rules: Rules::from_wire(from)?,
             greatest: Moment::from_wire(from)?,
+            last: u64::from_wire(from)?,
             records: Vec::from_wire(from)?,
             consents: Vec::from_wire(from)?,
             hooks: Vec::from_wire(from)?,

@@ -1,8 +1,9 @@
 //! The image of a server as bytes, and back.
 //!
 //! An image is what is left of a server when what has expired goes. It is a byte 2, the version of the layout, and
-//! then, with nothing behind it: its rules, its greatest moment (wide), and the lists of its records, consents and
-//! hooks. Rules alone are a byte 0 and the rules, with nothing behind them. Batches of changes begin with a byte 1.
+//! then, with nothing behind it: its rules, its greatest moment (wide), the greatest number of a family so far (wide),
+//! and the lists of its records, consents and hooks. Rules alone are a byte 0 and the rules, with nothing behind
+//! them. Batches of changes begin with a byte 1.
 //!
 //! - rules: the names of the scopes, how many owners there are (short), the clients, the lives of access and refresh
 //!   tokens (short)

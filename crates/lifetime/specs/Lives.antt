@@ -55,7 +55,7 @@ LeavesKept p rules s device all =
 
 -- The server goes on from the history `before`: steps of the loop lead from there to its last state, and that is what its
 -- sockets, its clocks and its journal did (`served`). Where that ended since something could not be kept, its keeper has a
--- fault (`blamed`). At each state all codes and tokens keep to the registry's allowances and lives, and to consents
+-- fault (`blamed`). At each state all codes and tokens keep to the registry's allowances, tokens to lives and consents
 -- (`bounded`). What is kept at a state is in all that a crash leaves from then on, up to another state (`keeps`) or to the end
 -- of the life (`keeps_then`), and nothing that has not happened. A crash at any moment of the life left what one before it
 -- might have left, or all of `before` (`loses_nothing`).

@@ -10,16 +10,15 @@ use Rattle.clients.specs.RegistryRecord.{RegistryRecord}
 use Rattle.consent.specs.ListLaws.{count_by-narrower, find-passes}
 use Rattle.consent.specs.HistoryLaws.{named_before, is_history-later}
 use Rattle.consent.specs.History.{Event, Grant, grants, grant_at, is_named, is_unexpired, unexpired_count, code_terms, has_ended, is_good, IsHistory}
-use Rattle.consent.specs.declared.grant.Kind.{Kind}
 use Rattle.token_store.specs.Kept.{Kept, kept_at, kept_unexpired}
-use Rattle.token_store.specs.Fits.{FitsBy, FitsHistory, to_keep}
+use Rattle.token_store.specs.Fits.{FitsHistory, to_keep}
 use Rattle.narrowing.specs.Left.{ended_count, ends_under, is_beyond_rules, left_under}
-use Rattle.narrowing.specs.LeftKept.{left_by, left_grant, left_kept, kept_left}
+use Rattle.narrowing.specs.LeftKept.{left_grant, left_kept, kept_left}
 use Rattle.narrowing.specs.EndedParts.{ends_kept}
 use Rattle.narrowing.specs.LeftLaws.{grant_left, grant_at_left, count_left, code_terms_left, ended_left, spent_left, is_history_left, unexpired_left, family_by}
 use Rattle.narrowing.specs.ListsLaws.{passes, left_found, count_by-left, find-left, counts-alike}
 
-module _ (rules : RegistryRecord) (history : List Event) (m : ℕ) (number : ℕ → ℕ) where
+module _ (rules : RegistryRecord) (history : List Event) (m : ℕ) where
   abbrev beyond : ℕ → Bool
   beyond family = is_beyond_rules rules history family
 
@@ -27,14 +26,10 @@ module _ (rules : RegistryRecord) (history : List Event) (m : ℕ) (number : ℕ
   named_kept digest t k = is_named digest t k.grant
 
   abbrev keep : List ℕ → ℕ → Grant → Kept
-  keep digest t g = to_keep history number digest t g
+  keep digest t g = to_keep history digest t g
 
   abbrev keep_left : List ℕ → ℕ → Grant → Kept
-  keep_left digest t g = to_keep (left_under rules history) number digest t g
-
-  -- the number of a family changes nothing of what is left
-  numbered : (kind : Kind) (g : Grant) (n : ℕ) → left_by rules kind (record g { family = n }) ≡ record (left_by rules kind g) { family = n }
-  numbered kind g n = grind arith
+  keep_left digest t g = to_keep (left_under rules history) digest t g
 
   -- what is left under a digest was there
   named_left_kept : (digest : List ℕ) (t : ℕ) (k : Kept) → passes (named_kept digest t) (kept_left rules m k) ≡ true → named_kept digest t k ≡ true
@@ -53,7 +48,6 @@ module _ (rules : RegistryRecord) (history : List Event) (m : ℕ) (number : ℕ
       count_by (is_named digest t) (grants history) ≤ 1 → left_kept rules (keep digest t g) ≡ keep_left digest t (left_grant rules g)
   kept_alike digest t g stays there one =
       let same = family_by rules beyond g.kind g in
-      let grant = numbered g.kind g (number g.family) ∙ ap (λ (f : ℕ). record (left_grant rules g) { family = number f }) (sym same) in
       let terms = ap (code_terms (left_under rules history)) same ∙ code_terms_left rules beyond g.family stays history in
       let spent = spent_left rules beyond digest t history one there in
       let ended = ap (has_ended (left_under rules history)) same ∙ ended_left rules beyond g.family stays history in cc
@@ -85,7 +79,7 @@ module _ (rules : RegistryRecord) (history : List Event) (m : ℕ) (number : ℕ
       ap (λ b. is_unexpired m g && is_good history digest m g && not b) left
       ∙ ap (λ (d : List ℕ). is_unexpired m g && is_good history d m g && not (is_some (grant_at (left_under rules history) d m))) same
 
-  module _ (kept : List Kept) (fits : FitsBy kept history m number) where
+  module _ (kept : List Kept) (fits : FitsHistory kept history m) where
     abbrev left : List Kept
     left = filter_map (kept_left rules m) kept
 
@@ -132,33 +126,19 @@ module _ (rules : RegistryRecord) (history : List Event) (m : ℕ) (number : ℕ
         let b = count_by-narrower (named_kept digest m) (λ k. passes (named_kept digest m) (kept_left rules m k)) kept (named_left_kept digest m) in
         let c = fits.once digest in omega (arith, a, b, c)
 
-    was : (digest : List ℕ) (x g : Grant) → left_found (grant_left rules beyond) (is_named digest m) (Some x) ≡ Some g → g.family ≡ x.family
-    was digest x g is = grind (arith, is)
-
-    -- no two families that are left have one number
-    apart_left : (d e : List ℕ) (a b : Option Grant) → grant_at history d m ≡ a → grant_at history e m ≡ b → (g h : Grant) →
-        left_found (grant_left rules beyond) (is_named d m) a ≡ Some g → left_found (grant_left rules beyond) (is_named e m) b ≡ Some h →
-        number g.family ≡ number h.family → g.family ≡ h.family
-    apart_left d e (Some x) (Some y) at_x at_y g h is_g is_h same =
-        let a = was d x g is_g in let b = was e y h is_h in
-        a ∙ fits.apart d e x y at_x at_y (ap number (sym a) ∙ same ∙ ap number b) ∙ sym b
-    apart_left d e _ _ at_x at_y g h is_g is_h same = cc
-
-    pub fits_by-left : FitsBy left (left_under rules history) m number
-    fits_by-left = record {
+    pub fits-left : FitsHistory left (left_under rules history) m
+    fits-left = record {
       answers = answers_left;
       count = count_alike;
       once = once_left;
-      apart = λ d e g h at_d at_e same. apart_left d e (grant_at history d m) (grant_at history e m) refl refl g h
-          (sym (at_left d m (omega arith) fits.is_history) ∙ at_d) (sym (at_left e m (omega arith) fits.is_history) ∙ at_e) same;
       is_history = is_history_left rules beyond history m fits.is_history;
     }
 
 pub fits_history-left : (rules : RegistryRecord) (kept : List Kept) (history : List Event) (m : ℕ) → FitsHistory kept history m →
     FitsHistory (filter_map (kept_left rules m) kept) (left_under rules history) m
 fits_history-left rules kept history m fits =
-    record { number = fits.number; fits = fits_by-left rules history m fits.number kept fits.fits }
+    fits-left rules history m kept fits
 
 pub ended_count-kept : (rules : RegistryRecord) (kept : List Kept) (history : List Event) (m : ℕ) → FitsHistory kept history m →
     count_by (ends_kept rules m) kept ≡ ended_count rules history m
-ended_count-kept rules kept history m fits = ended_alike rules history m fits.number kept fits.fits
+ended_count-kept rules kept history m fits = ended_alike rules history m kept fits

@@ -1,13 +1,12 @@
 -- What is left of a history, by what is asked of it.
-use Rattle.std.proofs.Common.{◌≡◌, ◌≤◌, ℕ, List, [], ◌∷◌, Bool, true, false, cond, length, Option, None, Some, refl, ap, sym, ◌∙◌, arith}
+use Rattle.std.proofs.Common.{◌≡◌, ◌≤◌, ℕ, List, [], ◌∷◌, Bool, true, false, cond, Option, None, Some, refl, ap, sym, ◌∙◌, arith}
 use Rattle.std.specs.Prelude.{◌==◌, ◌||◌, nat_le, find, is_some, map, count_by, option_map, unwrap_or}
 use Rattle.std.specs.List.{list_any, list_all, filter_map, cons_option}
 use Rattle.std.proofs.lemmas.Bool.Decides.{nat_tests}
-use Rattle.std.proofs.lemmas.List.{length-map}
 use Rattle.std.proofs.lemmas.List.Folds.{list_all-map}
 use Rattle.clients.specs.RegistryRecord.{RegistryRecord}
-use Rattle.consent.specs.ListLaws.{find-uncounted, list_all-wider, count_by-narrower, count_by-cons}
-use Rattle.consent.specs.History.{Event, Change, Grant, Terms, grant_of, grants, grant_at, is_named, is_unexpired, unexpired_count, is_code_of, is_of, last_consent, consented_scope, consents_kept, opener, code_terms, terms_of, lowers, ends, is_lowered, has_ended, spends, is_spent, is_placed, all_placed, all_kin, IsHistory}
+use Rattle.consent.specs.ListLaws.{find-uncounted, count_by-narrower, count_by-cons}
+use Rattle.consent.specs.History.{Event, Change, Grant, Terms, grant_of, grants, grant_at, is_named, is_unexpired, unexpired_count, is_code_of, last_consent, consented_scope, consents_kept, opener, code_terms, terms_of, lowers, ends, is_lowered, has_ended, spends, is_spent, family_of, greatest_family, are_kin, all_kin, IsHistory}
 use Rattle.consent.specs.History.Change.{CodeGiven, Issued, FamilyEnded}
 use Rattle.consent.specs.Consents.{KeptConsents, FitsConsents, unless_empty}
 use Rattle.consent.specs.declared.grant.Kind.{Kind}
@@ -150,30 +149,35 @@ module _ (rules : RegistryRecord) (beyond : ℕ → Bool) where
 
   -- WHAT EVERY HISTORY HAS
 
-  all_placed_left : (es : List Event) → all_placed es ≡ true → all_placed (left_events es) ≡ true
-  all_placed_left es placed =
-      ap (λ n. list_all (λ e. is_placed n e.change) (left_events es)) (length-map es (left_event rules beyond))
-      ∙ list_all-map (λ e. is_placed (length es) e.change) (left_event rules beyond) es
-      ∙ list_all-wider (λ e. is_placed (length es) e.change) (λ e. is_placed (length es) (left_of rules beyond e.change)) es (λ e is. grind (arith, is)) placed
+  kin_by : (kind : Kind) (g : Grant) → ((left_by rules kind g).client ≡ g.client) × ((left_by rules kind g).owner ≡ g.owner)
+  kin_by kind g = (grind arith, grind arith)
 
-  all_kin_left : (es : List Event) → all_kin es ≡ true → all_kin (left_events es) ≡ true
+  kin_of : (g h x y : Grant) → grant_left g ≡ Some h → grant_left x ≡ Some y → are_kin g x ≡ true → are_kin h y ≡ true
+  kin_of g h x y at bt is =
+      let one = kin_by g.kind g in
+      let other = kin_by x.kind x in
+      let family = family_by g.kind g in
+      let same = family_by x.kind x in
+      grind (arith, nat_tests, one, other, family, same, at, bt, is)
+
+  all_kin_left : (es : List Event) → all_kin (grants es) ≡ true → all_kin (grants (left_events es)) ≡ true
   all_kin_left es kin =
-      ap (list_all (λ g. is_of g.client g.owner (opener (left_events es) g.family))) (grants_left es)
-      ∙ list_all-left grant_left (λ g. is_of g.client g.owner (opener es g.family)) (λ g. is_of g.client g.owner (opener (left_events es) g.family)) (grants es) kin_of kin
-    where
-      kin_of : (g h : Grant) → is_of g.client g.owner (opener es g.family) ≡ true → grant_left g ≡ Some h →
-          is_of h.client h.owner (opener (left_events es) h.family) ≡ true
-      kin_of g h is at =
-          let same : h.family ≡ g.family = grind (arith, at) in
-          let stays : beyond g.family ≡ false = grind (arith, at) in
-          let opened = opener_left g.family stays es in
-          ap (λ f. is_of h.client h.owner (opener (left_events es) f)) same ∙ grind (arith, at, opened, is)
+      ap all_kin (grants_left es)
+      ∙ list_all-left grant_left (λ g. list_all (are_kin g) (grants es)) (λ h. list_all (are_kin h) (filter_map grant_left (grants es))) (grants es)
+      (λ g h all at. list_all-left grant_left (are_kin g) (are_kin h) (grants es) (λ x y is bt. kin_of g h x y at bt is) all) kin
+
+  -- families have the numbers that they had
+  numbered_left : (change : Change) → family_of (left_of rules beyond change) ≡ family_of change
+  numbered_left change = grind arith
+
+  pub greatest_left : (es : List Event) → greatest_family (left_events es) ≡ greatest_family es
+  greatest_left [] = refl
+  greatest_left (e ∷ es) = let here = numbered_left e.change in let more = greatest_left es in grind (arith, here, more)
 
   pub is_history_left : (es : List Event) (moment : ℕ) → IsHistory es moment → IsHistory (left_events es) moment
   is_history_left es moment is = record {
     past = list_all-map (λ e. nat_le e.moment moment) (left_event rules beyond) es ∙ is.past;
     single = λ digest. (let a = fewer (is_named digest moment) es (named_left digest moment) in let b = is.single digest in omega (arith, a, b));
     one_code = λ family. (let a = fewer (is_code_of family) es (λ g here. grind (arith, here)) in let b = is.one_code family in omega (arith, a, b));
-    placed = all_placed_left es is.placed;
     kin = all_kin_left es is.kin;
   }

@@ -4,6 +4,7 @@ use Rattle.batch_file.specs.Frames.{recovered}
 use Rattle.consent.specs.Consents.{FitsConsents, kept_consents}
 use Rattle.consent.specs.History.{Event}
 use Rattle.consent.specs.declared.kept_consent.KeptConsent.{KeptConsent}
+use Rattle.endpoints.specs.Restoring.{IsLastOf}
 use Rattle.endpoints.specs.Server.{Outset, outset_of}
 use Rattle.hook_host.specs.declared.host.HookHost.{Ghosts as Hosting}
 use Rattle.change_codec.specs.Rules.{RulesFact}
@@ -47,12 +48,12 @@ of_image number batches _ of = absurd of
 module _ {H : Type 0} (hosting : Hosting H) where
   -- a server that fits a history has an image that is one of it
   pub imaged : (restored : Restored H) (image : ImageFact) (records : List KeptRecord) (consents : List KeptConsent) →
-      map record_fact records ≡ image.records → consents ≡ image.consents → image.greatest ≡ restored.moment → image.hooks ≡ restored.hooks →
+      map record_fact records ≡ image.records → consents ≡ image.consents → image.greatest ≡ restored.moment → IsLastOf restored.server image.last → image.hooks ≡ restored.hooks →
       ((history : List Event) → FitsStore restored.server.store history restored.server.greatest → FitsHistory (as_kept records) history restored.server.greatest) →
       ((history : List Event) → FitsConsents restored.server.consents history → FitsConsents (kept_consents consents) history) →
       (outset : Outset H) (history : List Event) → FitsRestored hosting restored outset history → IsImageOf image history
-  imaged restored image records consents told given greatest hooks lists gives outset history fits =
-      is_image hosting restored.server image records consents restored.hooks told given (greatest ∙ sym fits.0.greatest_is) hooks lists gives outset history restored.moment fits.0 fits.1
+  imaged restored image records consents told given greatest last hooks lists gives outset history fits =
+      is_image hosting restored.server image records consents restored.hooks told given (greatest ∙ sym fits.0.greatest_is) last hooks lists gives outset history restored.moment fits.0 fits.1
 
   -- so has an account
   pub image_in : (account : Account H) (image : ImageFact) → ((outset : Outset H) (history : List Event) → FitsRestored hosting account.restored outset history → IsImageOf image history) →

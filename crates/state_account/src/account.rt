@@ -153,6 +153,7 @@ impl<H: HookHost> Account<H> {
         Ok(Image {
             rules,
             greatest: self.restored.moment,
+            last: self.restored.server.last_family(),
             records,
             consents,
             hooks,

@@ -1,13 +1,13 @@
 -- From where the changes of a file lead on.
 use Rattle.std.proofs.Common.{◌≡◌, inl, inr, ℕ, zero, suc, List, [], ◌∷◌, ◌++◌, true, false, Option, Some, None, refl, sym, ap, ◌∙◌, subst}
-use Rattle.state_file.proofs.Names.{max, recovered, Event, Happened-front, DatedFact, AllRight, AreUnkept, Outset, Hosting, HookFact, ImageFact, ImageFits, image_spelling, hooks_behind, hooks_set_in}
+use Rattle.state_file.proofs.Names.{max, recovered, Event, Happened-none, AllRight, AreUnkept, Outset, Hosting, HookFact, ImageFact, ImageFits, image_spelling, hooks_after, hooks_set_in}
 use Rattle.state_file.proofs.Names.{AnswersFor, BeginsByBatches, FitsOn, FitsRestored, HaveNoImage, IsMadeOf, IsRight, RedoesBatches, Replays, WasRun, AreTold, Begin, BeginWithImage, IsMomentTold}
 use Rattle.state_file.proofs.Names.{StandFor, StandsFor, first_moment, last_moment, until_of, Restored}
 use Rattle.state_file.proofs.Hooked.{hooks_of-happened}
 use Rattle.state_file.proofs.Redone.{right_before}
 
 -- batches that tell changes alone have no image first
-no_image : (batches : List (List ℕ)) (facts : List DatedFact) → AreTold batches facts → HaveNoImage batches
+no_image : (batches : List (List ℕ)) (facts : List Event) → AreTold batches facts → HaveNoImage batches
 no_image [] facts told = tt
 no_image ((suc (suc zero) ∷ fields) ∷ batches) facts told = let e = told.2.1 in absurd cc
 no_image (_ ∷ batches) facts told = refl
@@ -38,8 +38,7 @@ module _ {H : Type 0} (hosting : Hosting H) (outset : Outset H) where
           (none.1 ∙ are ∙ sym anew.0, subst (λ (h : List Event). FitsRestored hosting restored outset h) (sym none.0) anew.1)
       by (inr of) =
           let made = begins.of_image of.0 stands.later (of.2.0, sym are ∙ of.2.1) in
-          let front = Happened-front stands.base history stands.facts stands.happened in
-          (sym made.0, made.1.1 stands.base of.1 (was_right right of.0 of.2.1 front.0 front.1) (ran run of.0 of.2.1 front.0 front.1))
+          (sym made.0, made.1.1 stands.base of.1 (was_right right of.0 of.2.1 stands.facts stands.happened.leads) (ran run of.0 of.2.1 stands.facts stands.happened.leads))
 
   -- once the later batches are made again for it, it fits what the bytes stand for
   pub answers_for : (batches later : List (List ℕ)) (begun restored : Restored H) → BeginsByBatches hosting outset batches later begun →
@@ -51,7 +50,7 @@ module _ {H : Type 0} (hosting : Hosting H) (outset : Outset H) where
 
   -- so it does from a later moment on
   pub answers_reached : (left : List ℕ) (old new : Restored H) → FitsOn hosting old [] new → AnswersFor hosting left outset old → AnswersFor hosting left outset new
-  answers_reached left old new on answers history stands right run = on outset history history (answers history stands right run) refl
+  answers_reached left old new on answers history stands right run = on outset history history (answers history stands right run) (Happened-none history)
 
 -- so are the hooks and the moment
 module _ {H : Type 0} (hosting : Hosting H) (outset : Outset H) where
@@ -72,7 +71,7 @@ module _ {H : Type 0} (hosting : Hosting H) (outset : Outset H) where
   led_on batches later begun restored begins redone history stands =
       let from = begun_from batches later begun history stands begins stands.begins in
       let all = redone.1 stands.facts (subst (λ (bs : List (List ℕ)). AreTold bs stands.facts) from.0 stands.told) in (
-        all.0 ∙ ap (λ (hs : List HookFact). hooks_behind hs stands.facts) from.1 ∙ sym (hooks_of-happened stands.base history stands.facts stands.happened),
+        all.0 ∙ ap (λ (hs : List HookFact). hooks_after hs stands.facts) from.1 ∙ sym (hooks_of-happened stands.base history stands.facts stands.happened),
         all.3 ∙ ap (λ (m : ℕ). last_moment m stands.facts) from.2,
       )
 
@@ -94,7 +93,7 @@ same_image batches later behind batch read image are begin one =
     (rest, one begin.0 front)
 
 -- what has noted nothing notes nothing
-noted_none : (unkept : Option (List DatedFact)) → AreUnkept unkept None [] → unkept ≡ None
+noted_none : (unkept : Option (List Event)) → AreUnkept unkept None [] → unkept ≡ None
 noted_none None notes = refl
 noted_none (Some facts) notes = absurd notes
 

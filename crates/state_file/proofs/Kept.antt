@@ -1,7 +1,7 @@
 -- What a keeper holds when other batches are put in the place of its file's: also those that have one more.
 use Rattle.std.proofs.Common.{◌≡◌, ◌⊎◌, ⊎_elim, ◌≤◌, inl, inr, ℕ, List, [], ◌∷◌, ◌++◌, Option, refl, sym, ap, ◌∙◌, subst, arith}
 use Rattle.state_file.proofs.Names.{LeavesOnly, recovered, IsOldOrNew, IsOnDisk, BatchFile, Device, Event, Basis, Until, Rules, Holds, HoldsBasis, Keeps, KeepsBasis, KeepsNot, LeavesEither}
-use Rattle.state_file.proofs.Names.{StandsForEither, TellsBasis, Happened, RulesFact, DatedFact, HaveSpelling, batch_spelling, LeftTells, SeenKeeper, TellBasis, file_crashes, StandFor, until_of}
+use Rattle.state_file.proofs.Names.{StandsForEither, TellsBasis, Happened, RulesFact, HaveSpelling, batch_spelling, LeftTells, SeenKeeper, TellBasis, file_crashes, StandFor, until_of}
 use Rattle.state_file.proofs.Names.{AreTold-changes, StandFor-joined, until_of-more, Tell, last_rules, last_rules-push}
 use Rattle.batch_file.specs.declared.appending.BatchFault.{BatchFault}
 
@@ -84,12 +84,12 @@ module _ {D : Type 0} (device : Device D) where
 
 -- A BATCH OF CHANGES MORE
 
-pub changes_stand : (batches : List (List ℕ)) (batch : List ℕ) (facts : List DatedFact) (before after : List Event) → batch ≡ batch_spelling facts → HaveSpelling facts →
+pub changes_stand : (batches : List (List ℕ)) (batch : List ℕ) (facts : List Event) (before after : List Event) → batch ≡ batch_spelling facts → HaveSpelling facts →
     Happened before facts after → StandFor batches before → StandFor (batches ++ batch ∷ []) after
 changes_stand batches batch facts before after is fits happened stands =
     subst (λ (b : List ℕ). StandFor (batches ++ b ∷ []) after) (sym is)
     (StandFor-joined batches (batch_spelling facts ∷ []) before after facts stands (AreTold-changes facts fits) happened)
 
-pub changes_tell : (batches : List (List ℕ)) (batch : List ℕ) (facts : List DatedFact) → batch ≡ batch_spelling facts → TellOn batches (batches ++ batch ∷ [])
+pub changes_tell : (batches : List (List ℕ)) (batch : List ℕ) (facts : List Event) → batch ≡ batch_spelling facts → TellOn batches (batches ++ batch ∷ [])
 changes_tell batches batch facts is = tell_on batches (batches ++ batch ∷ []) (until_of-more batches (batch ∷ []))
     (λ rules tell. (tell.0, ap (λ (b : List ℕ). last_rules (batches ++ b ∷ [])) is ∙ last_rules-push batches (batch_spelling facts) ∙ tell.1, tell.2))

@@ -1,7 +1,7 @@
 -- What is known of a file's batches once there is one more, or once an image stands there.
 use Rattle.std.proofs.Common.{◌≡◌, ◌<◌, ◌≤◌, ◌^◌, inl, inr, ℕ, List, [], ◌∷◌, ◌++◌, length, true, false, Option, Some, None, refl, sym, ap, ◌∙◌, subst, arith}
-use Rattle.state_file.proofs.Names.{IfSome, Happened, Happened-split, DatedFact, HaveSpelling, batch_spelling, Event, one_image, RulesFact, HookFact, ImageFact, ImageFits, image_spelling}
-use Rattle.state_file.proofs.Names.{rules_spelling, AreBehind, hooks_behind, hooks_set_in, IsKnown, image_size, AreTold, Begin, IsImageOf, StandFor, begins_image, horizon, horizons, until_of}
+use Rattle.state_file.proofs.Names.{IfSome, Happened, Happened-split, Happened-nothing, HaveSpelling, batch_spelling, Event, one_image, RulesFact, HookFact, ImageFact, ImageFits, image_spelling}
+use Rattle.state_file.proofs.Names.{rules_spelling, AreBehind, hooks_after, hooks_set_in, IsKnown, image_size, AreTold, Begin, IsImageOf, StandFor, begins_image, horizon, horizons, until_of}
 use Rattle.state_file.proofs.Names.{AreTold-split, until_of-append, AreToldBehind, Tell, last_rules, last_rules-push, tell_in, tell_one, tells_one, Known}
 use Rattle.change_codec.specs.SpellingLaws.{one_list}
 use Rattle.state_file.proofs.Hooked.{hooks_of-happened}
@@ -15,7 +15,7 @@ use Rattle.state_file.proofs.Tells.{tells_behind, until_behind}
 pub record StoodBefore (batches : List (List ℕ)) (batch : List ℕ) (history : List Event) : Type 0 where
   pub before : List Event
   pub stands : StandFor batches before
-  pub facts : List DatedFact
+  pub facts : List Event
   pub told : AreTold (batch ∷ []) facts
   pub happened : Happened before facts history
 
@@ -27,7 +27,7 @@ stood_before batches batch history none stands = by stands.begins
     split later begun same =
         let told : AreTold (later ++ batch ∷ []) stands.facts = subst (λ (bs : List (List ℕ)). AreTold bs stands.facts) same stands.told in
         let parts = AreTold-split later (batch ∷ []) stands.facts told in
-        let ways = Happened-split stands.base history parts.0 parts.1 (subst (λ (ds : List DatedFact). Happened stands.base ds history) parts.4 stands.happened) in
+        let ways = Happened-split stands.base history parts.0 parts.1 (subst (λ (ds : List Event). Happened stands.base ds history) parts.4 stands.happened) in
         record {
           before = ways.0;
           stands = record { base = stands.base; later = later; facts = parts.0; begins = begun; told = parts.2; happened = ways.1 };
@@ -66,7 +66,7 @@ told_before batches bytes told batch same known tell = known told (tell.0, sym s
 -- A BATCH OF CHANGES
 
 -- the hooks behind the batch, where those before it were taken out and the batch was read
-hooks_now : (batches : List (List ℕ)) (batch read : List ℕ) (facts : List DatedFact) (taken new : Option (List HookFact)) → batch ≡ batch_spelling facts → read ≡ batch_spelling facts → HaveSpelling facts →
+hooks_now : (batches : List (List ℕ)) (batch read : List ℕ) (facts : List Event) (taken new : Option (List HookFact)) → batch ≡ batch_spelling facts → read ≡ batch_spelling facts → HaveSpelling facts →
     IfSome new (λ hooks. (set : List HookFact) × (taken ≡ Some set) × AreBehind set read hooks) →
     IfSome taken (λ hooks. (history : List Event) → StandFor batches history → hooks ≡ hooks_set_in history) →
     IfSome new (λ hooks. (history : List Event) → StandFor (batches ++ batch ∷ []) history → hooks ≡ hooks_set_in history)
@@ -74,13 +74,13 @@ hooks_now batches batch read facts taken None is spelled fits behind known = tt
 hooks_now batches batch read facts taken (Some hooks) is spelled fits behind known = λ history stands.
     let stood = stood_before batches batch history (ap begins_image is) stands in
     let same : stood.facts ≡ facts = told_as batch facts stood.facts is (λ others fit same. one_list others facts fit fits (sym same ∙ is)) stood.told in
-    let on = hooks_of-happened stood.before history facts (subst (λ (ds : List DatedFact). Happened stood.before ds history) same stood.happened) in
+    let on = hooks_of-happened stood.before history facts (subst (λ (ds : List Event). Happened stood.before ds history) same stood.happened) in
     let were : (history : List Event) → StandFor batches history → behind.0 ≡ hooks_set_in history =
     subst (λ (o : Option (List HookFact)). IfSome o (λ hooks. (history : List Event) → StandFor batches history → hooks ≡ hooks_set_in history)) behind.1 known in
-    behind.2 facts fits spelled ∙ ap (λ (hs : List HookFact). hooks_behind hs facts) (were stood.before stood.stands) ∙ sym on
+    behind.2 facts fits spelled ∙ ap (λ (hs : List HookFact). hooks_after hs facts) (were stood.before stood.stands) ∙ sym on
 
 -- what is known then, of the rules, the image and the horizons that were known
-pub known_changes : (batches : List (List ℕ)) (batch read : List ℕ) (facts : List DatedFact) (taken : Option (List HookFact)) (old new : Known) → batch ≡ batch_spelling facts → read ≡ batch_spelling facts →
+pub known_changes : (batches : List (List ℕ)) (batch read : List ℕ) (facts : List Event) (taken : Option (List HookFact)) (old new : Known) → batch ≡ batch_spelling facts → read ≡ batch_spelling facts →
     HaveSpelling facts → new.rules ≡ old.rules → new.image ≡ old.image → new.until ≡ old.until → taken ≡ old.hooks →
     IfSome new.hooks (λ hooks. (set : List HookFact) × (taken ≡ Some set) × AreBehind set read hooks) → IsKnown batches old → IsKnown (batches ++ batch ∷ []) new
 known_changes batches batch read facts taken old new is spelled fits rules image until took behind known = record {
@@ -93,11 +93,12 @@ known_changes batches batch read facts taken old new is spelled fits rules image
 -- BATCHES WITHOUT CHANGES
 
 -- whoever stands for a history then stood for it before
-stood_same : (batches : List (List ℕ)) (batch : List ℕ) (history : List Event) → begins_image batch ≡ false → ((facts : List DatedFact) → AreTold (batch ∷ []) facts → facts ≡ []) →
+stood_same : (batches : List (List ℕ)) (batch : List ℕ) (history : List Event) → begins_image batch ≡ false → ((facts : List Event) → AreTold (batch ∷ []) facts → facts ≡ []) →
     StandFor (batches ++ batch ∷ []) history → StandFor batches history
 stood_same batches batch history none nothing stands =
     let stood = stood_before batches batch history none stands in
-    let same : history ≡ stood.before = subst (λ (ds : List DatedFact). Happened stood.before ds history) (nothing stood.facts stood.told) stood.happened in
+    let same : history ≡ stood.before =
+    Happened-nothing stood.before history (subst (λ (ds : List Event). Happened stood.before ds history) (nothing stood.facts stood.told) stood.happened) in
     subst (λ (h : List Event). StandFor batches h) (sym same) stood.stands
 
 hooks_stay : (old new : List (List ℕ)) (hooks : Option (List HookFact)) → ((history : List Event) → StandFor new history → StandFor old history) →
@@ -106,13 +107,13 @@ hooks_stay : (old new : List (List ℕ)) (hooks : Option (List HookFact)) → ((
 hooks_stay old new None back known = tt
 hooks_stay old new (Some hooks) back known = λ history stands. known history (back history stands)
 
-horizon_nothing : (until : ℕ) (facts : List DatedFact) → AreTold (horizon until ∷ []) facts → facts ≡ []
+horizon_nothing : (until : ℕ) (facts : List Event) → AreTold (horizon until ∷ []) facts → facts ≡ []
 horizon_nothing until facts told = nothing_told (horizon until) facts (λ some is. is.1) told
 
-horizons_nothing : (until : ℕ) (facts : List DatedFact) → AreTold (horizons until) facts → facts ≡ []
+horizons_nothing : (until : ℕ) (facts : List Event) → AreTold (horizons until) facts → facts ≡ []
 horizons_nothing until facts = by_horizons until (λ bs. AreTold bs facts → facts ≡ []) (λ _ told. told) (horizon_nothing until facts)
 
-rules_nothing : (rules : RulesFact) (facts : List DatedFact) → AreTold (rules_spelling rules ∷ []) facts → facts ≡ []
+rules_nothing : (rules : RulesFact) (facts : List Event) → AreTold (rules_spelling rules ∷ []) facts → facts ≡ []
 rules_nothing rules facts told = nothing_told (rules_spelling rules) facts (λ some is. is) told
 
 -- a horizon beyond those before
@@ -168,5 +169,5 @@ known_image image known hooks fits less rules_are there hooks_are sized = record
         let rest : stands.later ≡ horizons known.until = cc in
         let same : image ≡ of.0 = one_image image of.0 fits of.2.0 first in
         let none : stands.facts ≡ [] = horizons_nothing known.until stands.facts (subst (λ (bs : List (List ℕ)). AreTold bs stands.facts) rest stands.told) in
-        let stays : history ≡ stands.base = subst (λ (ds : List DatedFact). Happened stands.base ds history) none stands.happened in
+        let stays : history ≡ stands.base = Happened-nothing stands.base history (subst (λ (ds : List Event). Happened stands.base ds history) none stands.happened) in
         sym hooks_are ∙ ap (λ (i : ImageFact). i.hooks) same ∙ of.1.hooks ∙ ap hooks_set_in (sym stays)

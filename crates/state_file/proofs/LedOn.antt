@@ -1,6 +1,6 @@
 -- A start, from the file's changes up to the batches of the new file.
 use Rattle.std.proofs.Common.{◌≡◌, ◌≤◌, ◌^◌, ◌∙◌, inl, inr, ℕ, List, [], ◌∷◌, length, Option, None, Some, refl, sym, ap, subst, arith}
-use Rattle.state_file.proofs.Names.{unwrap_or, option_map, recovered, Event, Happened, DatedFact, batch_spelling, SeenServer, FitsServer, Notes, NowNotes, AreUnkept, Outset, Hosting, RulesFact}
+use Rattle.state_file.proofs.Names.{unwrap_or, option_map, recovered, Event, Happened, Happened-none, Happened-nothing, batch_spelling, SeenServer, FitsServer, Notes, NowNotes, AreUnkept, Outset, Hosting, RulesFact}
 use Rattle.state_file.proofs.Names.{AreSet, with_hooks, AreTooLong, MakesFrom, Made, OnBytes, RefusesMaking, AreAdded, AreToldBehind, IsUnadded, StandInFor, FitsRestored, Sets, StandFor, until_of}
 use Rattle.state_file.proofs.Names.{AreTold-changes, StandFor-joined, until_of-append, Tell, last_rules, last_rules-push, StateFault, Restored}
 use Rattle.state_file.specs.declared.fault.StateFault.TheVariants as state
@@ -15,10 +15,10 @@ noting_fits hosting restored server outset history begins fits =
 
 -- BATCHES WITH WHAT WAS NOTED
 
-module _ (facts : List DatedFact) (old new : List (List ℕ)) where
+module _ (facts : List Event) (old new : List (List ℕ)) where
   pub added_stand : (before after : List Event) → AreAdded facts old new → Happened before facts after → StandFor old before → StandFor new after
   added_stand before after (inl none) happened stands =
-      let same : after ≡ before = subst (λ (ds : List DatedFact). Happened before ds after) none.0 happened in
+      let same : after ≡ before = Happened-nothing before after (subst (λ (ds : List Event). Happened before ds after) none.0 happened) in
       subst (λ (bs : List (List ℕ)). StandFor bs after) (sym none.1) (subst (λ (h : List Event). StandFor old h) (sym same) stands)
   added_stand before after (inr more) happened stands =
       subst (λ (bs : List (List ℕ)). StandFor bs after) (sym more.1) (StandFor-joined old (batch_spelling facts ∷ []) before after facts stands (AreTold-changes facts more.0) happened)
@@ -32,16 +32,16 @@ module _ (facts : List DatedFact) (old new : List (List ℕ)) where
   added_until (inr more) = let all = until_of-append old (batch_spelling facts ∷ []) in rw more.1 (omega (arith, all))
 
 -- nothing is unkept any more, where that is noted
-abbrev no_more : Option (List DatedFact) → Option (List DatedFact)
-no_more unkept = option_map (λ (facts : List DatedFact). []) unkept
+abbrev no_more : Option (List Event) → Option (List Event)
+no_more unkept = option_map (λ (facts : List Event). []) unkept
 
 -- what was noted from a history leads on from there
-noted_leads : (unkept : Option (List DatedFact)) (before after : List Event) → AreUnkept unkept (Some before) after → Happened before (unwrap_or unkept []) after × (no_more unkept ≡ Some [])
+noted_leads : (unkept : Option (List Event)) (before after : List Event) → AreUnkept unkept (Some before) after → Happened before (unwrap_or unkept []) after × (no_more unkept ≡ Some [])
 noted_leads None before after notes = absurd notes
 noted_leads (Some facts) before after notes = (notes, refl)
 
 -- why it is not added
-pub unadded : {H : Type 0} (hosting : Hosting H) (on : OnBytes H) (facts : List DatedFact) (fault : StateFault) → (2 ^ 32 ≤ length (batch_spelling facts) → AreTooLong hosting on) →
+pub unadded : {H : Type 0} (hosting : Hosting H) (on : OnBytes H) (facts : List Event) (fault : StateFault) → (2 ^ 32 ≤ length (batch_spelling facts) → AreTooLong hosting on) →
     IsUnadded facts fault → RefusesMaking hosting on fault
 unadded hosting on facts state.Memory long is = inl tt
 unadded hosting on facts state.Full long is = inr (inr (refl, long is))
@@ -78,7 +78,7 @@ pub makes_from : {H : Type 0} (hosting : Hosting H) (on : OnBytes H) (made : Mad
 makes_from {H = H} hosting on made restored noting set rules history fits begins sets moment same unkept moment_is leads stands =
     let begun : FitsRestored hosting (record restored { server = noting }) on.outset history = noting_fits hosting restored noting on.outset history begins fits in
     let noted : noting.unkept ≡ Some [] = ap (λ (s : SeenServer H). s.unkept) begins in
-    let from : Notes noting (Some history) history = subst (λ facts. AreUnkept facts (Some history) history) (sym noted) refl in
+    let from : Notes noting (Some history) history = subst (λ facts. AreUnkept facts (Some history) history) (sym noted) (Happened-none history) in
     let all = sets on.outset history begun in
     let now : List Event = with_hooks made.moment history on.hooks in
     let at : with_hooks restored.moment history on.hooks ≡ now = ap (λ (m : ℕ). with_hooks m history on.hooks) (sym (moment_is ∙ moment)) in
@@ -88,7 +88,7 @@ makes_from {H = H} hosting on made restored noting set rules history fits begins
     let fits_made : FitsServer hosting made.server on.outset now made.moment =
     subst (λ (m : ℕ). FitsServer hosting made.server on.outset now m) (sym moment_is) (fits_noting hosting set.server made.server made.server.unkept on.outset now set.moment same fits_now.0) in
     record {
-      serves = record { fits = fits_made; notes = subst (λ (facts : Option (List DatedFact)). AreUnkept facts (Some now) now) (sym (unkept ∙ led.1)) refl };
+      serves = record { fits = fits_made; notes = subst (λ (facts : Option (List Event)). AreUnkept facts (Some now) now) (sym (unkept ∙ led.1)) (Happened-none now) };
       set = subst (λ (h : List Event). AreSet on.hooks h) at all.1;
       stands = lead_stand hosting set.server made.server rules (recovered on.bytes) made.batches leads on.outset history now made.moment stands led.0 fits_made;
     }

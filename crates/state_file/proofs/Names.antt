@@ -1,18 +1,18 @@
 -- The names of other crates that more than one file of these proofs uses.
-pub use Rattle.state_file.specs.Names.{recovered, frames_size, Device, Happened, Basis, Until, Rules, ClientFact, RulesFact, DatedFact, HaveSpelling, batch_spelling, RegistryRecord, Event, is_within}
+pub use Rattle.state_file.specs.Names.{recovered, frames_size, Device, Happened, Basis, Until, Rules, ClientFact, RulesFact, HaveSpelling, batch_spelling, RegistryRecord, Event, is_within}
 pub use Rattle.state_file.specs.Names.{with_change, happens, Outset, SeenServer, FitsServer, Notes, AreNoted, Hosting, HookFact, ImageFact, ImageFits, image_spelling, rules_spelling, RulesFit}
 pub use Rattle.state_file.specs.Names.{StateFault, option_or, bytes_eq}
-pub use Rattle.batch_file.specs.Crashes.{LeavesOnly, Only, IsUnplaced}
-pub use Rattle.batch_file.specs.Frames.{IsOldOrNew, IsOnDisk, IsAsBefore, file_size, lists}
+pub use Rattle.batch_file.specs.Crashes.{LeavesOnly, Only}
+pub use Rattle.batch_file.specs.Frames.{IsOldOrNew, IsOnDisk, IsAsBefore, IsUnrenewed, file_size, lists}
 pub use Rattle.batch_file.specs.declared.appending.BatchFile.{BatchFile}
-pub use Rattle.change_codec.specs.Happened.{meaning_of, dated, all_dated}
-pub use Rattle.change_codec.specs.HappenedLaws.{Happened-front, Happened-split, meaning_of-told, Happened-joined}
+pub use Rattle.change_codec.specs.Happened.{dated, all_dated}
+pub use Rattle.consent.specs.HistoryLaws.{Happened-split, Happened-joined, Happened-none, Happened-nothing}
 pub use Rattle.change_codec.specs.Keeping.{Holds, HoldsBasis, Keeps, KeepsBasis, KeepsNot, LeavesEither, StandsForEither, TellsBasis}
 pub use Rattle.change_codec.specs.Spelling.{dated_fact, dated_facts}
 pub use Rattle.change_codec.specs.declared.dated.DatedChange.{DatedChange}
 pub use Rattle.clients.specs.ClientRecord.{ClientRecord}
 pub use Rattle.consent.specs.Consents.{FitsConsents, kept_consents}
-pub use Rattle.consent.specs.Facts.{Fact, Issued, FamilyEnded, fact_of}
+pub use Rattle.consent.specs.Changes.{change_of}
 pub use Rattle.consent.specs.History.{event_at, grant_at}
 pub use Rattle.consent.specs.RecordFacts.{record_fact}
 pub use Rattle.consent.specs.declared.change.Changes.TheVariants.{One}
@@ -28,7 +28,7 @@ pub use Rattle.image_codec.specs.SpellingLaws.{one_image, one_rules, rules_of_fi
 pub use Rattle.image_codec.specs.declared.image.ClientRules.{ClientRules}
 pub use Rattle.image_codec.specs.declared.image.KeptHook.{KeptHook}
 pub use Rattle.state_file.specs.Comparing.{AreAsWide, client_names, first_moved, first_narrowed, IsUnread, RefuseBeside, RefuseRules, TakesRules}
-pub use Rattle.state_file.specs.Hooks.{hooks_behind, hooks_set_in, hooks_by, hooks_with, hooks_after, AreBehind, AreSet, with_hooks, hook_named, with_hook, without_hook}
+pub use Rattle.state_file.specs.Hooks.{hooks_after, hooks_set_in, hooks_with, AreBehind, AreSet, with_hooks, hook_named, with_hook, without_hook}
 pub use Rattle.state_file.specs.Knowing.{LeftTells, SeenKeeper, TellBasis, file_crashes, IsKnown, image_size, IsLong}
 pub use Rattle.state_file.specs.Making.{AreTooLong, MakesFrom, Made, OnBytes, RefusesMaking, end_of, AreKeptShort, on_bytes}
 pub use Rattle.state_file.specs.MakingParts.{AreToldBehind, AreAdded, IsUnadded, StandInFor}

@@ -1,10 +1,9 @@
 -- Hooks that are set, and keeping that they are.
 use Rattle.std.proofs.Common.{◌≡◌, ℕ, List, [], ◌∷◌, ◌++◌, true, Option, None, Some, refl, sym, ap, ◌∙◌, subst, arith}
-use Rattle.state_file.proofs.Names.{bytes_eq, nat_tests, bytes_eq-Decides, Event, with_change, happens, Happened, all_dated, Happened-joined, DatedFact, with_notes, SeenServer, FitsServer, Notes}
+use Rattle.state_file.proofs.Names.{bytes_eq, nat_tests, bytes_eq-Decides, Event, event_at, with_change, happens, Happened, all_dated, Happened-joined, with_notes, SeenServer, FitsServer, Notes}
 use Rattle.state_file.proofs.Names.{NowNotes, AreUnkept, AreNoted, Outset, Hosting, HookFact, AreSet, hooks_set_in, hook_named, with_hook, with_hooks, FitsRestored, RedoesDated, Sets, Restored}
 use Rattle.std.proofs.lemmas.List.Elements.{All-append, All-cons, All-nil, All-weaker}
 use Rattle.consent.specs.declared.change.Changes.{Changes}
-use Rattle.consent.specs.Facts.{HookSet}
 use Rattle.state_file.proofs.Hooked.{hooks_of-with}
 
 -- LOOKING UP
@@ -54,7 +53,7 @@ stays_set moment history hook other is = by (hook_named hook.name (hooks_set_in 
 
 -- WHAT IS NOTED
 
-noted_more : (unkept : Option (List DatedFact)) (kept : Option (List Event)) (before after : List Event) (moment : ℕ) (changes : Changes) →
+noted_more : (unkept : Option (List Event)) (kept : Option (List Event)) (before after : List Event) (moment : ℕ) (changes : Changes) →
     AreUnkept unkept kept before → Happened before (all_dated moment changes) after → AreUnkept (with_notes unkept moment changes) kept after
 noted_more None None before after moment changes unkept happened = tt
 noted_more (Some facts) (Some kept) before after moment changes unkept happened =
@@ -64,7 +63,7 @@ noted_more _ _ before after moment changes unkept happened = absurd unkept
 module _ {H : Type 0} (hosting : Hosting H) where
   -- a hook of a new name
   pub sets_new : (old new : Restored H) (hook : HookFact) (changes : Changes) →
-      all_dated old.moment changes ≡ record { moment = old.moment; fact = HookSet hook.name hook.version hook.code } ∷ [] →
+      all_dated old.moment changes ≡ event_at old.moment (happens.HookSet hook.name hook.version hook.code) ∷ [] →
       RedoesDated hosting old (all_dated old.moment changes) new → new.server.unkept ≡ with_notes old.server.unkept old.moment changes →
       hook_named hook.name old.hooks ≡ None → Sets hosting old (hook ∷ []) new
   sets_new old new hook changes are redone noted none outset history fits =
@@ -73,11 +72,11 @@ module _ {H : Type 0} (hosting : Hosting H) where
       with_hook-new old.moment history hook free in
       let after : List Event = with_hook old.moment history hook in
       let happened : Happened history (all_dated old.moment changes) after =
-      subst (λ (ds : List DatedFact). Happened history ds after) (sym are) (happens.HookSet hook.name hook.version hook.code, refl, tt, goes_on) in
+      subst (λ (ds : List Event). Happened history ds after) (sym are) (record { follow = (tt, tt); leads = goes_on }) in
       let set : hook_named hook.name (hooks_set_in after) ≡ Some hook = ap (hook_named hook.name) (hooks_of-set old.moment history hook free) ∙ named_new (hooks_set_in history) hook free in (
         redone.1 outset history after fits happened,
         All-cons (λ (h : HookFact). hook_named h.name (hooks_set_in after) ≡ Some h) hook [] set (All-nil (λ (h : HookFact). hook_named h.name (hooks_set_in after) ≡ Some h)),
-        λ kept notes. subst (λ (unkept : Option (List DatedFact)). AreUnkept unkept kept after) (sym noted) (noted_more old.server.unkept kept history after old.moment changes notes happened),
+        λ kept notes. subst (λ (unkept : Option (List Event)). AreUnkept unkept kept after) (sym noted) (noted_more old.server.unkept kept history after old.moment changes notes happened),
       )
 
   -- some hooks, and then one
@@ -101,7 +100,7 @@ module _ {H : Type 0} (hosting : Hosting H) where
       )
 
   -- a server that only notes otherwise fits what it fitted
-  pub fits_noting : (old new : SeenServer H) (unkept : Option (List DatedFact)) (outset : Outset H) (history : List Event) (m : ℕ) → NowNotes old new unkept →
+  pub fits_noting : (old new : SeenServer H) (unkept : Option (List Event)) (outset : Outset H) (history : List Event) (m : ℕ) → NowNotes old new unkept →
       FitsServer hosting old outset history m → FitsServer hosting new outset history m
   fits_noting old new unkept outset history m now fits =
       subst (λ (s : SeenServer H). FitsServer hosting s outset history m) (sym now)

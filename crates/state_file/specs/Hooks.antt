@@ -1,7 +1,6 @@
 -- The hooks that a history sets.
 use Rattle.std.specs.Prelude.{◌≡◌, ◌++◌, ℕ, List, [], ◌∷◌, Option, Some, is_some, find, filter, not, if◌then◌else◌, All}
-use Rattle.state_file.specs.Names.{bytes_eq, Event, Change, with_change, happens, DatedFact, HaveSpelling, batch_spelling, HookFact}
-use Rattle.consent.specs.Facts.{Fact, HookSet, HookGone}
+use Rattle.state_file.specs.Names.{bytes_eq, Event, Change, with_change, happens, HaveSpelling, batch_spelling, HookFact}
 
 -- the hook of the name
 abbrev pub hook_named : List ℕ → List HookFact → Option HookFact
@@ -16,26 +15,15 @@ hooks_with hooks (happens.HookSet name version code) = hooks ++ record { name = 
 hooks_with hooks (happens.HookGone name) = without_hook name hooks
 hooks_with hooks _ = hooks
 
--- so it is by what is told of the change
-abbrev pub hooks_by : List HookFact → Fact → List HookFact
-hooks_by hooks (HookSet name version code) = hooks ++ record { name = name; version = version; code = code } ∷ []
-hooks_by hooks (HookGone name) = without_hook name hooks
-hooks_by hooks _ = hooks
-
--- the hooks that are set behind the dated changes
-abbrev pub hooks_behind : List HookFact → List DatedFact → List HookFact
-hooks_behind hooks [] = hooks
-hooks_behind hooks (d ∷ later) = hooks_behind (hooks_by hooks d.fact) later
-
--- so it is of those that the batch spells
-abbrev pub AreBehind : List HookFact → List ℕ → List HookFact → Type 0
-AreBehind before batch hooks =
-    (facts : List DatedFact) → HaveSpelling facts → batch ≡ batch_spelling facts → hooks ≡ hooks_behind before facts
-
 -- the hooks that are set after the events, in the order in which they were set
 abbrev pub hooks_after : List HookFact → List Event → List HookFact
 hooks_after hooks [] = hooks
 hooks_after hooks (e ∷ later) = hooks_after (hooks_with hooks e.change) later
+
+-- so it is of those that the batch spells
+abbrev pub AreBehind : List HookFact → List ℕ → List HookFact → Type 0
+AreBehind before batch hooks =
+    (facts : List Event) → HaveSpelling facts → batch ≡ batch_spelling facts → hooks ≡ hooks_after before facts
 
 abbrev pub hooks_set_in : List Event → List HookFact
 hooks_set_in history = hooks_after [] history

@@ -1,10 +1,10 @@
 -- The names of types and of other crates that more than one file of these definitions uses.
 pub use Rattle.batch_file.specs.Frames.{recovered, frames_size, torn_of, RefusesFile}
 pub use Rattle.batch_file.specs.declared.device.Device.{Ghosts as Device}
-pub use Rattle.change_codec.specs.Happened.{Happened}
+pub use Rattle.consent.specs.History.{Happened}
 pub use Rattle.change_codec.specs.Keeping.{Basis, Until, Rules, Crashes, crashes, IsFrontOf}
 pub use Rattle.change_codec.specs.Rules.{ClientFact, RulesFact}
-pub use Rattle.change_codec.specs.Spelling.{DatedFact, HaveSpelling, batch_spelling}
+pub use Rattle.change_codec.specs.Spelling.{HaveSpelling, batch_spelling}
 pub use Rattle.clients.specs.RegistryRecord.{RegistryRecord}
 pub use Rattle.consent.specs.History.{is_within, Event, Change, with_change, Change as happens}
 pub use Rattle.endpoints.specs.Hosts.{HostStep, HostRun}

@@ -1,11 +1,11 @@
 -- What a server does that is started on a state file.
 use Rattle.std.specs.Prelude.{◌≡◌, ◌≢◌, ◌⊎◌, ◌++◌, ℕ, List, [], ◌∷◌, false, None, Some, string_bytes}
-use Rattle.state_file.specs.Names.{RefusesFile, recovered, Happened, IsFrontOf, DatedFact, RegistryRecord, Event, HostRun, SeenServer, Outset, FitsServer, Notes, AreNoted, layout_of, Hosting}
+use Rattle.state_file.specs.Names.{RefusesFile, recovered, Happened, IsFrontOf, RegistryRecord, Event, HostRun, SeenServer, Outset, FitsServer, Notes, AreNoted, layout_of, Hosting}
 use Rattle.state_file.specs.Names.{RulesFact, HookFact, ImageFact, StateFault, NotState, Version, Damaged, Spelling, Follows, Image, HookDiffers, Hook}
 use Rattle.batch_file.specs.declared.framing.ReadFault.TheVariants as reading
 use Rattle.endpoints.specs.Bounded.{AllRight}
 use Rattle.state_file.specs.Comparing.{RefuseRules, TakesRules}
-use Rattle.state_file.specs.Hooks.{AreSet, hooks_behind, hooks_set_in, hook_named, with_hooks}
+use Rattle.state_file.specs.Hooks.{AreSet, hooks_after, hooks_set_in, hook_named, with_hooks}
 use Rattle.state_file.specs.Standing.{AreTold, BeginWithImage, IsImageOf, StandsFor, begins_image, last_moment}
 use Rattle.state_file.specs.Telling.{TellsRules, rules_of}
 use Rattle.state_file.specs.declared.fault.StateFault.TheVariants.{Memory}
@@ -20,7 +20,7 @@ FitsRestored hosting restored outset history =
     × (restored.hooks ≡ hooks_set_in history)
 
 -- Whatever history the old one fits: where the dated changes lead on to another one, the new one fits that, which is right.
-abbrev pub FitsOn : {H : Type 0} → Hosting H → Restored H → List DatedFact → Restored H → Type 0
+abbrev pub FitsOn : {H : Type 0} → Hosting H → Restored H → List Event → Restored H → Type 0
 FitsOn {H = H} hosting old facts new =
     (outset : Outset H) (history after : List Event) → FitsRestored hosting old outset history →
     Happened history facts after → FitsRestored hosting new outset after
@@ -30,15 +30,15 @@ abbrev pub StaysUnnoted : {H : Type 0} → Restored H → Restored H → Type 0
 StaysUnnoted old new = old.server.unkept ≡ None → new.server.unkept ≡ None
 
 -- and its hooks and its moment are those that the changes leave
-abbrev pub RedoesDated : {H : Type 0} → Hosting H → Restored H → List DatedFact → Restored H → Type 0
+abbrev pub RedoesDated : {H : Type 0} → Hosting H → Restored H → List Event → Restored H → Type 0
 RedoesDated hosting old facts new =
-    (new.hooks ≡ hooks_behind old.hooks facts) × FitsOn hosting old facts new × StaysUnnoted old new
+    (new.hooks ≡ hooks_after old.hooks facts) × FitsOn hosting old facts new × StaysUnnoted old new
     × (new.moment ≡ last_moment old.moment facts)
 
 -- so it is of the dated changes that the batches have
 abbrev pub RedoesBatches : {H : Type 0} → Hosting H → Restored H → List (List ℕ) → Restored H → Type 0
 RedoesBatches hosting old batches new =
-    StaysUnnoted old new × ((facts : List DatedFact) → AreTold batches facts → RedoesDated hosting old facts new)
+    StaysUnnoted old new × ((facts : List Event) → AreTold batches facts → RedoesDated hosting old facts new)
 
 -- A HOST MADE AGAIN
 

@@ -1,18 +1,21 @@
 -- What a state file stands for.
 use Rattle.std.specs.Prelude.{◌≡◌, ◌⊎◌, ◌++◌, ◌^◌, ◌==◌, ◌&&◌, ℕ, zero, suc, max, nat_lt, length, List, [], ◌∷◌, Bool, true, false, Option, None, Some, IsSome, if◌then◌else◌, map, unwrap_or}
-use Rattle.state_file.specs.Names.{recovered, Event, DatedFact, HaveSpelling, batch_spelling, Happened, ImageFact, ImageFits, image_spelling}
+use Rattle.state_file.specs.Names.{recovered, Event, HaveSpelling, batch_spelling, Happened, ImageFact, ImageFits, image_spelling}
 use Rattle.std.proofs.Common.{inl, inr}
 use Rattle.std.specs.Int.{w64, from_be_bytes, to_be_bytes}
 use Rattle.consent.specs.Consents.{FitsConsents, kept_consents}
+use Rattle.consent.specs.History.{greatest_family}
 use Rattle.token_store.specs.Image.{kept_told}
 use Rattle.token_store.specs.Fits.{FitsHistory}
 use Rattle.state_file.specs.Hooks.{hooks_set_in}
 
 -- The image is one of the history, from its moment on: its records answer as the history does, its consents are the owners'
--- last ones, and its hooks are those that the history sets. Nothing in the history is later.
+-- last ones, its last number is the greatest of a family, and its hooks are those that the history sets. Nothing in the history
+-- is later.
 pub record IsImageOf (image : ImageFact) (history : List Event) : Type 0 where
   pub records : FitsHistory (map kept_told image.records) history image.greatest
   pub consents : FitsConsents (kept_consents image.consents) history
+  pub last : image.last ≡ greatest_family history
   pub hooks : image.hooks ≡ hooks_set_in history
 
 -- an image begins with a byte 2
@@ -49,27 +52,27 @@ until_of [] = 0
 until_of (batch ∷ batches) = max (unwrap_or (horizon_in batch) 0) (until_of batches)
 
 -- the batch has these dated changes: rules, which begin with a byte 0, and a horizon have none
-abbrev pub IsTold : List ℕ → List DatedFact → Type 0
+abbrev pub IsTold : List ℕ → List Event → Type 0
 IsTold (zero ∷ rules) facts = facts ≡ []
 IsTold (suc (suc (suc zero)) ∷ bytes) facts = IsSome (horizon_in (3 ∷ bytes)) × (facts ≡ [])
 IsTold batch facts = HaveSpelling facts × (batch ≡ batch_spelling facts)
 
 -- the batches have these dated changes, one after the other
-abbrev pub AreTold : List (List ℕ) → List DatedFact → Type 0
+abbrev pub AreTold : List (List ℕ) → List Event → Type 0
 AreTold [] facts = facts ≡ []
-AreTold (batch ∷ batches) facts = (first later : List DatedFact) × IsTold batch first × AreTold batches later × (facts ≡ first ++ later)
+AreTold (batch ∷ batches) facts = (first later : List Event) × IsTold batch first × AreTold batches later × (facts ≡ first ++ later)
 
 -- the batches stand for the history: from where they begin, the dated changes of the later ones lead to it
 pub record StandFor (batches : List (List ℕ)) (history : List Event) : Type 0 where
   pub base : List Event
   pub later : List (List ℕ)
-  pub facts : List DatedFact
+  pub facts : List Event
   pub begins : Begin batches base later
   pub told : AreTold later facts
   pub happened : Happened base facts history
 
 -- the moment of the last of the dated changes, or the one before them
-abbrev pub last_moment : ℕ → List DatedFact → ℕ
+abbrev pub last_moment : ℕ → List Event → ℕ
 last_moment before [] = before
 last_moment before (d ∷ later) = last_moment d.moment later
 

@@ -1,10 +1,10 @@
 //! The hooks that the changes of a state file set.
 
 ghost use Rattle.std.specs.Prelude.{◌≡◌, ◌↔◌, ◌++◌, ◌∷◌, [], List, Some, IsTrue, IfOk, IfSome, OnOk, map, option_copied};
-ghost use Rattle.consent.specs.Facts.{fact_of};
+ghost use Rattle.consent.specs.Changes.{change_of};
 ghost use Rattle.change_codec.specs.Spelling.{dated_facts};
 ghost use Rattle.image_codec.specs.Facts.{HookFact, hook_fact};
-ghost use Rattle.state_file.specs.Hooks.{AreBehind, hooks_behind, hooks_by, hook_named, without_hook};
+ghost use Rattle.state_file.specs.Hooks.{AreBehind, hooks_after, hooks_with, hook_named, without_hook};
 
 use change_codec::{DatedChange, decode};
 use consent::{Change, RecordVersion};
@@ -106,7 +106,7 @@ impl SetHooks {
 
     /// Those that are set after the change.
     pub fn follow(&mut self, change: &Change<'_>) -> Result<(), AllocError>
-        ensures { OnOk result (self.new ≡ hooks_by self.old (fact_of change.now)) }
+        ensures { OnOk result (self.new ≡ hooks_with self.old (change_of change.now)) }
     {
         match change {
             Change::HookSet {
@@ -124,7 +124,7 @@ impl SetHooks {
 
     // Those that are set after the changes, one after the other.
     fn follow_each(&mut self, changes: &[DatedChange<'_>]) -> Result<(), AllocError>
-        ensures { OnOk result (self.new ≡ hooks_behind self.old (dated_facts changes.now)) }
+        ensures { OnOk result (self.new ≡ hooks_after self.old (dated_facts changes.now)) }
     {
         let mut rest = changes;
         while let [dated, later @ ..] = rest {

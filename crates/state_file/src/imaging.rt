@@ -62,6 +62,7 @@ impl<H: HookHost> Restored<H> {
             registry,
             host,
             image.greatest,
+            image.last,
             image.records.as_slice(),
             image.consents.as_slice(),
         )?;
@@ -90,6 +91,7 @@ pub(crate) fn image_of<'a, H: HookHost>(
     Ok(Image {
         rules,
         greatest: server.moment(),
+        last: server.last_family(),
         records,
         consents,
         hooks,

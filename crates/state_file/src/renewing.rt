@@ -12,8 +12,8 @@ use crate::hooks::SetHooks;
 use crate::horizons::image_frames;
 use crate::imaging::image_of;
 use crate::keeper::StateKeeper;
-use batch_file::appending::BatchFault;
-use batch_file::device::{Device, ReplaceFault};
+use batch_file::appending::{BatchFault, RenewFault};
+use batch_file::device::Device;
 use endpoints::{ImageFault, Server};
 use hook_host::HookHost;
 use image_codec::{decode_rules, encode};
@@ -59,7 +59,7 @@ pub(crate) fn is_short(end: usize, image: usize) -> bool
 
 impl<D: Device> StateKeeper<D> {
     /// Where the file is longer than 1 MB, and than four times its image, the image of a server and a horizon are put in the place
-    /// of all that it has. Where it is not known whether they stand there, the keeper keeps nothing more.
+    /// of all that it has. Where it is not known whether they stand there, or the file was moved, the keeper keeps nothing more.
     pub(crate) fn shorten<H: HookHost>(&mut self, server: &Server<H>) -> Result<(), ImageFault>
         ensures kept { OnOk result (KeepsImage H.HookHost (file_crashes D.Device) server.now self.old self.new) }
         ensures basis { OnOk result (KeepsBasis (file_crashes D.Device) self.old self.new) }
@@ -90,9 +90,13 @@ impl<D: Device> StateKeeper<D> {
                 self.known.image = image.len();
                 Ok(())
             }
-            Err(ReplaceFault::Memory) => Err(ImageFault::Memory),
-            Err(ReplaceFault::Unplaced(_)) => Err(ImageFault::Unwritten),
-            Err(ReplaceFault::Failed(reason)) => {
+            Err(RenewFault::Memory) => Err(ImageFault::Memory),
+            Err(RenewFault::Unplaced(_)) => Err(ImageFault::Unwritten),
+            Err(RenewFault::Displaced) => {
+                self.fault = Some(BatchFault::Displaced);
+                Err(ImageFault::Failed)
+            }
+            Err(RenewFault::Failed(reason)) => {
                 self.fault = Some(BatchFault::Failed(reason));
                 Err(ImageFault::Failed)
             }

@@ -53,6 +53,8 @@ impl<H: HookHost> Restored<H> {
         ensures moment { OnOk result (self.new.moment ≡ dated.now.moment) }
         ensures refused { IfErr result (RefusesRedo H.HookHost self.old.server dated.now.moment dated.now.change) }
     {
+        // What expired goes, so that no record is looked at for another's sake.
+        self.server.drop_expired(dated.moment);
         self.server.redo(dated.moment, &dated.change)?;
         let Ok(()) = self.hooks.follow(&dated.change) else {
             return Err(RedoFault::Memory);

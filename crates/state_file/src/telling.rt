@@ -74,6 +74,7 @@ pub fn told_rules(alloc: Global, batch: &[u8]) -> Result<Rules<'_>, StateFault>
             let Image {
                 rules,
                 greatest: _,
+                last: _,
                 records: _records,
                 consents: _consents,
                 hooks: _hooks,

@@ -18,7 +18,7 @@ use Rattle.consent.specs.RecordFacts.{record_fact}
 use Rattle.token_store.specs.ImageLaws.{all_same}
 use Rattle.image_codec.specs.Spelling.{image_spelling}
 use Rattle.narrowing.specs.Left.{KeepsClients, ended_count, is_beyond_rules, left_of, left_under, token_under}
-use Rattle.narrowing.specs.LeftLaws.{fits_consents_left, left_events}
+use Rattle.narrowing.specs.LeftLaws.{fits_consents_left, greatest_left, left_events}
 use Rattle.narrowing.specs.RightLaws.{all_right-left, host_run-left}
 use Rattle.token_store.specs.Kept.{Kept}
 use Rattle.state_account.specs.Accounts.{IsAccountOf, IsImageIn, TellIfAny}
@@ -92,10 +92,10 @@ right_left left history old rules m narrower is stands all (inr told) =
 
 -- an image with what is left is one of what is left
 image_left : (rules : RegistryRecord) (told image : ImageFact) (records left : List KeptRecord) (history : List Event) → map record_fact records ≡ told.records → map record_fact left ≡ image.records →
-    image.greatest ≡ told.greatest → image.consents ≡ told.consents → image.hooks ≡ told.hooks →
+    image.greatest ≡ told.greatest → image.last ≡ told.last → image.consents ≡ told.consents → image.hooks ≡ told.hooks →
     (FitsHistory (as_kept records) history told.greatest → FitsHistory (as_kept left) (left_under rules history) told.greatest) →
     IsImageOf told history → IsImageOf image (left_under rules history)
-image_left rules told image records left history were are greatest consents hooks lets is =
+image_left rules told image records left history were are greatest last consents hooks lets is =
     let before : map kept_told told.records ≡ as_kept records = ap (map kept_told) (sym were) ∙ all_same records in
     let after : as_kept left ≡ map kept_told image.records = sym (all_same left) ∙ ap (map kept_told) are in
     let fits = lets (subst (λ (ks : List Kept). FitsHistory ks history told.greatest) before is.records) in
@@ -104,6 +104,7 @@ image_left rules told image records left history were are greatest consents hook
           (subst (λ (ks : List Kept). FitsHistory ks (left_under rules history) told.greatest) after fits);
       consents = subst (λ (cs : List KeptConsent). FitsConsents (kept_consents cs) (left_under rules history)) (sym consents)
           (fits_consents_left rules (is_beyond_rules rules history) (kept_consents told.consents) history is.consents);
+      last = last ∙ is.last ∙ sym (greatest_left rules (is_beyond_rules rules history) history);
       hooks = hooks ∙ is.hooks ∙ sym (hooks_left rules (is_beyond_rules rules history) history []);
     }
 
@@ -111,16 +112,16 @@ module _ {H : Type 0} (hosting : Hosting H) where
   -- so it is of an account's image
   pub right_image : (account : Account H) (left : List ℕ) (first : H) (rules : RegistryRecord) (told image : ImageFact) (records kept : List KeptRecord) →
       map record_fact records ≡ told.records → map record_fact kept ≡ image.records →
-      image.greatest ≡ told.greatest → image.consents ≡ told.consents → image.hooks ≡ told.hooks →
+      image.greatest ≡ told.greatest → image.last ≡ told.last → image.consents ≡ told.consents → image.hooks ≡ told.hooks →
       ((history : List Event) → FitsHistory (as_kept records) history told.greatest → FitsHistory (as_kept kept) (left_under rules history) told.greatest) →
       IsNarrower left (rules_of rules) → IsAccountOf hosting left first account → IsImageIn hosting left first told →
       OfEachHistory hosting first left (λ history. IsRightImage hosting first image rules (left_under rules history))
-  right_image account left first rules told image records kept were are greatest consents hooks lets narrower of is_in history stands was run =
+  right_image account left first rules told image records kept were are greatest last consents hooks lets narrower of is_in history stands was run =
       let one = is_in.each history stands was run in
       let server = (of.answers history stands (right_now left history of.registry of.wider was) run).0 in
       record {
-        is = image_left rules told image records kept history were are greatest consents hooks (lets history) one;
-        right = right_left left history of.registry rules told.greatest narrower one.records.fits.is_history stands server.right of.told;
+        is = image_left rules told image records kept history were are greatest last consents hooks (lets history) one;
+        right = right_left left history of.registry rules told.greatest narrower one.records.is_history stands server.right of.told;
         host = account.restored.server.host;
         ran = host_run-left hosting rules (is_beyond_rules rules history) history first account.restored.server.host server.hosts;
       }

@@ -67,6 +67,7 @@ fn image_under<'a>(
     let Image {
         rules: _told,
         greatest,
+        last,
         records,
         consents,
         hooks,
@@ -74,6 +75,7 @@ fn image_under<'a>(
     Ok(Image {
         rules: registry_rules(alloc, registry)?,
         greatest,
+        last,
         records: records_left(registry, greatest, records),
         consents,
         hooks,

@@ -24,7 +24,7 @@ returns-clause-is g c =
       spelled = c.in_ok-bytes.ensures.written;
       rules_are = ap (λ (i : ImageFact). i.rules) with;
       is = right_image g.H.HookHost c.in-Ok.account c.args.bytes.now c.args.host c.args.registry.now told image c.in_ok-told.told.records.items c.in_ok-image.image.records.items
-          refl (sym (ap (λ (i : ImageFact). i.records) with)) (ap (λ (i : ImageFact). i.greatest) with) (ap (λ (i : ImageFact). i.consents) with) (ap (λ (i : ImageFact). i.hooks) with)
+          refl (sym (ap (λ (i : ImageFact). i.records) with)) (ap (λ (i : ImageFact). i.greatest) with) (ap (λ (i : ImageFact). i.last) with) (ap (λ (i : ImageFact). i.consents) with) (ap (λ (i : ImageFact). i.hooks) with)
           c.in_ok-image.ensures.fits
           c.requires.narrower c.in-Ok.ensures.told (c.in_ok-told.ensures c.args.bytes.now c.args.host c.in-Ok.ensures.told);
       counted = counted_image g.H.HookHost c.args.bytes.now c.args.host c.args.registry.now told image c.in_ok-told.told.records.items c.ended_count-ended.result

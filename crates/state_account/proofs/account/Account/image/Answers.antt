@@ -7,7 +7,7 @@ use Rattle.state_account.proofs.account.Account.image.Goals as goal
 
 pub returns : goal.returns
 returns g c = λ left host of.
-    let is = imaged g.H.HookHost c.args.self.now.restored _ c.in_ok-records.records.items c.in_ok-consents.consents.items refl refl refl c.in_ok-hooks.ensures c.in_ok-records.ensures c.in_ok-consents.ensures in
+    let is = imaged g.H.HookHost c.args.self.now.restored _ c.in_ok-records.records.items c.in_ok-consents.consents.items refl refl refl c.last_family.ensures c.in_ok-hooks.ensures c.in_ok-records.ensures c.in_ok-consents.ensures in
     let rules : rules_of of.registry ≡ rules_fact c.in-Ok.rules =
     ok_is (rules_of of.registry) (rules_fact c.in-Ok.rules) (c.in-Ok.ensures.again (rules_of of.registry) of.rules.0 (c.as_slice.ensures.value ∙ of.rules.1)) in
     image_in g.H.HookHost c.args.self.now _ is left host of rules

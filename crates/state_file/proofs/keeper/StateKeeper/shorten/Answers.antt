@@ -1,6 +1,6 @@
 use Rattle.std.proofs.Common.{rules, ◌≡◌, ◌∙◌, length, Err, refl, sym, subst, arith}
-use Rattle.state_file.proofs.Names.{IsUnplaced, TooLong, Known}
-use Rattle.batch_file.specs.declared.device.ReplaceFault.{ReplaceFault}
+use Rattle.state_file.proofs.Names.{IsUnrenewed, TooLong, Known}
+use Rattle.batch_file.specs.declared.appending.RenewFault.{RenewFault}
 use Rattle.state_file.proofs.Kept.{keeps, keeps_basis, keeps_not, tells_basis}
 use Rattle.state_file.proofs.Renewed.{image_known, image_on, image_stands, of_image, too_much}
 use Rattle.state_file.proofs.keeper.StateKeeper.shorten.Goals as goal
@@ -43,12 +43,22 @@ returns-clause-failed g c _ outset history m fits =
     let of = of_image (c.self.invariant (search rules)).1 c.in-Some.is c.in_ok-image.ensures.is c.as_slice.ensures.value c.as_slice-2.ensures.value c.in_ok-frames.ensures in
     rw (← c.self.view_is) (keeps_not g.D.Device _ _ c.in_ok-frames.frames history history c.in-Err-Failed.ensures.any_moment (image_stands of outset history m fits))
 
+pub returns-in-Err-Displaced-clause-meanwhile : goal.returns-in-Err-Displaced-clause-meanwhile
+returns-in-Err-Displaced-clause-meanwhile g c =
+    let of = of_image (c.self.invariant (search rules)).1 c.in-Some.is c.in_ok-image.ensures.is c.as_slice.ensures.value c.as_slice-2.ensures.value c.in_ok-frames.ensures in
+    rw (← c.self.view_is) (tells_basis g.D.Device _ _ c.in_ok-frames.frames c.in-Err-Displaced.ensures.any_moment (image_on of))
+
+pub returns-in-Err-Displaced-clause-failed : goal.returns-in-Err-Displaced-clause-failed
+returns-in-Err-Displaced-clause-failed g c _ outset history m fits =
+    let of = of_image (c.self.invariant (search rules)).1 c.in-Some.is c.in_ok-image.ensures.is c.as_slice.ensures.value c.as_slice-2.ensures.value c.in_ok-frames.ensures in
+    rw (← c.self.view_is) (keeps_not g.D.Device _ _ c.in_ok-frames.frames history history c.in-Err-Displaced.ensures.any_moment (image_stands of outset history m fits))
+
 pub invariant_of-self-in-Err-Memory : goal.invariant_of-self-in-Err-Memory
 invariant_of-self-in-Err-Memory g c = λ none.
-    let same = c.in-Err-Memory.ensures.untouched (subst (λ (f : ReplaceFault). IsUnplaced f) (sym c.in-Err-Memory.field-0-is) tt) in
+    let same = c.in-Err-Memory.ensures.untouched (subst (λ (f : RenewFault). IsUnrenewed f) (sym c.in-Err-Memory.field-0-is) tt) in
     rw same (c.self.invariant none)
 
 pub invariant_of-self-in-Err-Unplaced : goal.invariant_of-self-in-Err-Unplaced
 invariant_of-self-in-Err-Unplaced g c = λ none.
-    let same = c.in-Err-Unplaced.ensures.untouched (subst (λ (f : ReplaceFault). IsUnplaced f) (sym c.in-Err-Unplaced.field-0-is) tt) in
+    let same = c.in-Err-Unplaced.ensures.untouched (subst (λ (f : RenewFault). IsUnrenewed f) (sym c.in-Err-Unplaced.field-0-is) tt) in
     rw same (c.self.invariant none)

@@ -10,5 +10,5 @@ returns-clause-made g c =
     let installed = subst (λ (hs : List HookFact). Installs g.H.HookHost c.args.host hs host) (ap (map hook_fact) c.as_slice.ensures.value) c.in_ok-install_all.ensures.installed in
     made_of g.H.HookHost (record { server = c.in_ok-server.server; moment = image.greatest; hooks = c.in_ok-hooks.hooks }) (image_fact image) c.as_slice-3.result.now host (outset_of c.args.registry c.args.host)
     (ap (map record_fact) c.as_slice-3.ensures.value) refl (c.in_ok-hooks.ensures ∙ ap (map hook_fact) c.as_slice-2.ensures.value) installed
-    (λ first history of run right. c.in_ok-server.ensures.fits first history
-    (record { kept = of.kept; consented = subst (λ (cs : List KeptConsent). FitsConsents (kept_consents cs) history) (sym c.as_slice-4.ensures.value) of.consented }) run right)
+    (λ first history of last run right. c.in_ok-server.ensures.fits first history
+    (record { kept = of.kept; consented = subst (λ (cs : List KeptConsent). FitsConsents (kept_consents cs) history) (sym c.as_slice-4.ensures.value) of.consented }) last run right)
