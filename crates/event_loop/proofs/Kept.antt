@@ -1,25 +1,23 @@
 -- What is kept of what happens.
-use Rattle.std.proofs.Common.{◌≡◌, ◌≢◌, ◌⊎◌, inl, inr, ◌+◌, ℕ, List, [], ◌∷◌, Some, None, Option, length, refl, sym, ap, subst, ◌∙◌, arith, ◌↔◌, Bool, false, IsTrue, length-append}
-use Rattle.event_loop.proofs.Names.{Event, event_at, with_change, IsFrontOf, same_Some, World, KeepsHistory, TakesOutput, TakesNothing, false≢true, AreUnkept, IsAllKept, IsUnkept}
-use Rattle.change_codec.specs.Spelling.{DatedFact}
-use Rattle.change_codec.specs.Happened.{Happened}
-use Rattle.change_codec.specs.HappenedLaws.{Happened-front}
+use Rattle.std.proofs.Common.{append_assoc, ◌++◌, ◌≡◌, ◌≢◌, ◌⊎◌, inl, inr, ◌+◌, ℕ, List, [], ◌∷◌, Some, None, Option, length, refl, sym, ap, subst, ◌∙◌, arith, ◌↔◌, Bool, false, IsTrue, length-append}
+use Rattle.event_loop.proofs.Names.{Event, IsFrontOf, same_Some, World, KeepsHistory, TakesOutput, TakesNothing, false≢true, AreUnkept, IsAllKept, IsUnkept}
+use Rattle.consent.specs.History.{Happened}
+use Rattle.consent.specs.HistoryLaws.{Happened-nothing}
 
 -- WHAT IS UNKEPT
 
 -- what was kept is a front of what happened
-pub front_noted : (unkept : Option (List DatedFact)) (o : Option (List Event)) (history : List Event) → AreUnkept unkept o history → (kept : List Event) → o ≡ Some kept → IsFrontOf kept history
+pub front_noted : (unkept : Option (List Event)) (o : Option (List Event)) (history : List Event) → AreUnkept unkept o history → (kept : List Event) → o ≡ Some kept → IsFrontOf kept history
 front_noted (Some facts) (Some before) history noted kept is =
-    subst (λ front. IsFrontOf front history) (same_Some before kept is) (Happened-front before history facts noted)
+    subst (λ front. IsFrontOf front history) (same_Some before kept is) (facts, noted.leads)
 front_noted unkept o history noted kept is = absurd (grind (arith, noted, is))
 
 -- where something happened, the history is longer
-happened_more : (before after : List Event) (facts : List DatedFact) → facts ≢ [] → Happened before facts after → before ≢ after
+happened_more : (before after : List Event) (facts : List Event) → facts ≢ [] → Happened before facts after → before ≢ after
 happened_more before after [] some happened same = some refl
 happened_more before after (d ∷ ds) some happened same =
-    let front = Happened-front (with_change before d.moment happened.0) after ds happened.3 in
-    let size : length after ≡ length before + 1 + length front.0 =
-    ap length front.1 ∙ length-append (with_change before d.moment happened.0) front.0 ∙ ap (λ n. n + length front.0) (length-append before (event_at d.moment happened.0 ∷ [])) in
+    let size : length after ≡ length before + 1 + length ds =
+    ap length (happened.leads ∙ sym (append_assoc before (d ∷ []) ds)) ∙ length-append (before ++ d ∷ []) ds ∙ ap (λ n. n + length ds) (length-append before (d ∷ [])) in
     let equal : length before ≡ length after = ap length same in
     absurd (omega (arith, size, equal))
 
@@ -27,21 +25,23 @@ happened_more before after (d ∷ ds) some happened same =
 pub none_unkept : (o : Option (List Event)) (history : List Event) → AreUnkept None o history → (kept : List Event) → o ≡ Some kept → kept ≡ history
 none_unkept o history noted kept is = grind (arith, noted, is)
 
-pub nothing_unkept : (facts : List DatedFact) (o : Option (List Event)) (history : List Event) → facts ≡ [] → AreUnkept (Some facts) o history → (kept : List Event) → o ≡ Some kept → kept ≡ history
-nothing_unkept facts o history none noted kept is = grind (arith, none, noted, is)
+pub nothing_unkept : (facts : List Event) (o : Option (List Event)) (history : List Event) → facts ≡ [] → AreUnkept (Some facts) o history → (kept : List Event) → o ≡ Some kept → kept ≡ history
+nothing_unkept facts None history none noted kept is = absurd noted
+nothing_unkept facts (Some before) history none noted kept is =
+    sym (same_Some before kept is) ∙ sym (Happened-nothing before history (subst (λ (fs : List Event). Happened before fs history) none noted))
 
 -- or something is, which leads on from what was kept last
-noted_from : (facts : List DatedFact) (o : Option (List Event)) (history : List Event) → AreUnkept (Some facts) o history → (kept : List Event) × (o ≡ Some kept) × Happened kept facts history
+noted_from : (facts : List Event) (o : Option (List Event)) (history : List Event) → AreUnkept (Some facts) o history → (kept : List Event) × (o ≡ Some kept) × Happened kept facts history
 noted_from facts None history noted = absurd noted
 noted_from facts (Some before) history noted = (before, refl, noted)
 
-pub something_unkept : (world : World) (facts : List DatedFact) → facts ≢ [] → AreUnkept (Some facts) world.kept world.history → (unkept : IsUnkept world) × Happened unkept.kept facts world.history
+pub something_unkept : (world : World) (facts : List Event) → facts ≢ [] → AreUnkept (Some facts) world.kept world.history → (unkept : IsUnkept world) × Happened unkept.kept facts world.history
 something_unkept world facts some noted =
     let from = noted_from facts world.kept world.history noted in
     (record { kept = from.0; here = from.1; more = happened_more from.0 world.history facts some from.2 }, from.2)
 
 -- where it is tested that something is, something is
-pub not_empty : (result : Bool) (facts : List DatedFact) → (IsTrue result ↔ facts ≡ []) → result ≡ false → facts ≢ []
+pub not_empty : (result : Bool) (facts : List Event) → (IsTrue result ↔ facts ≡ []) → result ≡ false → facts ≢ []
 not_empty result facts both is none = false≢true (sym is ∙ both.1 none)
 
 -- KEEPING

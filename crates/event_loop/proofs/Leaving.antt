@@ -40,7 +40,7 @@ is_patient : {N C J K H : Type 0} (service : Service) (tools : Tools N C J K H) 
 is_patient service tools past limit size ready (limited.looks (inl due)) = served.looks ((ready.settled due.k due.within).active due.here)
 is_patient service tools past limit size ready (limited.looks (inr told)) = served.looks (elim ready.queue [ inl not ↦ absurd (not told) | inr tried ↦ done_some Accepting past.calls (λ e. absurd (cc)) tried ])
 is_patient service tools past limit size ready (limited.rests rest) = served.rests (is_idle service tools past size ready.settled rest)
-is_patient service tools past limit size ready (limited.sleeps rest free unbarred) = served.sleeps (is_idle service tools past size ready.settled rest) free unbarred
+is_patient service tools past limit size ready (limited.sleeps rest free unbarred unwanted) = served.sleeps (is_idle service tools past size ready.settled rest) free unbarred unwanted
 
 -- where an image was put, or was refused, all is as ready
 ready_still : {H : Type 0} (service : Service) (past : Past H) (service' : Service) → service' ≡ record service { refused = service'.refused } → IsReadyToWait service past → IsReadyToWait service' past

@@ -3,7 +3,6 @@ pub use Rattle.event_loop.specs.Names.{IsFrontOf, Holds, Keeps, KeepsBasis, Leav
 pub use Rattle.event_loop.specs.Names.{Empty, Barred, Ready, Hosting, SeenEdge, is_closing, Journey, Reached, led_on, connection_at, piece_of, untaken, Piece, World, Connection, Opened, Forgotten}
 pub use Rattle.event_loop.specs.Names.{HasEnded}
 pub use Rattle.change_codec.specs.Keeping.{Crashes, Basis, LeavesEither}
-pub use Rattle.consent.specs.History.{event_at, with_change}
 pub use Rattle.endpoints.specs.Keeping.{keeping}
 pub use Rattle.endpoints.specs.Server.{Outset, AreUnkept}
 pub use Rattle.event_loop.specs.Calls.{CallKind, IsDone, Transfer, Reading, Writing, Call, Keeping, done_since, Wrote, waits as waits_done, Accepting}

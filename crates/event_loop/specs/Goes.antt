@@ -92,7 +92,7 @@ pub record MayRest (service : Service) : Type 0 where
 pub data IsLimit (service : Service) : Option ℕ → Type 0 where
   looks : IsBusy service → IsLimit service (Some 0)
   rests : MayRest service → IsLimit service (Some 1000)
-  sleeps : MayRest service → AllFree service.places → ((since : ℕ) → service.queue ≢ Barred since) → IsLimit service None
+  sleeps : MayRest service → AllFree service.places → ((since : ℕ) → service.queue ≢ Barred since) → service.limits.report ≡ None → IsLimit service None
 
 -- as the clocks told last, a connection at the place is not silent for too long
 abbrev pub IsInTime : Service → ℕ → Type 0

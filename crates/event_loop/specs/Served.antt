@@ -46,11 +46,11 @@ pub record IsPrompt {N C J K H : Type 0} (s : LoopState N C J K H) : Type 0 wher
   pub reported : (every : ℕ) → s.limits.report ≡ Some every → s.told.report ≡ s.times.steady ⊎ s.times.steady - s.told.report < every
 
 -- How long it waits, in milliseconds: not at all only where something was done since the last wait; else, where nothing is
--- to be done, for a second, or, while no connection is there and no accept is to be tried again, for ever.
+-- to be done, for a second, or, while no connection is there, no accept is to be tried again and no reports are wanted, for ever.
 pub data IsPatient {N C J K H : Type 0} (s : LoopState N C J K H) : Option ℕ → Type 0 where
   looks : 0 < done_since s.calls → IsPatient s (Some 0)
   rests : IsIdle s → IsPatient s (Some 1000)
-  sleeps : IsIdle s → AllFree s.places → ((since : ℕ) → s.queue ≢ Barred since) → IsPatient s None
+  sleeps : IsIdle s → AllFree s.places → ((since : ℕ) → s.queue ≢ Barred since) → s.limits.report ≡ None → IsPatient s None
 
 -- It may wait so long now, with room for so much: all that the last wait found was looked at, and where nothing is unkept, no
 -- more is kept than may be beside an image, or an image was refused less than a minute ago.

@@ -1,6 +1,6 @@
 //! Keeping what changed.
 ghost use Rattle.std.specs.Prelude.{OnOk, OnSome, IfErr, IfSome, IfNone, IsSome};
-ghost use Rattle.change_codec.specs.Happened.{Happened};
+ghost use Rattle.consent.specs.History.{Happened};
 ghost use Rattle.http_edge.specs.Edges.{unkept_of};
 ghost use Rattle.http_edge.specs.Reached.{InEach};
 ghost use Rattle.event_loop.specs.LoopStates.{IsAllKept, IsUnkept};
