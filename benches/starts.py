@@ -15,7 +15,7 @@ import time
 
 root = os.path.dirname(os.path.dirname(os.path.realpath(__file__)))
 sys.path.append(f"{root}/tests")
-from state_format import changes_of, code_given, consented, file_of, rules_of, spent, token_issued, token_of_code  # noqa: E402
+from state_format import changes_of, code_given, consented, file_of, rules_of, spent, token_issued  # noqa: E402
 
 CODES, CHANGES = 21845, 100000
 
@@ -30,11 +30,12 @@ def changes():
     yield now, consented(1, 1, 1)
     for number in range(0, 3 * CODES, 3):
         code, access, refresh = (drawn(number + at) for at in range(3))
-        yield now, code_given(1, 1, 1, "https://app.example/cb", "E9Melhoa2OwvFrEMTJguCHaoeK1t8URWbuGJSstw-cM", code)
-        yield now, token_of_code(code, "access", access, 1, 300)
-        yield now, token_of_code(code, "refresh", refresh, 1, 86400)
+        family = number // 3 + 1
+        yield now, code_given(family, 1, 1, 1, "https://app.example/cb", "E9Melhoa2OwvFrEMTJguCHaoeK1t8URWbuGJSstw-cM", code)
+        yield now, token_issued(family, 1, 1, "access", access, 1, 300)
+        yield now, token_issued(family, 1, 1, "refresh", refresh, 1, 86400)
         yield now, spent(code)
-    yield now, token_issued(2, drawn(3 * CODES), 1, 300)
+    yield now, token_issued(CODES + 1, 2, 0, "access", drawn(3 * CODES), 1, 300)
     for number in range(CHANGES - 4 * CODES - 2):
         yield now, consented(2, 1, 1 + number % 2)
 

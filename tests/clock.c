@@ -1,5 +1,5 @@
 /* A clock that is as many seconds ahead as the variable AHEAD says, or the file that it names: preloaded by state_clocks.py.
-   The clock that never goes back stays as it is. */
+   STEADY says it of the clock that never goes back. */
 #define _GNU_SOURCE
 #include <fcntl.h>
 #include <stdlib.h>
@@ -20,9 +20,9 @@ static long seconds_of(const char *ahead)
 
 int clock_gettime(clockid_t clock, struct timespec *now)
 {
-    const char *ahead = getenv("AHEAD");
+    const char *ahead = clock == CLOCK_REALTIME ? getenv("AHEAD") : clock == CLOCK_MONOTONIC ? getenv("STEADY") : NULL;
     int failed = syscall(SYS_clock_gettime, clock, now);
-    if (!failed && clock == CLOCK_REALTIME && ahead)
+    if (!failed && ahead)
         now->tv_sec += seconds_of(ahead);
     return failed;
 }

@@ -1,10 +1,12 @@
-"""Trials of state files under clocks that go back and ahead, by a library that is preloaded (clock.c)."""
+"""Trials of state files under clocks that go back and ahead, and of what is tried again after a minute, by a library that is
+preloaded (clock.c)."""
 
 import os
 import shutil
 import subprocess
 
 from crashes import consents
+from state_disks import LONG, grows_to
 from state_format import MARK, batches_of
 from state_trials import LIFE, bytes_of, gone
 
@@ -95,8 +97,31 @@ def tries_a_jump(trials):
         begun.end()
 
 
+def tries_moved_before_an_image(trials):
+    """No image takes the place of a file that was moved: where one was refused, and a minute later the file is away, the server ends
+    by that name. Until then its clock goes back, so that no moment is to be kept."""
+    path, ahead, steady = trials.make(f"{trials.room}/imaged"), f"{trials.room}/behind", f"{trials.room}/steady"
+    begun, client = trials.served("a file that grows", path, env=dict(clock(trials, ahead), STEADY=steady))
+    token = client.own_token()
+    os.mkdir(f"{path}.next")
+    grows_to(client, path, (1 << 20) + 1)
+    with open(ahead, "w") as to:
+        to.write("-100")
+    client.is_active(token)
+    os.rmdir(f"{path}.next")
+    kept = bytes_of(path)
+    os.rename(path, f"{path}.away")
+    with open(steady, "w") as to:
+        to.write("70")
+    status, told = gone(begun, client, lambda it: it.is_active(token))
+    if (status, told) != (2, f"{LONG}\noauthd: stopped: State: Displaced\n"):
+        trials.wrong("an image of a moved file", f"status {status}, {told!r}")
+    if os.path.lexists(path) or bytes_of(f"{path}.away") != kept:
+        trials.wrong("an image of a moved file", f"it was written to: {sorted(os.listdir(trials.room))}")
+
+
 def all_trials():
     if not shutil.which("gcc"):
         print("clocks were not tried: there is no gcc")
         return []
-    return [tries_told_by_the_clock, tries_far_ahead, tries_a_jump]
+    return [tries_told_by_the_clock, tries_far_ahead, tries_a_jump, tries_moved_before_an_image]

@@ -5,7 +5,7 @@ A file is a header, a frame for each batch, and a closed latch. A frame is a lat
 
 import hashlib
 
-HEADER = b"oauthd state v2\n"
+HEADER = b"oauthd state v3\n"
 CLOSED, OPEN = b"\0", b"\xff"
 
 # The first byte of a batch tells what it is.
@@ -84,29 +84,25 @@ def changes_of(dated):
     return b"".join(parts)
 
 
-def token_issued(client, digest, scope, life):
-    """A change: a client's own access token is issued."""
-    return b"\3" + client.to_bytes(4, "big") + token("access", digest, scope, life)
-
-
-def token_of_code(code, kind, digest, scope, life):
-    """A change: a token is issued of a code, or of a refresh token."""
-    return b"\4" + code + token(kind, digest, scope, life)
+def token_issued(family, client, owner, kind, digest, scope, life):
+    """A change: a token of these is issued, in the family with the number. `owner` is 0 where the family is the client's own."""
+    return b"\3" + family.to_bytes(8, "big") + client.to_bytes(4, "big") + owner.to_bytes(4, "big") + token(kind, digest, scope, life)
 
 
 def token(kind, digest, scope, life):
     return bytes([kind == "refresh"]) + digest + scope.to_bytes(8, "big") + life.to_bytes(4, "big")
 
 
-def code_given(client, owner, scope, redirect, challenge, digest):
-    """A change: a code is given."""
+def code_given(family, client, owner, scope, redirect, challenge, digest):
+    """A change: a code is given, which opens the family with the number."""
     texts = b"".join(len(text).to_bytes(4, "big") + text.encode() for text in (redirect, challenge))
-    return b"\2" + client.to_bytes(4, "big") + owner.to_bytes(4, "big") + scope.to_bytes(8, "big") + texts + digest
+    named = family.to_bytes(8, "big") + client.to_bytes(4, "big") + owner.to_bytes(4, "big")
+    return b"\2" + named + scope.to_bytes(8, "big") + texts + digest
 
 
 def spent(digest):
     """A change: a code or a refresh token is used up."""
-    return b"\5" + digest
+    return b"\4" + digest
 
 
 def consented(owner, client, mask):

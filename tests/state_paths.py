@@ -41,8 +41,8 @@ def tries_other_files(trials):
         done = trials.run("state", trials.file_of(content))
         if done.returncode != 2 or not is_named(done.stderr.splitlines(), "NotState"):
             trials.wrong(f"state of {what}", f"status {done.returncode}, {done.stderr!r}")
-    for digit in "013456789":
-        content = HEADER.replace(b"2", digit.encode()) + bytes(40)
+    for digit in "012456789":
+        content = HEADER.replace(b"3", digit.encode()) + bytes(40)
         trials.refused(f"version {digit}", content, f"Version {digit}")
     own = shutil.copy(trials.registry, f"{trials.room}/own.json")
     os.chmod(own, 0o600)

@@ -37,10 +37,10 @@ class Start:
         return self.process.communicate()[1]
 
 
-def gone(begun, client):
+def gone(begun, client, asks=Client.own_token):
     """A server that ends by itself once it is asked: its status, and what it wrote to standard error."""
     try:
-        client.own_token()
+        asks(client)
     except (Gone, Refused, OSError):
         pass
     try:

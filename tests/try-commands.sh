@@ -108,7 +108,7 @@ said='access_life 300\nrefresh_life 86400\nowners 2\nclients 2\nscopes read writ
 ends 'a registry' 0 "$said" '' registry own.json
 chmod 644 own.json
 ends 'a registry that everybody may read' 0 "${said}warning: everybody may read the file\n" '' registry own.json
-# state files: none, a new one, one of nobody's, one of the first kind, and bytes of an unfinished write; the age is that of a
+# state files: none, a new one, one of nobody's, two of older versions, and bytes of an unfinished write; the age is that of a
 # moment that is told
 lists() {
     tried=$((tried + 1))
@@ -126,6 +126,8 @@ printf '{}' >other.state
 ends 'a state file of another program' 2 '' 'oauthd: State NotState: other.state; oauthd state --new FILE makes one\n' state other.state
 printf '\1\0\0\0\1\7' >old.state
 ends 'one of the first kind' 2 '' 'oauthd: State Version 1: old.state; an older oauthd wrote it\n' state old.state
+printf 'oauthd state v2\n\0' >second.state
+ends 'one of version 2' 2 '' 'oauthd: State Version 2: second.state; an older oauthd wrote it\n' state second.state
 if [ -w /dev/full ]; then
     "$program" list hook.hex >/dev/full 2>given.err
     given=$?

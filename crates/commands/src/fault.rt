@@ -164,7 +164,7 @@ impl<'w> Display for CommandFault<'w> {
 fn advice_on(fault: &StateFault) -> &'static str {
     match fault {
         StateFault::NotState => "; oauthd state --new FILE makes one",
-        StateFault::Version(version) if *version > 2 => "; a newer oauthd wrote it",
+        StateFault::Version(version) if *version > 3 => "; a newer oauthd wrote it",
         StateFault::Version(_) => "; an older oauthd wrote it",
         _ => "",
     }

@@ -333,7 +333,7 @@ fn a_token_outlives_its_server(rt: HostRuntime) -> Result<(), Fail> {
 }
 
 /// What each state file begins with, and the closed latch of one that has no batch.
-const EMPTY_STATE: &[u8] = b"oauthd state v2\n\0";
+const EMPTY_STATE: &[u8] = b"oauthd state v3\n\0";
 
 #[test]
 fn a_state_file_is_made_where_nothing_is(rt: HostRuntime) -> Result<(), Fail> {
@@ -351,7 +351,7 @@ fn a_state_file_is_made_where_nothing_is(rt: HostRuntime) -> Result<(), Fail> {
 fn what_an_unfinished_write_left_is_put_aside(rt: HostRuntime) -> Result<(), Fail> {
     let alloc = rt.alloc();
     let config = path_of(&rt, REGISTRY)?;
-    let path = path_of(&rt, b"oauthd state v2\n\0abc")?;
+    let path = path_of(&rt, b"oauthd state v3\n\0abc")?;
     // It can't tell where it listens, and so it ends.
     let words = ["start", "127.0.0.1:0", &config, "--state", &path];
     let told = format!(in alloc;
@@ -385,7 +385,7 @@ fn a_refused_start_writes_nothing(rt: HostRuntime) -> Result<(), Fail> {
 
 /// A file whose first batch tells no rules, and three bytes of a write that was not finished.
 const REFUSED_STATE: &str =
-    "6f61757468642073746174652076320aff00000087a75765d29143fb3954923626136846db010000000300000000000003e8010000000100000001000000000000000100000000000003e8030000000100abababababababababababababababababababababababababababababababab00000000000000030000012c00000000000003e807000000066c6973746564000000000000000100000010b700000001000000950000000000000000616263";
+    "6f61757468642073746174652076330aff00000093208ed34fc4a715ef7e5c33df56658ba4010000000300000000000003e8010000000100000001000000000000000100000000000003e8030000000000000001000000010000000000abababababababababababababababababababababababababababababababab00000000000000030000012c00000000000003e806000000066c6973746564000000000000000100000010b700000001000000950000000000000000616263";
 
 /// A hook that allows every grant.
 const ALLOW: &str = "b7000000010000009500000000000000";

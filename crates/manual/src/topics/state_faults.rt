@@ -24,7 +24,7 @@ State NotState: FILE: the file is another program's, or was emptied. It was left
     Topic {
         name: "Version",
         text: "\
-State Version N: FILE: the file is of another version than this oauthd's, which is 2. It was left as it is. A lower number is of an older oauthd, a higher one of a newer: start that one. This one cannot read it; to begin anew, move the file away and make an empty one.
+State Version N: FILE: the file is of another version than this oauthd's, which is 3. It was left as it is. A lower number is of an older oauthd, a higher one of a newer: start that one. This one cannot read it; to begin anew, move the file away and make an empty one.
 
   mv state older-state
   oauthd state --new state

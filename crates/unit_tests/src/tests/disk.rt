@@ -239,7 +239,7 @@ const OPENED: [&str; 4] = ["open .", "open state.lock", "lock state.lock", "open
 /// Behind the header of 16 bytes and a closed latch: the batch's length, the first 16 bytes of the SHA-256 of header, length and
 /// batch, the batch, and a closed latch; and once they are on the disk, the open latch before them.
 const APPENDED: [&str; 6] = [
-    "write at 17 state.next 00000003ba307db4176e9dd8a5a4f87f65a9fefe",
+    "write at 17 state.next 0000000355704a4f5f04acab6036b0847d662aba",
     "write at 37 state.next 616263",
     "write at 40 state.next 00",
     "sync_data state.next",
@@ -252,7 +252,7 @@ const REPLACED: [&str; 7] = [
     "remove state.next",
     "make state.next",
     "set_permissions state.next",
-    "write state.next 6f61757468642073746174652076320a00",
+    "write state.next 6f61757468642073746174652076330a00",
     "sync_all state.next",
     "rename state.next to state",
     "sync_all .",
