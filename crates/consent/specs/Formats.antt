@@ -14,7 +14,7 @@ use Rattle.wire.specs.Lists.{told, ◌or◌, no_more, nothing}
 use Rattle.consent.specs.declared.parties.Parties.{Parties}
 use Rattle.consent.specs.Facts.{GivenCode}
 use Rattle.consent.specs.History.{Change}
-use Rattle.consent.specs.History.Change.{Consented, CodeGiven, Issued, Spent, FamilyEnded, HookSet, HookGone}
+use Rattle.consent.specs.History.Change.{Consented, CodeGiven, Issued, Spent, FamilyEnded, HookSet, HookGone, Numbered}
 
 pub from_1 : Decides (λ n. ltb 0 n) (λ n. 1 ≤ n)
 from_1 = record { holds = λ n e. ltb-true _ _ e; passes = λ n le. lt-ltb _ _ le }
@@ -110,7 +110,7 @@ home_format = u64_format then seen as_parties (party_format then u32_format)
 
 -- the fields of each variant, in its order
 abbrev pub Variants : Type 0
-Variants = (ℕ × (ℕ × ℕ)) ⊎ ((ℕ × (GivenCode × List ℕ)) ⊎ (((ℕ × Parties) × NewToken) ⊎ (List ℕ ⊎ (ℕ ⊎ ((List ℕ × (RecordVersion × List ℕ)) ⊎ (List ℕ ⊎ ⊥))))))
+Variants = (ℕ × (ℕ × ℕ)) ⊎ ((ℕ × (GivenCode × List ℕ)) ⊎ (((ℕ × Parties) × NewToken) ⊎ (List ℕ ⊎ (ℕ ⊎ ((List ℕ × (RecordVersion × List ℕ)) ⊎ (List ℕ ⊎ (ℕ ⊎ ⊥)))))))
 
 abbrev pub change_to : Variants → Change
 change_to (inl p) = Consented p.0 p.1.0 p.1.1
@@ -120,7 +120,8 @@ change_to (inr (inr (inr (inl digest)))) = Spent digest
 change_to (inr (inr (inr (inr (inl family))))) = FamilyEnded family
 change_to (inr (inr (inr (inr (inr (inl p)))))) = HookSet p.0 p.1.0 p.1.1
 change_to (inr (inr (inr (inr (inr (inr (inl name))))))) = HookGone name
-change_to (inr (inr (inr (inr (inr (inr (inr none))))))) = absurd none
+change_to (inr (inr (inr (inr (inr (inr (inr (inl last)))))))) = Numbered last
+change_to (inr (inr (inr (inr (inr (inr (inr (inr none)))))))) = absurd none
 
 abbrev pub change_from : Change → Variants
 change_from (Consented owner client mask) = inl (owner, (client, mask))
@@ -130,6 +131,7 @@ change_from (Spent digest) = inr (inr (inr (inl digest)))
 change_from (FamilyEnded family) = inr (inr (inr (inr (inl family))))
 change_from (HookSet name version code) = inr (inr (inr (inr (inr (inl (name, (version, code)))))))
 change_from (HookGone name) = inr (inr (inr (inr (inr (inr (inl name))))))
+change_from (Numbered last) = inr (inr (inr (inr (inr (inr (inr (inl last)))))))
 
 pub change_from_to : (v : Variants) → change_from (change_to v) ≡ v
 change_from_to v = grind arith
@@ -150,4 +152,5 @@ change_format =
     or u64_format
     or (text_format then (version_format then bytes_format))
     or text_format
-    or no_more 8 faults.Variant))
+    or u64_format
+    or no_more 9 faults.Variant))

@@ -310,6 +310,10 @@ impl Wire for Change<'_> {
                 7u8.put(out)?;
                 name.put(out)
             }
+            Change::Numbered { last } => {
+                8u8.put(out)?;
+                last.put(out)
+            }
         }
     }
 }
@@ -351,6 +355,9 @@ impl<'a> FromWire<'a> for Change<'a> {
             }),
             7 => Ok(Change::HookGone {
                 name: <&str>::from_wire(from)?,
+            }),
+            8 => Ok(Change::Numbered {
+                last: u64::from_wire(from)?,
             }),
             _ => Err(DecodeFault::Bytes(Fault::Variant)),
         }
