@@ -1,7 +1,8 @@
 -- A store that keeps one code or token more fits the history in which it is given.
 use Rattle.std.proofs.Common.{◌≡◌, ◌≤◌, ℕ, List, [], ◌∷◌, ◌++◌, Option, Some, None, false, cond, refl, ap, ◌∙◌, sym, arith}
 use Rattle.token_store.proofs.Names.{count_by, option_or, find-append, bytes_eq-Decides, count_by-none, Event, Grant, grant_of, grant_at, is_named, is_unexpired, spends, has_ended, code_terms}
-use Rattle.token_store.proofs.Names.{IsHistory, CanFollow, terms_of, with_change, may_end, grant_at-push, unexpired_count-push, is_spent-push_other, is_spent-unnamed, has_ended-push_other, code_terms-push}
+use Rattle.token_store.proofs.Names.{IsHistory, CanFollow, terms_of, with_change, may_end, grant_at-push, unexpired_count-push, is_spent-push_other, is_spent-unnamed, has_ended-push_other}
+use Rattle.token_store.proofs.Names.{code_terms-push}
 use Rattle.token_store.proofs.Names.{grant_at-old, code_terms-new, has_ended-new, is_history-push, Kept, kept_at, FitsHistory, to_keep, nat_tests, code_kept}
 use Rattle.std.specs.Prelude.{option_map}
 use Rattle.token_store.proofs.Looking.{count-push}

@@ -1,5 +1,5 @@
 -- The tables without a record that has expired.
-use Rattle.std.proofs.Common.{◌≡◌, ◌<◌, ◌≤◌, ℕ, ◌+◌, List, [], Option, Some, None, Bool, true, false, cond, refl, ap, ◌∙◌, sym, arith}
+use Rattle.std.proofs.Common.{◌≡◌, ◌<◌, ◌≤◌, ℕ, ◌+◌, List, Option, Some, None, Bool, true, false, cond, refl, ap, ◌∙◌, sym, arith}
 use Rattle.token_store.proofs.Names.{◌==◌, family_numbered, count_by, unwrap_or, is_some, IsDistinct, IsPermutation, bytes_eq, lookup, remove_entry, values_of, keys_of, sum_by-remove_entry}
 use Rattle.token_store.proofs.Names.{sum_by_values_permutation, bytes_eq-Decides, Record, Shared, Kept, kept_at, kept_unexpired, shared_at, kept_in, kept_under, all_kept, member_count, IsCounted}
 use Rattle.token_store.proofs.Names.{is_live_at, HasLeft, TellsSame, is_unexpired, nat_tests}
@@ -24,10 +24,10 @@ pub has_slot : (families : List (ℕ × Shared)) (n : ℕ) → 0 < (shared_at fa
 has_slot families n some = grind arith
 
 -- the counts of the families are right again
-pub counted_without : (families families' : List (ℕ × Shared)) (es es' : List (List ℕ × Record)) (digest : List ℕ) (r : Record) →
+pub counted_without : (families families' : List (ℕ × Shared)) (es es' : List (List ℕ × Record)) (digest : List ℕ) (r : Record) (keeps : Bool) →
     IsCounted families es → lookup (bytes_eq digest) es ≡ Some r →
-    IsPermutation (remove_entry (bytes_eq digest) es) es' → HasLeft families families' r.family → IsCounted families' es'
-counted_without families families' es es' digest r counted at taken left n =
+    IsPermutation (remove_entry (bytes_eq digest) es) es' → HasLeft families families' r.family keeps → IsCounted families' es'
+counted_without families families' es es' digest r keeps counted at taken left n =
     let sums = count_without (λ x. x.family == n) digest es es' r at taken in
     let some = member_counted digest es r at in
     grind (arith, nat_tests, sums, some, counted n, counted r.family, left.others n, left.here)
@@ -38,21 +38,21 @@ pub fewer_members : (es es' : List (List ℕ × Record)) (digest : List ℕ) (r 
 fewer_members es es' digest r at taken n = let sums = count_without (λ x. x.family == n) digest es es' r at taken in omega (arith, sums)
 
 -- a family that is there still shares what it did
-pub same_shared : (families families' : List (ℕ × Shared)) (n k : ℕ) (digest : List ℕ) (x : Record) → HasLeft families families' n →
+pub same_shared : (families families' : List (ℕ × Shared)) (n k : ℕ) (digest : List ℕ) (x : Record) (keeps : Bool) → HasLeft families families' n keeps →
     0 < (shared_at families' k).count → kept_under (shared_at families' k) digest x ≡ kept_under (shared_at families k) digest x
-same_shared families families' n k digest x left some = grind (arith, nat_tests, left.others k, left.here)
+same_shared families families' n k digest x keeps left some = grind (arith, nat_tests, left.others k, left.here)
 
 -- counts of what is seen are counts of the records
 pub count_seen : (families : List (ℕ × Shared)) (es : List (List ℕ × Record)) (t : ℕ) → kept_unexpired (all_kept families es) t ≡ count_by (is_live_at t) (values_of es)
 count_seen families es t = count-map (kept_in families) (λ k. is_unexpired t k.grant) es ∙ sym (count-map (λ e. e.1) (is_live_at t) es)
 
 -- one is gone that had expired
-pub dropped_one : (families families' : List (ℕ × Shared)) (es es' : List (List ℕ × Record)) (digest : List ℕ) (r : Record) (moment : ℕ) →
+pub dropped_one : (families families' : List (ℕ × Shared)) (es es' : List (List ℕ × Record)) (digest : List ℕ) (r : Record) (moment : ℕ) (keeps : Bool) →
     IsDistinct bytes_eq (keys_of es) → IsDistinct bytes_eq (keys_of es') → IsCounted families' es' →
     lookup (bytes_eq digest) es ≡ Some r → r.moment + r.life ≤ moment → IsPermutation (remove_entry (bytes_eq digest) es) es' →
-    ((d : List ℕ) → lookup (bytes_eq d) es' ≡ cond (bytes_eq digest d) None (lookup (bytes_eq d) es)) → HasLeft families families' r.family →
+    ((d : List ℕ) → lookup (bytes_eq d) es' ≡ cond (bytes_eq digest d) None (lookup (bytes_eq d) es)) → HasLeft families families' r.family keeps →
     TellsSame (all_kept families es) (all_kept families' es') moment
-dropped_one families families' es es' digest r moment once once' counted' at late taken others left = record {
+dropped_one families families' es es' digest r moment keeps once once' counted' at late taken others left = record {
   finds = λ d t le. found families' es' d t once' ∙ same_shown d t le ∙ sym (found families es d t once);
   counts = λ t le. (let sums = count_without (is_live_at t) digest es es' r at taken in
       let dead = expired t le in
@@ -67,7 +67,7 @@ dropped_one families families' es es' digest r moment once once' counted' at lat
     kept_shown d t (Some x) is =
         let some = member_counted d es' x is in
         let same = counted' x.family in
-        ap (λ k. cond (is_live_at t x) (Some k) None) (same_shared families families' r.family x.family d x left (omega (arith, some, same)))
+        ap (λ k. cond (is_live_at t x) (Some k) None) (same_shared families families' r.family x.family d x keeps left (omega (arith, some, same)))
 
     same_shown : (d : List ℕ) (t : ℕ) → moment ≤ t → shown families' d t (lookup (bytes_eq d) es') ≡ shown families d t (lookup (bytes_eq d) es)
     same_shown d t le =

@@ -1,7 +1,7 @@
 -- Families that are ended, opened or let go of.
 use Rattle.std.proofs.Common.{◌≡◌, ◌≢◌, ◌≤◌, ℕ, List, [], ◌∷◌, Option, Some, None, Bool, true, false, eqb, refl, ap, ◌∙◌, sym, arith}
 use Rattle.token_store.proofs.Names.{family_numbered, nat_le, if◌then◌else◌, values_of, count_by-cons, Record, Shared, Agenda, shared_at, all_kept, member_count, is_coded, Tied, IsOwned, RecordChange}
-use Rattle.token_store.proofs.Names.{changed, HasEnded, HasLowered, IsNextOwned, lowered_by, lowered_shared, nat_tests, Tables, IsTied, kept_of, is_some}
+use Rattle.token_store.proofs.Names.{told, may_end, altered, HasAltered, changed, HasEnded, HasLowered, IsNextOwned, lowered_by, lowered_shared, nat_tests, Tables, IsTied, kept_of, is_some}
 use Rattle.token_store.specs.RecordsParts.{HasClosed, HasIndexed, OthersStay}
 use Rattle.token_store.proofs.Tying.{owner_at, owner_here}
 use Rattle.std.specs.Prelude.{map, option_map}
@@ -94,6 +94,19 @@ pub tied_lowered : (old new : List (ℕ × Shared)) (owner client mask : ℕ) (e
     HasLowered old new owner client mask → Tied old es agenda owners last → Tied new es agenda owners last
 tied_lowered old new owner client mask es agenda owners last lowered =
     tied_changed old new es agenda owners last (λ k. (let is = lowered k in grind (arith, is))) (λ o c k. (let is = lowered k in grind (arith, is)))
+
+-- ALTERING
+
+-- what ends no family leaves all as they are
+pub unaltered : (families : List (ℕ × Shared)) (change : told) → may_end change ≡ false → HasAltered families families change
+unaltered families change quiet n = by (family_numbered families n)
+  where
+    by : (o : Option Shared) → o ≡ option_map (altered change n) o
+    by None = refl
+    by (Some s) = grind (arith, quiet)
+
+pub ended_altered : (old new : List (ℕ × Shared)) (family : ℕ) → HasEnded old new family → HasAltered old new (told.FamilyEnded family)
+ended_altered old new family ended n = let other = ended.others n in let here = ended.here in grind (arith, nat_tests, other, here)
 
 -- OPENING
 

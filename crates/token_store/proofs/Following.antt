@@ -1,5 +1,5 @@
 -- A store that changes what it keeps fits the history with the event that the change is for.
-use Rattle.std.proofs.Common.{◌≡◌, ◌≤◌, ℕ, ◌+◌, List, [], ◌∷◌, ◌++◌, Option, Some, None, Bool, true, false, cond, eqb, refl, ap, ◌∙◌, sym, arith}
+use Rattle.std.proofs.Common.{◌≡◌, ◌≤◌, ℕ, List, [], ◌∷◌, ◌++◌, Option, Some, None, Bool, true, false, cond, eqb, refl, ap, ◌∙◌, sym, arith}
 use Rattle.token_store.proofs.Names.{◌||◌, find, count_by, bytes_eq, bytes_eq-Decides, find-passes, find-map, Event, Grant, grant_of, grants, grant_at, is_named, is_unexpired, is_spent}
 use Rattle.token_store.proofs.Names.{has_ended, code_terms, is_beyond, with_change, event_at, spends, grant_at-push_none, unexpired_count-push_none, code_terms-push_none, is_spent-push}
 use Rattle.token_store.proofs.Names.{is_spent-push_other, has_ended-push, has_ended-push_other, grant_at-now, is_history-push_none, Kept, RecordChange, changed, FitsHistory, to_keep}

@@ -1,7 +1,8 @@
 -- Whether a family that a token is issued in has records.
 use Rattle.std.proofs.Common.{◌≡◌, refl, ◌⊎◌, inl, inr, ◌<◌, ◌∙◌, ap, ℕ, List, Bool, true, false, Option, None, arith}
 use Rattle.std.specs.Prelude.{◌||◌, is_some}
-use Rattle.token_store.proofs.Names.{Event, is_new, is_home, parties_of, Shared, Tables, kept_of, shared_at, FitsStore, to_keep, held_of, room_of, IsTied, host_of, Waits, IsExpected, IsPeopled, nat_tests}
+use Rattle.token_store.proofs.Names.{Event, is_new, is_home, parties_of, Shared, Tables, kept_of, shared_at, FitsStore, to_keep, held_of, room_of, IsTied, host_of, Waits, IsExpected, IsPeopled}
+use Rattle.token_store.proofs.Names.{nat_tests}
 use Rattle.std.specs.Prelude.{option_map}
 use Rattle.consent.specs.RecordFacts.{KindFact}
 use Rattle.consent.specs.declared.change.Home.{Home}

@@ -1,8 +1,8 @@
 -- A store that keeps new tokens fits the history in which they are issued.
 use Rattle.std.proofs.Common.{◌≡◌, ℕ, List, [], ◌∷◌, ◌++◌, Option, Some, None, true, refl, ap, ◌∙◌, sym, arith}
-use Rattle.token_store.proofs.Names.{◌==◌, eq-eqb, and_from, find-some, same_Some, bytes_eq-Decides, Event, Grant, grants, grant_at, CanFollow, told}
+use Rattle.token_store.proofs.Names.{◌==◌, eq-eqb, and_from, find-some, same_Some, bytes_eq-Decides, Event, Grant, grants, grant_at, CanStand, told}
 use Rattle.token_store.proofs.Names.{is_named, is_code, is_code_of, code_terms, has_ended, is_new, is_host, Host, found-named, with_change, code_terms-push_other, has_ended-push_other}
-use Rattle.token_store.proofs.Names.{code_terms-kin, code_terms-new, has_ended-new, is_history-push, can_stand, Record, Shared, Kept, FitsHistory, to_keep}
+use Rattle.token_store.proofs.Names.{code_terms-kin, code_terms-new, has_ended-new, is_history-push, Record, Shared, Kept, FitsHistory, to_keep}
 use Rattle.token_store.proofs.Names.{parties_of, home_shared, fact_in, kind_told, owner_told, kept_at, terms_by, kept_under, token_kept}
 use Rattle.std.specs.Prelude.{option_map}
 use Rattle.consent.specs.declared.change.Home.{Home}
@@ -22,7 +22,7 @@ pub record IsShared (history : List Event) (family : ℕ) (parties : Parties) (s
   pub ended : has_ended history family ≡ s.ended
 
 pub fits_token : (kept : List Kept) (history : List Event) (moment family : ℕ) (parties : Parties) (s : Shared) (token : NewToken) →
-    IsShared history family parties s → CanFollow history moment (told.Issued family parties token) → FitsHistory kept history moment →
+    IsShared history family parties s → CanStand history moment (told.Issued family parties token) → FitsHistory kept history moment →
     FitsHistory (kept ++ token_kept family s moment token ∷ []) (with_change history moment (told.Issued family parties token)) moment
 fits_token kept history moment family parties s token is can fits =
     let e : Event = record { moment = moment; change = told.Issued family parties token } in
@@ -35,8 +35,7 @@ fits_token kept history moment family parties s token is can fits =
       spends_none = λ d. refl;
       same_terms = λ d t h at. code_terms-push_other history e g h.family refl refl;
       untaken = can.1;
-      is_history = is_history-push history moment (told.Issued family parties token) fits.is_history
-          (can_stand history moment moment (told.Issued family parties token) fits.is_history can);
+      is_history = is_history-push history moment (told.Issued family parties token) fits.is_history can;
     } in
     fits_given kept history moment e g (token_kept family s moment token) gives
     (sym (rw (terms, ended, ← is.client, ← is.owner) refl)) fits

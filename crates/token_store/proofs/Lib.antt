@@ -1,5 +1,7 @@
 pub mod Adding
+pub mod Again
 pub mod Changing
+pub mod Closing
 pub mod Dropping
 pub mod Sweeping
 pub mod Families
@@ -8,10 +10,11 @@ pub mod Living
 pub mod Homing
 pub mod Looking
 pub mod Following
-pub mod Remaking
+pub mod Unexpired
 pub mod Settling
 pub mod Sharing
 pub mod Spending
+pub mod Standing
 pub mod Telling
 pub mod Timing
 pub mod Tying

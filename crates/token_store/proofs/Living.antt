@@ -1,7 +1,8 @@
 -- What the store tells of a family, one of whose records is unexpired.
-use Rattle.std.proofs.Common.{◌≡◌, ◌<◌, ◌≤◌, ℕ, List, Option, Some, None, true, false, refl, ap, ◌∙◌, sym, subst, arith}
-use Rattle.token_store.proofs.Names.{◌==◌, find, is_some, bytes_eq, lookup, keys_of, IsDistinct, any-found, any-found_by, find-one, find-passes, bytes_eq-Decides, same_Some, nat_tests}
-use Rattle.token_store.proofs.Names.{Event, Grant, Terms, terms_by, grants, grant_at, is_named, is_live_in, found-named, found_kin, Record, Shared, Kept, kept_at, kept_lives, kept_in, all_kept, shared_at, shared_seen}
+use Rattle.std.proofs.Common.{◌≡◌, ℕ, List, Option, Some, None, true, false, refl, ap, ◌∙◌, sym, subst, arith}
+use Rattle.token_store.proofs.Names.{find, is_some, bytes_eq, lookup, keys_of, IsDistinct, any-found, any-found_by, find-one, find-passes, bytes_eq-Decides, same_Some, nat_tests}
+use Rattle.token_store.proofs.Names.{Event, Grant, Terms, terms_by, grants, grant_at, is_named, is_live_in, found-named, found_kin, Record, Shared, Kept, kept_at, kept_lives, kept_in, all_kept}
+use Rattle.token_store.proofs.Names.{shared_at, shared_seen}
 use Rattle.token_store.proofs.Names.{FitsHistory, to_keep}
 use Rattle.std.specs.Prelude.{option_map}
 use Rattle.token_store.specs.Found.{family_at, family_of_grant}

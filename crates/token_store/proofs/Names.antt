@@ -4,8 +4,10 @@ pub use Rattle.consent.specs.Growth.{may_end}
 pub use Rattle.consent.specs.GrowthLaws.{grant_at-push, unexpired_count-push, is_spent-push_other, is_spent-unnamed, has_ended-push_other, code_terms-push, code_terms-push_other, grant_at-push_none}
 pub use Rattle.consent.specs.GrowthLaws.{unexpired_count-push_none, code_terms-push_none, is_spent-push, has_ended-push, greatest_family-append, with_changes-cons}
 pub use Rattle.consent.specs.History.{Event, Grant, Terms, grant_of, grant_at, is_named, is_unexpired, spends, has_ended, code_terms, IsHistory, terms_of, with_change, CanFollow, grants, is_spent}
-pub use Rattle.consent.specs.History.{is_beyond, event_at, is_code, is_code_of, is_new, is_home, is_host, is_live_in, lives, greatest_family, family_of, with_changes, AllFollow, CanStand, Change as told}
-pub use Rattle.consent.specs.HistoryLaws.{grant_at-old, code_terms-new, has_ended-new, is_history-push, can_stand, grant_at-now, is_history-push_none, code_terms-kin, found-named, found_kin, host_of, Host}
+pub use Rattle.consent.specs.History.{is_beyond, event_at, is_code, is_code_of, is_new, is_home, is_host, is_live_in, lives, greatest_family, family_of, with_changes, AllFollow, CanStand}
+pub use Rattle.consent.specs.History.{Change as told}
+pub use Rattle.consent.specs.HistoryLaws.{grant_at-old, code_terms-new, has_ended-new, is_history-push, can_stand, grant_at-now, is_history-push_none, code_terms-kin, found-named, found_kin}
+pub use Rattle.consent.specs.HistoryLaws.{host_of, Host}
 pub use Rattle.consent.specs.ListLaws.{count_by-none, find-some, find-passes, count_by-cons, find-map, find-one, find-uncounted, any-found, any-found_by}
 pub use Rattle.consent.specs.declared.change.Change.{Change as Made}
 pub use Rattle.consent.specs.declared.change.Change.TheVariants.{CodeGiven, Issued}
@@ -38,13 +40,15 @@ pub use Rattle.token_store.specs.Agenda.{deadlines_of, is_deadline, IsExact, lea
 pub use Rattle.token_store.specs.AgendaParts.{is_ahead, is_filled}
 pub use Rattle.token_store.specs.Fits.{to_keep, FitsHistory, FitsStore, MakesChanges}
 pub use Rattle.token_store.specs.FitsParts.{MakesChange}
-pub use Rattle.token_store.specs.Homes.{ComesBy, HasHome, AllHome, HasGrown, HomesStay, IsAtOdds, AreSaid, passed, all_passed}
-pub use Rattle.token_store.specs.Image.{HasDigestTwice, HasFamilyDiffering, IsLiveOf, as_kept, is_unexpired_record, kept_record, kind_told, owner_told, terms_by}
+pub use Rattle.token_store.specs.Image.{as_kept, kept_record, kind_told, owner_told, terms_by}
 pub use Rattle.token_store.specs.Kept.{Kept, kept_at, kept_lives, kept_unexpired, Room, Held}
-pub use Rattle.token_store.specs.Records.{shared_at, all_kept, Tied, kept_of, IsTied, kept_in, kept_under, member_count, IsCounted, is_coded, IsOwned, home_shared, family_numbered, fact_in, expiry}
-pub use Rattle.token_store.specs.Records.{expiry_of, AllListed, IsBelow, or_nothing, owner_cmp, code_shared, texts_given}
-pub use Rattle.token_store.specs.RecordsParts.{code_kept, is_member_at, shared_seen, TellsSame, is_live_at, HasLeft, RecordChange, changed, HasEnded, HasLowered, IsNextOwned, lowered_by, lowered_shared, token_kept}
-pub use Rattle.token_store.specs.RecordsParts.{HasEntered, SharesSame, spent_in, HasTaken, IsNoneExpired, AllGone, Sheds, AllLive, IsAfter, start_of}
+pub use Rattle.token_store.specs.Records.{shared_at, all_kept, Tied, kept_of, IsTied, kept_in, kept_under, member_count, IsCounted, is_coded, IsOwned, home_shared, family_numbered, shared_seen}
+pub use Rattle.token_store.specs.Records.{fact_in, expiry}
+pub use Rattle.token_store.specs.Records.{expiry_of, AllListed, IsBelow, or_nothing, has_owner, owner_cmp, code_shared, texts_given}
+pub use Rattle.token_store.specs.RecordsParts.{code_kept, is_member_at, TellsSame, is_live_at, HasLeft, RecordChange, changed, HasEnded, HasLowered, IsNextOwned, lowered_by, lowered_shared}
+pub use Rattle.token_store.specs.RecordsParts.{token_kept}
+pub use Rattle.token_store.specs.RecordsParts.{HasEntered, SharesSame, spent_in, HasTaken, IsNoneExpired, AllGone, shared_or, where_peopled, BecomesKnown, SeenSame, HasAltered, altered, Sheds}
+pub use Rattle.token_store.specs.RecordsParts.{AllLive, IsAfter, start_of}
 pub use Rattle.token_store.specs.Room.{Waits, HasRoomFor, IsExpected, IsPeopled, held_of, room_of, records_of}
 pub use Rattle.token_store.specs.declared.agenda.Agenda.{Agenda}
 pub use Rattle.token_store.specs.declared.agenda.Deadline.{Deadline}

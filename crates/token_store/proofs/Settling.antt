@@ -1,8 +1,9 @@
 -- The tables as a record that was about to come has come.
-use Rattle.std.proofs.Common.{◌≡◌, ◌<◌, ◌≤◌, ℕ, ◌+◌, List, [], ◌∷◌, ◌++◌, Option, Some, None, Bool, true, cond, length, refl, ap, ◌∙◌, sym, arith}
+use Rattle.std.proofs.Common.{◌≡◌, ◌<◌, ◌≤◌, ℕ, ◌+◌, List, [], ◌∷◌, ◌++◌, Option, Some, None, Bool, true, false, cond, length, refl, ap, ◌∙◌, sym, arith}
 use Rattle.token_store.proofs.Names.{◌==◌, is_some, unwrap_or, family_numbered, count_by, IsDistinct, list_any, IsPermutation, option_or, MatchOption, bytes_eq, lookup, set_value, sum_by-set_value}
 use Rattle.token_store.proofs.Names.{values_of, keys_of, find-append, list_any-append, count_by-le-length, length-map, sum_by_values_permutation, bytes_eq-Decides, is_named, is_unexpired, Record}
-use Rattle.token_store.proofs.Names.{Shared, Agenda, Deadline, deadlines_of, is_deadline, IsExact, Kept, kept_at, shared_at, expiry, expiry_of, kept_under, all_kept, AllListed, IsCounted, IsOwned, member_count}
+use Rattle.token_store.proofs.Names.{Shared, Agenda, Deadline, deadlines_of, is_deadline, IsExact, Kept, kept_at, shared_at, expiry, expiry_of, kept_under, all_kept, AllListed, IsCounted, IsOwned}
+use Rattle.token_store.proofs.Names.{member_count}
 use Rattle.token_store.proofs.Names.{Tied, is_live_at, HasLeft, HasEntered, TellsSame, SharesSame, nat_tests}
 use Rattle.std.specs.Prelude.{option_map}
 use Rattle.std.proofs.lemmas.List.Sorted.{IsPermutation-map, sum_by_pushed}
@@ -49,7 +50,7 @@ entered_counts old new n k entered there = let other = entered.others k in grind
 -- the record has left its family, if there is one
 abbrev pub HasLeftOf : Option Record → (old new : List (ℕ × Shared)) → Type 0
 HasLeftOf None old new = new ≡ old
-HasLeftOf (Some x) old new = HasLeft old new x.family
+HasLeftOf (Some x) old new = HasLeft old new x.family false
 
 left_counts : (o : Option Record) (old new : List (ℕ × Shared)) (k : ℕ) → HasLeftOf o old new → ((x : Record) → o ≡ Some x → 0 < (shared_at old x.family).count) →
     (shared_at new k).count + count_in (λ x. x.family == k) o ≡ (shared_at old k).count
@@ -59,7 +60,7 @@ left_counts (Some x) old new k left some = let here = some x refl in grind (arit
 left_shares : (o : Option Record) (old new : List (ℕ × Shared)) (k : ℕ) (digest : List ℕ) (x : Record) → HasLeftOf o old new → 0 < (shared_at new k).count →
     kept_under (shared_at new k) digest x ≡ kept_under (shared_at old k) digest x
 left_shares None old new k digest x left some = rw left refl
-left_shares (Some y) old new k digest x left some = same_shared old new y.family k digest x left some
+left_shares (Some y) old new k digest x left some = same_shared old new y.family k digest x false left some
 
 -- all is seen as before, in another order
 pub same_moved : (families families' : List (ℕ × Shared)) (es es' : List (List ℕ × Record)) (m : ℕ) → ((k : ℕ) → SharesSame families families' k) → IsDistinct bytes_eq (keys_of es) → IsDistinct bytes_eq (keys_of es') →

@@ -1,7 +1,7 @@
 -- The tables as what has expired goes.
-use Rattle.std.proofs.Common.{◌≡◌, ◌<◌, ℕ, List, [], ◌∷◌, ◌++◌, Option, Some, None, false, cond, refl, arith}
+use Rattle.std.proofs.Common.{◌≡◌, ◌<◌, ℕ, List, [], ◌∷◌, ◌++◌, Option, Some, None, false, Bool, true, cond, refl, ◌∙◌, arith}
 use Rattle.token_store.proofs.Names.{IsDistinct, IsPermutation, bytes_eq, lookup, keys_of, remove_entry, list_any-append, bytes_eq-Decides, Deadline, Record, Shared, least, is_deadline}
-use Rattle.token_store.proofs.Names.{all_kept, expiry_of, IsCounted, IsOwned, is_live_at, HasLeft, HasTaken, IsNoneExpired, AllGone, Sheds, nat_tests}
+use Rattle.token_store.proofs.Names.{SeenSame, all_kept, expiry_of, IsCounted, IsOwned, is_live_at, HasLeft, HasTaken, IsNoneExpired, AllGone, Sheds, nat_tests}
 use Rattle.token_store.proofs.Looking.{same_on}
 use Rattle.token_store.proofs.Dropping.{counted_without, dropped_one, fewer_members}
 use Rattle.token_store.proofs.Timing.{least_at}
@@ -27,14 +27,14 @@ pub taken_out : (old without new : List (List ℕ × Record)) (digest : List ℕ
     new ≡ without → HasTaken old new digest r
 taken_out old without new digest r at once moved taken is = rw is (record { found = at; once = once; moved = moved; taken = taken })
 
-pub sheds_none : (families : List (ℕ × Shared)) (es : List (List ℕ × Record)) (owners : List ((ℕ × ℕ) × ℕ)) (xs : List Deadline) (m : ℕ) → IsDistinct bytes_eq (keys_of es) → IsCounted families es →
-    AllGone xs es m → Sheds families es owners families es owners xs m
-sheds_none families es owners xs m once counted gone =
-    record { once = once; counted = counted; no_more = λ n. omega arith; owned = λ owned. owned; same = record { finds = λ d t le. refl; counts = λ t le. refl }; fewer = λ d t at. at; gone = gone }
+pub sheds_none : (families : List (ℕ × Shared)) (es : List (List ℕ × Record)) (owners : List ((ℕ × ℕ) × ℕ)) (xs : List Deadline) (m : ℕ) (keeps : Bool) → IsDistinct bytes_eq (keys_of es) → IsCounted families es →
+    AllGone xs es m → Sheds families es owners families es owners xs m keeps
+sheds_none families es owners xs m keeps once counted gone =
+    record { once = once; counted = counted; no_more = λ n. omega arith; owned = λ owned. owned; same = record { finds = λ d t le. refl; counts = λ t le. refl }; fewer = λ d t at. at; gone = gone; stay = λ is n. refl }
 
-pub sheds_on : (f g h : List (ℕ × Shared)) (es fs gs : List (List ℕ × Record)) (o p q : List ((ℕ × ℕ) × ℕ)) (xs ys : List Deadline) (m : ℕ) →
-    Sheds f es o g fs p xs m → Sheds g fs p h gs q ys m → Sheds f es o h gs q (xs ++ ys) m
-sheds_on f g h es fs gs o p q xs ys m first more = record {
+pub sheds_on : (f g h : List (ℕ × Shared)) (es fs gs : List (List ℕ × Record)) (o p q : List ((ℕ × ℕ) × ℕ)) (xs ys : List Deadline) (m : ℕ) (keeps : Bool) →
+    Sheds f es o g fs p xs m keeps → Sheds g fs p h gs q ys m keeps → Sheds f es o h gs q (xs ++ ys) m keeps
+sheds_on f g h es fs gs o p q xs ys m keeps first more = record {
   once = more.once;
   counted = more.counted;
   no_more = λ n. (let one = first.no_more n in let other = more.no_more n in omega (arith, one, other));
@@ -46,21 +46,27 @@ sheds_on f g h es fs gs o p q xs ys m first more = record {
       let other = more.gone d t in
       let less = more.fewer d t at in
       grind (arith, both, one, other, less, listed, at));
+  stay = λ is n. more.stay is n ∙ first.stay is n;
 }
 
-pub sheds_one : (families families' : List (ℕ × Shared)) (es es' : List (List ℕ × Record)) (owners owners' : List ((ℕ × ℕ) × ℕ)) (e : Deadline) (r : Record) (m : ℕ) → IsDistinct bytes_eq (keys_of es) →
-    IsCounted families es → HasTaken es es' e.digest r → is_live_at m r ≡ false → HasLeft families families' r.family → (IsOwned families owners → IsOwned families' owners') →
-    Sheds families es owners families' es' owners' (e ∷ []) m
-sheds_one families families' es es' owners owners' e r m once counted has late left owned =
-    let counted' = counted_without families families' es es' e.digest r counted has.found has.moved left in
+-- a family that is kept looks as it did
+left_seen : (families families' : List (ℕ × Shared)) (n : ℕ) (keeps : Bool) → HasLeft families families' n keeps → keeps ≡ true → SeenSame families families'
+left_seen families families' n keeps left is k = let other = left.others k in grind (arith, nat_tests, left.here, other, is)
+
+pub sheds_one : (families families' : List (ℕ × Shared)) (es es' : List (List ℕ × Record)) (owners owners' : List ((ℕ × ℕ) × ℕ)) (e : Deadline) (r : Record) (m : ℕ) (keeps : Bool) → IsDistinct bytes_eq (keys_of es) →
+    IsCounted families es → HasTaken es es' e.digest r → is_live_at m r ≡ false → HasLeft families families' r.family keeps → (IsOwned families owners → IsOwned families' owners') →
+    Sheds families es owners families' es' owners' (e ∷ []) m keeps
+sheds_one families families' es es' owners owners' e r m keeps once counted has late left owned =
+    let counted' = counted_without families families' es es' e.digest r keeps counted has.found has.moved left in
     record {
       once = has.once;
       counted = counted';
       no_more = fewer_members es es' e.digest r has.found has.moved;
       owned = owned;
-      same = dropped_one families families' es es' e.digest r m once has.once counted' has.found (grind (arith, nat_tests, late)) has.moved has.taken left;
+      same = dropped_one families families' es es' e.digest r m keeps once has.once counted' has.found (grind (arith, nat_tests, late)) has.moved has.taken left;
       fewer = λ d t at. (let less = has.taken d in grind (arith, less));
       gone = gone_one e es' m (λ t at. (let gone = has.taken e.digest in let same = (bytes_eq-Decides e.digest e.digest).1 refl in grind (arith, at, gone, same)));
+      stay = left_seen families families' r.family keeps left;
     }
 
 -- what has not expired has no expiry that has come

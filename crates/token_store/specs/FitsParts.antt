@@ -13,6 +13,10 @@ abbrev pub MakesChange : (old new : Held) → ℕ → Change → Type 0
 MakesChange old new moment change = (history : List Event) → FitsStore old history moment → CanFollow history moment (change_of change) →
     FitsStore new (with_change history moment (change_of change)) moment
 
+-- what fitted a history, or a list, fits it with the change, which gives nothing, even where it may not follow
+abbrev pub Alters : (old new : Held) → ℕ → Change → Type 0
+Alters old new moment change = (history : List Event) → FitsStore old history moment → FitsStore new (with_change history moment (change_of change)) moment
+
 -- there is room for so many more
 abbrev pub has_kept_room : List Kept → ℕ → ℕ → Bool
 has_kept_room kept moment more = nat_le (kept_unexpired kept moment + more) record_limit

@@ -6,12 +6,12 @@ pub mod Room
 pub mod Agenda
 pub mod Records
 pub mod Image
+pub mod Lists
 -- What only the contracts of this crate's own parts and their proofs cite.
 pub mod FitsParts
 pub mod AgendaParts
 pub mod RecordsParts
-pub mod ImageParts
-pub mod Homes
 -- Laws, each proved: a reader may skip them.
 pub mod FitsLaws
+pub mod ListsLaws
 pub mod ImageLaws

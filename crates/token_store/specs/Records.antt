@@ -22,6 +22,7 @@ use Rattle.token_store.specs.declared.record.Shared.{Shared}
 use Rattle.token_store.specs.declared.tables.Tables.{Tables}
 use Rattle.consent.specs.declared.change.CodeFacts.{CodeFacts}
 use Rattle.token_store.specs.Agenda.{deadlines_of, IsExact, is_deadline}
+use Rattle.token_store.specs.Found.{SeenFamily}
 use Rattle.token_store.specs.Kept.{Kept}
 use Rattle.token_store.specs.Image.{kept_told}
 
@@ -68,6 +69,10 @@ family_numbered families n = lookup (nat_eq n) families
 -- what the family with the number shares
 abbrev pub shared_at : List (ℕ × Shared) → ℕ → Shared
 shared_at families n = or_nothing (family_numbered families n)
+
+-- what is seen of a family
+abbrev pub shared_seen : Shared → SeenFamily
+shared_seen s = record { client = s.client; owner = s.owner; code_scope = s.code_scope; ended = s.ended }
 
 -- THE VIEW
 
@@ -119,6 +124,10 @@ IsOwned families owners = (q : (ℕ × ℕ) × ℕ) → has_owner owners q ≡ i
 -- each family's count is that of its records
 abbrev pub IsCounted : List (ℕ × Shared) → List (List ℕ × Record) → Type 0
 IsCounted families records = (n : ℕ) → (shared_at families n).count ≡ member_count records n
+
+-- each family has records
+abbrev pub ArePeopled : List (ℕ × Shared) → Type 0
+ArePeopled families = (n : ℕ) → is_some (family_numbered families n) ≡ true → 0 < (shared_at families n).count
 
 -- no record is of a family of a greater number
 abbrev pub IsBelow : List (List ℕ × Record) → ℕ → Type 0

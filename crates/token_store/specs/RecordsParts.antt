@@ -1,5 +1,5 @@
 -- Beside Records: only the contracts of this crate's own parts and their proofs cite this, no public clause.
-use Rattle.std.specs.Prelude.{◌≡◌, ◌≢◌, ◌+◌, ◌-◌, ◌<◌, ◌≤◌, ℕ, List, [], ◌∷◌, ◌++◌, Bool, true, false, not, nat_lt, nat_le, ◌==◌, ◌&&◌, if◌then◌else◌, Option, Some, None, option_map}
+use Rattle.std.specs.Prelude.{◌≡◌, ◌≢◌, ◌+◌, ◌-◌, ◌<◌, ◌≤◌, ℕ, List, [], ◌∷◌, ◌++◌, Bool, true, false, not, nat_lt, ◌==◌, ◌&&◌, if◌then◌else◌, ◌||◌, Option, Some, None, option_map, unwrap_or}
 use Rattle.std.specs.List.{list_any, IsDistinct}
 use Rattle.std.specs.Str.{bytes_eq}
 use Rattle.std.specs.declared.ops.Bound.{Bound}
@@ -9,7 +9,8 @@ use Rattle.std.specs.List.Sorted.{IsPermutation}
 use Rattle.std.specs.Map.{lookup, keys_of, remove_entry, set_value}
 use Rattle.consent.specs.RecordFacts as fact
 use Rattle.consent.specs.Limits.{code_life}
-use Rattle.consent.specs.History.{is_named, is_beyond, is_within}
+use Rattle.consent.specs.History.{is_named, is_beyond, is_within, ends}
+use Rattle.consent.specs.History as told
 use Rattle.consent.specs.History.Change.{Consented}
 use Rattle.token_store.specs.declared.agenda.Deadline.{Deadline}
 use Rattle.token_store.specs.declared.record.Record.{Record}
@@ -18,10 +19,10 @@ use Rattle.token_store.specs.declared.tables.Tables.{Tables}
 use Rattle.consent.specs.declared.change.CodeFacts.{CodeFacts}
 use Rattle.consent.specs.declared.change.NewToken.{NewToken}
 use Rattle.token_store.specs.Agenda.{is_deadline}
-use Rattle.token_store.specs.Found.{SeenFamily}
 use Rattle.token_store.specs.Kept.{Kept, kept_at, kept_unexpired}
 use Rattle.token_store.specs.Image.{terms_by, kept_told}
-use Rattle.token_store.specs.Records.{kept_under, kept_in, family_numbered, shared_at, kept_of, all_kept, expiry_of, owner_cmp, has_owner, code_shared, texts_given, member_count, IsCounted, IsOwned}
+use Rattle.token_store.specs.Records.{kept_under, kept_in, family_numbered, shared_at, kept_of, shared_seen, all_kept, expiry_of, owner_cmp, has_owner, code_shared, texts_given, member_count}
+use Rattle.token_store.specs.Records.{IsCounted, IsOwned}
 use Rattle.std.specs.Option.{option_and_then}
 
 abbrev pub is_live_at : ℕ → Record → Bool
@@ -30,10 +31,6 @@ is_live_at moment r = nat_lt moment (r.moment + r.life)
 -- and of the family
 abbrev pub is_member_at : ℕ → ℕ → Record → Bool
 is_member_at family moment r = (r.family == family) && is_live_at moment r
-
--- what is seen of a family
-abbrev pub shared_seen : Shared → SeenFamily
-shared_seen s = record { client = s.client; owner = s.owner; code_scope = s.code_scope; ended = s.ended }
 
 -- what is found under the digest, as it is seen
 abbrev pub kept_found : Tables → List ℕ → Option Record → Option Kept
@@ -77,9 +74,13 @@ abbrev pub AllGone : List Deadline → List (List ℕ × Record) → ℕ → Typ
 AllGone deadlines records moment = (digest : List ℕ) (t : ℕ) → list_any (is_deadline digest t) deadlines ≡ true →
     expiry_of (lookup (bytes_eq digest) records) ≡ Some t → moment < t
 
--- Some records are gone that had expired, and their families with the last of them; none that is left has one of these deadlines and has expired.
+-- each family looks as it did
+abbrev pub SeenSame : (old new : List (ℕ × Shared)) → Type 0
+SeenSame old new = (n : ℕ) → option_map shared_seen (family_numbered new n) ≡ option_map shared_seen (family_numbered old n)
+
+-- Some records are gone that had expired, and their families with the last of them, unless those are kept; none that is left has one of these deadlines and has expired.
 pub record Sheds (families : List (ℕ × Shared)) (records : List (List ℕ × Record)) (owners : List ((ℕ × ℕ) × ℕ)) (families' : List (ℕ × Shared))
-    (records' : List (List ℕ × Record)) (owners' : List ((ℕ × ℕ) × ℕ)) (deadlines : List Deadline) (moment : ℕ) : Type 0 where
+    (records' : List (List ℕ × Record)) (owners' : List ((ℕ × ℕ) × ℕ)) (deadlines : List Deadline) (moment : ℕ) (keeps : Bool) : Type 0 where
   pub once : IsDistinct bytes_eq (keys_of records')
   pub counted : IsCounted families' records'
   pub no_more : (n : ℕ) → member_count records' n ≤ member_count records n
@@ -87,6 +88,7 @@ pub record Sheds (families : List (ℕ × Shared)) (records : List (List ℕ × 
   pub same : TellsSame (all_kept families records) (all_kept families' records') moment
   pub fewer : (digest : List ℕ) (t : ℕ) → expiry_of (lookup (bytes_eq digest) records') ≡ Some t → expiry_of (lookup (bytes_eq digest) records) ≡ Some t
   pub gone : AllGone deadlines records' moment
+  pub stay : keeps ≡ true → SeenSame families families'
 
 -- each but the family with the number is as it was
 abbrev pub OthersStay : (old new : List (ℕ × Shared)) → ℕ → Type 0
@@ -97,13 +99,13 @@ pub record HasEntered (old new : List (ℕ × Shared)) (n more : ℕ) : Type 0 w
   pub here : family_numbered new n ≡ option_map (λ (s : Shared). record s { count = s.count + more }) (family_numbered old n)
   pub others : OthersStay old new n
 
--- the family with one record fewer, which goes with the last
-abbrev pub left_by : Shared → Option Shared
-left_by s = if nat_le s.count 1 then None else Some (record s { count = s.count - 1 })
+-- the family with one record fewer, which goes with the last unless it is kept
+abbrev pub left_by : Bool → Shared → Option Shared
+left_by keeps s = if keeps || nat_lt 1 s.count then Some (record s { count = s.count - 1 }) else None
 
 -- one record fewer is of the family
-pub record HasLeft (old new : List (ℕ × Shared)) (n : ℕ) : Type 0 where
-  pub here : family_numbered new n ≡ option_and_then left_by (family_numbered old n)
+pub record HasLeft (old new : List (ℕ × Shared)) (n : ℕ) (keeps : Bool) : Type 0 where
+  pub here : family_numbered new n ≡ option_and_then (left_by keeps) (family_numbered old n)
   pub others : OthersStay old new n
 
 -- a family is not there any more
@@ -150,6 +152,28 @@ lowered_by mask s = if is_beyond_mask mask s.code_scope then record s { ended = 
 abbrev pub lowered_shared : ℕ → ℕ → ℕ → Shared → Shared
 lowered_shared owner client mask s =
     if is_beyond (Consented owner client mask) (option_map (terms_by s.client s.owner) s.code_scope) then record s { ended = true } else s
+
+-- the family, ended if the change ends it or is a consent to less than its code's scope
+abbrev pub altered : told.Change → ℕ → Shared → Shared
+altered change n s =
+    if ends n change || is_beyond change (option_map (terms_by s.client s.owner) s.code_scope) then record s { ended = true } else s
+
+-- each family is as the change leaves it
+abbrev pub HasAltered : (old new : List (ℕ × Shared)) → told.Change → Type 0
+HasAltered old new change = (n : ℕ) → family_numbered new n ≡ option_map (altered change n) (family_numbered old n)
+
+-- what the family shares, or this where it is not there
+abbrev pub shared_or : List (ℕ × Shared) → ℕ → Shared → Shared
+shared_or families n s = unwrap_or (family_numbered families n) s
+
+-- the family is there, and looks like this if it was not there
+pub record BecomesKnown (old new : List (ℕ × Shared)) (n : ℕ) (s : Shared) : Type 0 where
+  pub here : option_map shared_seen (family_numbered new n) ≡ Some (shared_seen (shared_or old n s))
+  pub others : OthersStay old new n
+
+-- the family, if it has records
+abbrev pub where_peopled : Shared → Option Shared
+where_peopled s = if nat_lt 0 s.count then Some s else None
 
 abbrev pub HasLowered : List (ℕ × Shared) → List (ℕ × Shared) → ℕ → ℕ → ℕ → Type 0
 HasLowered old new owner client mask =

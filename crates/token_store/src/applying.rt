@@ -1,11 +1,12 @@
 //! Changes are made.
-ghost use Rattle.std.specs.Prelude.{◌≤◌, ◌+◌, [], ◌∷◌};
-ghost use Rattle.consent.specs.Changes.{as_list};
+ghost use Rattle.std.specs.Prelude.{◌≡◌, ◌≤◌, ◌+◌, [], ◌∷◌};
+ghost use Rattle.consent.specs.Changes.{as_list, change_of};
 ghost use Rattle.consent.specs.declared.change.Change.{Change};
 ghost use Rattle.token_store.specs.Fits.{MakesChanges};
-ghost use Rattle.token_store.specs.FitsParts.{MakesChange};
+ghost use Rattle.token_store.specs.FitsParts.{Alters, MakesChange};
 ghost use Rattle.token_store.specs.Records.{IsTied};
-ghost use Rattle.token_store.specs.Room.{HasRoomFor, HasSpare, IsPeopled, IsReady, held_of, room_of};
+ghost use Rattle.token_store.specs.RecordsParts.{HasAltered, HasEnded};
+ghost use Rattle.token_store.specs.Room.{records_by, HasRoomFor, HasSpare, IsPeopled, IsReady, held_of, room_of};
 
 use crate::record::{Record, Shared};
 use crate::tables::{Coming, Tables, end_one, lower_all, spend_one};
@@ -53,7 +54,9 @@ impl Tables {
     fn spend_at(&mut self, digest: &Digest, moment: Moment)
         requires tied { IsTied self.old }
         ensures tied { IsTied self.new }
-        ensures makes { MakesChange (held_of self.old) (held_of self.new) moment (Change.Spent digest.now) }
+        ensures alters { Alters (held_of self.old) (held_of self.new) moment (Change.Spent digest.now) }
+        ensures families { self.new.families ≡ self.old.families }
+        ensures coming { self.new.coming ≡ self.old.coming }
     {
         if self.record_at(digest, moment).is_some() {
             spend_one(&mut self.records, digest);
@@ -64,19 +67,23 @@ impl Tables {
     fn end(&mut self, family: u64, moment: Moment)
         requires tied { IsTied self.old }
         ensures tied { IsTied self.new }
-        ensures makes { MakesChange (held_of self.old) (held_of self.new) moment (Change.FamilyEnded family) }
+        ensures alters { Alters (held_of self.old) (held_of self.new) moment (Change.FamilyEnded family) }
+        ensures families { HasEnded self.old.families.entries self.new.families.entries family }
+        ensures coming { self.new.coming ≡ self.old.coming }
     {
         let _ = moment;
         self.pass(family);
         end_one(&mut self.families, family);
     }
 
-    // Makes a change.
-    fn apply_one(&mut self, change: &Change<'_>, moment: Moment)
+    /// Makes a change that gives nothing.
+    pub(crate) fn alter(&mut self, change: &Change<'_>, moment: Moment)
         requires tied { IsTied self.old }
-        requires room { HasRoomFor (room_of self.old) (change.now ∷ []) }
+        requires none { records_by change.now ≡ 0 }
         ensures tied { IsTied self.new }
-        ensures makes { MakesChange (held_of self.old) (held_of self.new) moment change.now }
+        ensures alters { Alters (held_of self.old) (held_of self.new) moment change.now }
+        ensures families { HasAltered self.old.families.entries self.new.families.entries (change_of change.now) }
+        ensures coming { self.new.coming ≡ self.old.coming }
     {
         match change {
             Change::Consented {
@@ -90,16 +97,30 @@ impl Tables {
                 client.get(),
                 *mask,
             ),
+            Change::Spent { digest } => self.spend_at(digest, moment),
+            Change::FamilyEnded { family } => self.end(*family, moment),
+            Change::Numbered { last } => self.pass(*last),
+            Change::HookSet { .. } => {}
+            Change::HookGone { .. } => {}
+            Change::CodeGiven { .. } | Change::Issued { .. } => unreachable!(),
+        }
+    }
+
+    // Makes a change.
+    fn apply_one(&mut self, change: &Change<'_>, moment: Moment)
+        requires tied { IsTied self.old }
+        requires room { HasRoomFor (room_of self.old) (change.now ∷ []) }
+        ensures tied { IsTied self.new }
+        ensures makes { MakesChange (held_of self.old) (held_of self.new) moment change.now }
+    {
+        match change {
             Change::CodeGiven {
                 family,
                 facts,
                 digest,
             } => self.give_code(*family, facts, digest, moment),
             Change::Issued { home, token } => self.issue(home, token, moment),
-            Change::Spent { digest } => self.spend_at(digest, moment),
-            Change::FamilyEnded { family } => self.end(*family, moment),
-            Change::HookSet { .. } => {}
-            Change::HookGone { .. } => {}
+            _ => self.alter(change, moment),
         }
     }
 

@@ -1,12 +1,12 @@
 //! What has expired goes.
-ghost use Rattle.std.specs.Prelude.{◌≡◌, ◌≤◌, [], ◌∷◌, false, filter, IfSome, IfNone};
+ghost use Rattle.std.specs.Prelude.{◌≡◌, ◌≤◌, [], ◌∷◌, true, false, filter, IfSome, IfNone};
 ghost use Rattle.std.specs.List.{AllByRecursion, IsDistinct};
 ghost use Rattle.std.specs.Str.{bytes_eq};
 ghost use Rattle.std.specs.Map.{keys_of, lookup};
 ghost use Rattle.token_store.specs.Agenda.{IsBounded, deadlines_in, deadlines_of};
 ghost use Rattle.token_store.specs.AgendaParts.{is_ahead, HasCome};
 ghost use Rattle.token_store.specs.Records.{IsCounted, IsTied, kept_of};
-ghost use Rattle.token_store.specs.RecordsParts.{AllLive, HasTaken, IsNoneExpired, Sheds, TellsSame, is_live_at};
+ghost use Rattle.token_store.specs.RecordsParts.{AllLive, HasTaken, IsNoneExpired, SeenSame, Sheds, TellsSame, is_live_at};
 
 use crate::agenda::{Deadline, Page};
 use crate::record::Record;
@@ -16,31 +16,37 @@ use std::collections::HashMap;
 use std::collections::hash_map::Entry;
 
 impl Tables {
-    /// Lets go of all that has expired.
+    /// Lets go of the records that have expired, and of the families without records, unless it
+    /// keeps them.
     #[inline]
     #[tactic(auto, using(crate::proofs::Timing::ahead_least, std::proofs::lemmas::Bool::Decides::nat_tests))]
-    pub(crate) fn drop_expired(&mut self, moment: Moment)
+    pub(crate) fn drop_expired(&mut self, moment: Moment, keeps: bool)
         requires { IsTied self.old }
         ensures tied { IsTied self.new }
         ensures last { self.new.last ≡ self.old.last }
+        ensures coming { self.new.coming ≡ self.old.coming }
         ensures same { TellsSame (kept_of self.old) (kept_of self.new) moment }
         ensures live { AllLive self.new.records.entries moment }
+        ensures stay { keeps ≡ true → SeenSame self.old.families.entries self.new.families.entries }
         ensures struck { deadlines_of self.new.agenda ≡ filter (is_ahead moment) (deadlines_of self.old.agenda) }
     {
         if !self.is_none_expired(moment) {
-            self.drop_due(moment);
+            self.drop_due(moment, keeps);
         }
     }
 
-    // Lets go of what has expired, where the least deadline has come.
+    // Lets go of the records that have expired, where the least deadline has come, and of the families
+    // without records, unless it keeps them.
     #[inline(never)]
-    fn drop_due(&mut self, moment: Moment)
+    fn drop_due(&mut self, moment: Moment, keeps: bool)
         requires tied { IsTied self.old }
         requires due { HasCome (deadlines_of self.old.agenda) moment }
         ensures tied { IsTied self.new }
         ensures last { self.new.last ≡ self.old.last }
+        ensures coming { self.new.coming ≡ self.old.coming }
         ensures same { TellsSame (kept_of self.old) (kept_of self.new) moment }
         ensures live { AllLive self.new.records.entries moment }
+        ensures stay { keeps ≡ true → SeenSame self.old.families.entries self.new.families.entries }
         ensures struck { deadlines_of self.new.agenda ≡ filter (is_ahead moment) (deadlines_of self.old.agenda) }
     {
         drop_pages(
@@ -49,6 +55,7 @@ impl Tables {
             &mut self.owners,
             &self.agenda.pages,
             moment,
+            keeps,
         );
         drop_page(
             &mut self.records,
@@ -56,6 +63,7 @@ impl Tables {
             &mut self.owners,
             &self.agenda.newest,
             moment,
+            keeps,
         );
         self.agenda.strike(moment);
     }
@@ -68,14 +76,15 @@ fn drop_one(
     owners: &mut Owners,
     deadline: &Deadline,
     moment: Moment,
+    keeps: bool,
 )
     requires once { IsDistinct bytes_eq (keys_of records.old.entries) }
     requires counted { IsCounted families.old.entries records.old.entries }
     requires due { deadline.now.moment ≤ moment }
-    ensures { Sheds families.old.entries records.old.entries owners.old.keys families.new.entries records.new.entries owners.new.keys (deadline.now ∷ []) moment }
+    ensures { Sheds families.old.entries records.old.entries owners.old.keys families.new.entries records.new.entries owners.new.keys (deadline.now ∷ []) moment keeps }
 {
     if let Some(expired) = take_expired(records, &deadline.digest, moment) {
-        leave(families, owners, expired.family);
+        leave(families, owners, expired.family, keeps);
     }
 }
 
@@ -113,15 +122,16 @@ fn drop_all(
     owners: &mut Owners,
     deadlines: &[Deadline],
     moment: Moment,
+    keeps: bool,
 )
     requires once { IsDistinct bytes_eq (keys_of records.old.entries) }
     requires counted { IsCounted families.old.entries records.old.entries }
     requires due { HasCome deadlines.now moment }
-    ensures { Sheds families.old.entries records.old.entries owners.old.keys families.new.entries records.new.entries owners.new.keys deadlines.now moment }
+    ensures { Sheds families.old.entries records.old.entries owners.old.keys families.new.entries records.new.entries owners.new.keys deadlines.now moment keeps }
 {
     for deadline in deadlines {
         if deadline.moment <= moment.get() {
-            drop_one(records, families, owners, deadline, moment);
+            drop_one(records, families, owners, deadline, moment, keeps);
         }
     }
 }
@@ -133,14 +143,22 @@ fn drop_page(
     owners: &mut Owners,
     page: &Page,
     moment: Moment,
+    keeps: bool,
 )
     requires once { IsDistinct bytes_eq (keys_of records.old.entries) }
     requires counted { IsCounted families.old.entries records.old.entries }
     requires bounded { IsBounded page.now }
-    ensures { Sheds families.old.entries records.old.entries owners.old.keys families.new.entries records.new.entries owners.new.keys page.now.deadlines.items moment }
+    ensures { Sheds families.old.entries records.old.entries owners.old.keys families.new.entries records.new.entries owners.new.keys page.now.deadlines.items moment keeps }
 {
     if page.earliest <= moment.get() {
-        drop_all(records, families, owners, page.deadlines.as_slice(), moment);
+        drop_all(
+            records,
+            families,
+            owners,
+            page.deadlines.as_slice(),
+            moment,
+            keeps,
+        );
     }
 }
 
@@ -151,13 +169,14 @@ fn drop_pages(
     owners: &mut Owners,
     pages: &[Page],
     moment: Moment,
+    keeps: bool,
 )
     requires once { IsDistinct bytes_eq (keys_of records.old.entries) }
     requires counted { IsCounted families.old.entries records.old.entries }
     requires bounded { AllByRecursion IsBounded pages.now }
-    ensures { Sheds families.old.entries records.old.entries owners.old.keys families.new.entries records.new.entries owners.new.keys (deadlines_in pages.now) moment }
+    ensures { Sheds families.old.entries records.old.entries owners.old.keys families.new.entries records.new.entries owners.new.keys (deadlines_in pages.now) moment keeps }
 {
     for page in pages {
-        drop_page(records, families, owners, page, moment);
+        drop_page(records, families, owners, page, moment, keeps);
     }
 }

@@ -16,3 +16,20 @@ impl Display for StoreFault {
         write!(f, "{self:?}")
     }
 }
+
+/// Why a change is not made again.
+#[derive(Clone, Copy, Debug, PartialEq, Eq)]
+pub enum AgainFault {
+    /// It names a family that it cannot be of.
+    Unknown,
+    /// Its code or token has no room, or its digest is taken.
+    Refused(StoreFault),
+    /// Memory was refused.
+    Memory,
+}
+
+impl Display for AgainFault {
+    fn fmt<W: Write>(&self, f: &mut Formatter<W>) -> fmt::Result {
+        write!(f, "{self:?}")
+    }
+}

@@ -1,8 +1,10 @@
 //! The codes and tokens that an authorization server has given, and what they are at a moment.
 //!
 //! A store is read, is made room in, and has changes made in it: `reserve` is the one call in which
-//! memory is refused, and `apply` the one by which answers change. A moment is in seconds, and no
-//! call's is below an earlier one's. A digest is the SHA-256 of the bytes that a code or token spells.
+//! memory is refused, and `apply` the one by which answers change. Before all that it can be made of
+//! a list of changes: `redo` makes each again, as far as there is memory, and `settle` ends it.
+//! A moment is in seconds, and no call's is below an earlier one's. A digest is the SHA-256 of the
+//! bytes that a code or token spells.
 #![tactic(auto)]
 
 mod agenda;
@@ -10,16 +12,13 @@ mod applying;
 mod expiring;
 mod fault;
 mod found;
-mod image;
-mod laws;
+mod listing;
 mod record;
+mod redoing;
 mod reserving;
-mod restoring;
 mod store;
 mod tables;
 
-pub use fault::StoreFault;
+pub use fault::{AgainFault, StoreFault};
 pub use found::{Family, Found};
-pub use laws::facts_say_what_is_kept;
-pub use restoring::RestoreFault;
 pub use store::Store;

@@ -1,8 +1,8 @@
 //! A code or token as the store keeps it, and what those of a family share.
 ghost use Rattle.std.specs.Prelude.{◌≡◌, ◌+◌, ℕ, List, IfOk};
 ghost use Rattle.token_store.specs.Found.{family_seen, found_seen, kept_seen};
-ghost use Rattle.token_store.specs.Records.{kept_under, code_shared, home_shared, texts_seen, texts_given};
-ghost use Rattle.token_store.specs.RecordsParts.{is_live_at, shared_seen, IsCodeRecord, token_kept};
+ghost use Rattle.token_store.specs.Records.{kept_under, shared_seen, code_shared, home_shared, texts_seen, texts_given};
+ghost use Rattle.token_store.specs.RecordsParts.{is_live_at, IsCodeRecord, token_kept};
 
 use crate::found::{Family, Found};
 use consent::{

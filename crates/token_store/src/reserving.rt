@@ -23,7 +23,8 @@ fn records_by(change: &Change<'_>) -> usize
         | Change::Spent { .. }
         | Change::FamilyEnded { .. }
         | Change::HookSet { .. }
-        | Change::HookGone { .. } => 0,
+        | Change::HookGone { .. }
+        | Change::Numbered { .. } => 0,
     }
 }
 
@@ -105,7 +106,8 @@ impl Tables {
             | Change::Spent { .. }
             | Change::FamilyEnded { .. }
             | Change::HookSet { .. }
-            | Change::HookGone { .. } => Ok(()),
+            | Change::HookGone { .. }
+            | Change::Numbered { .. } => Ok(()),
         }
     }
 

@@ -1,21 +1,20 @@
 //! The store of codes and tokens.
-ghost use Rattle.std.specs.Prelude.{◌≡◌, ◌<◌, ◌≤◌, ◌↔◌, ℕ, List, [], length, option_map, OnOk, IfOk, IsErrOf};
-ghost use Rattle.consent.specs.Limits.{record_limit};
-ghost use Rattle.consent.specs.History.{Event, greatest_family, is_new, next_family, unexpired_count};
-ghost use Rattle.consent.specs.Changes.{as_list};
+ghost use Rattle.std.specs.Prelude.{◌≡◌, ℕ, List, [], None, length, option_map, IfErr, IfOk, OnOk};
+ghost use Rattle.consent.specs.History.{Event, greatest_family, is_new, next_family, unexpired_count, with_change};
+ghost use Rattle.consent.specs.Changes.{as_list, change_of};
 ghost use Rattle.consent.specs.Seen.{seen_at};
-ghost use Rattle.token_store.specs.Kept.{Held, kept_unexpired};
-ghost use Rattle.token_store.specs.Records.{IsTied};
+ghost use Rattle.token_store.specs.Kept.{Held};
+ghost use Rattle.token_store.specs.Records.{ArePeopled, IsTied};
 ghost use Rattle.token_store.specs.Room.{held_of, HasRoom};
 ghost use Rattle.token_store.specs.Fits.{FitsHistory, FitsStore, ForEachHistory, MakesChanges, refusal};
-ghost use Rattle.token_store.specs.Image.{as_kept, HasDigestTwice, HasFamilyDiffering};
+ghost use Rattle.token_store.specs.Image.{as_kept};
+ghost use Rattle.token_store.specs.Lists.{family_told, standing_refusal, FitsList, ForEachList, RefusesAgain};
 ghost use Rattle.token_store.specs.Found.{family_at, family_seen, found_seen};
 
-use crate::fault::StoreFault;
+use crate::fault::{AgainFault, StoreFault};
 use crate::found::{Family, Found};
-use crate::restoring::RestoreFault;
 use crate::tables::Tables;
-use consent::{Changes, Digest, FAMILY_LIMIT, KeptRecord, Moment};
+use consent::{Change, Changes, Digest, FAMILY_LIMIT, KeptRecord, Moment};
 use std::alloc::{AllocError, Global};
 use std::marker::Model;
 
@@ -37,7 +36,8 @@ impl Model for Store {
 impl Store {
     /// No codes and tokens, which later ones take memory from `alloc` for.
     pub fn new(alloc: Global) -> Self
-        ensures { (moment : ℕ) → FitsStore result [] moment }
+        ensures fits { (moment : ℕ) → FitsStore result [] moment }
+        ensures list { (moment : ℕ) → FitsList result [] moment }
     {
         Store {
             tables: Tables::new(alloc),
@@ -50,29 +50,6 @@ impl Store {
         ensures { IfOk result (λ list. ForEachHistory self.now moment (λ history. FitsHistory (as_kept list.items) history moment)) }
     {
         self.tables.kept_records(alloc, moment)
-    }
-
-    /// A store of these codes and tokens, without those that are expired at the moment, with the greatest number of a family
-    /// so far. It answers as one does that the records are of, and has no more unexpired ones than may be.
-    pub fn restored(
-        alloc: Global,
-        records: &[KeptRecord<'_>],
-        last: u64,
-        moment: Moment,
-    ) -> Result<Self, RestoreFault>
-        ensures fits { IfOk result (λ store. (history : List Event) → FitsHistory (as_kept records.now) history moment →
-            last ≡ greatest_family history → FitsStore store history moment) }
-        ensures few { IfOk result (λ store. kept_unexpired store.kept moment ≤ record_limit) }
-        // Full comes before the others.
-        ensures full { IsErrOf result RestoreFault.Full ↔ record_limit < kept_unexpired (as_kept records.now) moment }
-        ensures twice { IsErrOf result RestoreFault.DigestTwice → HasDigestTwice (as_kept records.now) moment }
-        ensures differs { IsErrOf result RestoreFault.FamilyDiffers → HasFamilyDiffering records.now moment }
-    {
-        let tables = match Tables::restored(alloc, records, last, moment) {
-            Ok(tables) => tables,
-            Err(fault) => return Err(fault),
-        };
-        Ok(Store { tables, alloc })
     }
 
     /// What the digest names, if it is unexpired.
@@ -149,7 +126,39 @@ impl Store {
         // Spent ones and those of ended families are unexpired too.
         ensures kept { ForEachHistory self.old moment (λ history. length self.new.kept ≡ unexpired_count history moment) }
     {
-        self.tables.drop_expired(moment);
+        self.tables.drop_expired(moment, false);
+    }
+
+    /// Makes a change of a list again: one that can stand next in it, though it could not follow.
+    pub fn redo(&mut self, change: &Change<'_>, moment: Moment) -> Result<(), AgainFault>
+        ensures redone { OnOk result (ForEachList self.old moment (λ list. FitsList self.new (with_change list moment (change_of change.now)) moment)) }
+        ensures stands { OnOk result (ForEachList self.old moment (λ list. standing_refusal list moment change.now ≡ None)) }
+        ensures refused { IfErr result (RefusesAgain self.old moment change.now) }
+    {
+        self.tables.redo(self.alloc, change, moment)
+    }
+
+    /// Lets go of the codes and tokens that have expired, and of no family.
+    pub fn drop_records(&mut self, moment: Moment)
+        ensures { ForEachList self.old moment (λ list. FitsList self.new list moment) }
+    {
+        self.tables.drop_expired(moment, true);
+    }
+
+    /// The family of the number, whether something of it is unexpired or not.
+    pub fn family_told(&self, number: u64) -> Option<Family>
+        ensures { (list : List Event) (moment : ℕ) → FitsList self.now list moment → option_map family_seen result ≡ family_told list number }
+    {
+        let shared = self.tables.families.get(&number)?;
+        Some(shared.family())
+    }
+
+    /// The list is at its end: families without codes and tokens go.
+    pub fn settle(&mut self)
+        ensures fits { (list : List Event) (moment : ℕ) → FitsList self.old list moment → FitsStore self.new list moment }
+        ensures peopled { ArePeopled self.new.room.families }
+    {
+        self.tables.settle();
     }
 
     /// How many codes and tokens it has in memory, with those that have expired and were not let go of.

@@ -52,6 +52,7 @@ impl Tables {
         ensures tied { IsTied result }
         ensures empty { kept_of result ≡ [] }
         ensures homeless { result.families.entries ≡ [] }
+        ensures coming { result.coming ≡ None }
         ensures last { result.last ≡ 0 }
     {
         Tables {
@@ -201,10 +202,7 @@ impl Tables {
         ensures here { OnOk result (family_numbered self.new.families.entries number ≡ Some shared) }
         ensures others { OthersStay self.old.families.entries self.new.families.entries number }
         ensures same { kept_of self.new ≡ kept_of self.old }
-        ensures records { self.new.records ≡ self.old.records }
-        ensures agenda { self.new.agenda ≡ self.old.agenda }
-        ensures coming { self.new.coming ≡ self.old.coming }
-        ensures last { self.new.last ≡ self.old.last }
+        ensures beside { self.new ≡ record self.old { families = self.new.families; owners = self.new.owners } }
     {
         close(&mut self.families, &mut self.owners, number);
         self.families.reserve(1)?;
@@ -239,7 +237,7 @@ impl Tables {
             unreachable!()
         };
         if let Some(expired) = replaced {
-            leave(&mut self.families, &mut self.owners, expired.family);
+            leave(&mut self.families, &mut self.owners, expired.family, false);
         }
     }
 
@@ -380,16 +378,16 @@ fn is_among(digest: &Digest, digests: &[Digest]) -> bool
     digests.iter().any(|other| *digest == *other)
 }
 
-// One record of the family is gone, and so is the family with the last.
-pub(crate) fn leave(families: &mut Families, owners: &mut Owners, number: u64)
+// One record of the family is gone, and so is the family with the last, unless it is kept.
+pub(crate) fn leave(families: &mut Families, owners: &mut Owners, number: u64, keeps: bool)
     ensures owned { IsOwned families.old.entries owners.old.keys → IsOwned families.new.entries owners.new.keys }
-    ensures left { HasLeft families.old.entries families.new.entries number }
+    ensures left { HasLeft families.old.entries families.new.entries number keeps }
 {
     let Some(mut shared) = families.get(&number).copied() else {
         return;
     };
-    if shared.count > 1 {
-        shared.count -= 1;
+    if keeps || shared.count > 1 {
+        shared.count = shared.count.saturating_sub(1);
         share(families, number, shared);
         return;
     }

@@ -20,12 +20,12 @@ loop-deadline-preserved c =
       | then-deadline-get w ↦
           let n = w.drop_one.new in
           rw (w.records-is, w.families-is, w.owners-is, front)
-          (sheds_on a.families.now.entries f n.families.entries a.records.now.entries es n.records.entries a.owners.now.keys o n.owners.keys (take i xs) (e ∷ []) m inv w.drop_one.ensures)
+          (sheds_on a.families.now.entries f n.families.entries a.records.now.entries es n.records.entries a.owners.now.keys o n.owners.keys (take i xs) (e ∷ []) m a.keeps inv w.drop_one.ensures)
       | else-deadline-get w ↦
           let later = w.if-deadline-get.false in
           let is = c.get.ensures.value in
-          let none = sheds_none f es o (e ∷ []) m inv.once inv.counted (gone_ahead e es m (omega (arith, later, is))) in
-          rw (w.records-is, w.families-is, w.owners-is, front) (sheds_on a.families.now.entries f f a.records.now.entries es es a.owners.now.keys o o (take i xs) (e ∷ []) m inv none)
+          let none = sheds_none f es o (e ∷ []) m a.keeps inv.once inv.counted (gone_ahead e es m (omega (arith, later, is))) in
+          rw (w.records-is, w.families-is, w.owners-is, front) (sheds_on a.families.now.entries f f a.records.now.entries es es a.owners.now.keys o o (take i xs) (e ∷ []) m a.keeps inv none)
     ]
 
 pub returns : goal.returns

@@ -9,5 +9,5 @@ returns-else-page-get c =
     let later = c.if-page-get.false in
     let is = c.get.ensures.value in
     let bounded = c.requires.bounded in
-    sheds_none a.families.now.entries a.records.now.entries a.owners.now.keys xs a.moment c.requires.once c.requires.counted
+    sheds_none a.families.now.entries a.records.now.entries a.owners.now.keys xs a.moment a.keeps c.requires.once c.requires.counted
     (gone_later xs a.moment a.records.now.entries (omega (arith, later, is, bounded)))

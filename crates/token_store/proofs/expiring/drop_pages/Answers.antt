@@ -15,7 +15,7 @@ loop-page-preserved c =
     let front : take (i + 1) xs ≡ take i xs ++ page ∷ [] = take_more xs i page c.loop-page-test.true ∙ ap (λ y. take i xs ++ y ∷ []) (sym c.page-item.is) in
     rw (front, pages_pushed (take i xs) page)
     (sheds_on a.families.now.entries l.families.entries n.families.entries a.records.now.entries l.records.entries n.records.entries a.owners.now.keys l.owners.keys n.owners.keys
-    (deadlines_in (take i xs)) page.deadlines.items a.moment l.invariant c.drop_page.ensures)
+    (deadlines_in (take i xs)) page.deadlines.items a.moment a.keeps l.invariant c.drop_page.ensures)
 
 pub returns : goal.returns
 returns c = let all = take_all c.loop-page.page-index c.args.pages.now (omega (arith, c.loop-page-test.false)) in rw all at c.loop-page.invariant

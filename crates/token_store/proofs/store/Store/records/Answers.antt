@@ -1,6 +1,6 @@
 use Rattle.std.proofs.Common.{List, sym, subst}
 use Rattle.token_store.proofs.Names.{IfOk-weaker, Kept, FitsHistory, kept_of}
-use Rattle.token_store.proofs.Remaking.{fits_unexpired}
+use Rattle.token_store.proofs.Unexpired.{fits_unexpired}
 use Rattle.token_store.proofs.store.Store.records.Goals as goal
 
 pub returns : goal.returns

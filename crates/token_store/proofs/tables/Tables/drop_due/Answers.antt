@@ -13,7 +13,7 @@ returns c =
     let s2 = c.drop_page.new in
     let first = rw c.deref.ensures.value at c.drop_pages.ensures in
     let sheds = sheds_on t.families.entries s1.families.entries s2.families.entries t.records.entries s1.records.entries s2.records.entries t.owners.keys s1.owners.keys s2.owners.keys
-    (deadlines_in a.pages.items) a.newest.deadlines.items m first c.drop_page.ensures in
+    (deadlines_in a.pages.items) a.newest.deadlines.items m c.args.keeps first c.drop_page.ensures in
     let listed = c.requires.tied.listed in
     let live : AllLive s2.records.entries m = λ d t at. sheds.gone d t (listed d t (sheds.fewer d t at)) at in
     record {
@@ -29,4 +29,6 @@ returns c =
       same = sheds.same;
       live = live;
       struck = c.strike.ensures.struck;
+      coming = refl;
+      stay = sheds.stay;
     }

@@ -1,4 +1,4 @@
-use Rattle.std.proofs.Common.{◌≡◌, ◌∙◌, arith}
+use Rattle.std.proofs.Common.{ap, arith}
 use Rattle.token_store.proofs.Names.{all_kept, event_at, told}
 use Rattle.token_store.proofs.Families.{tied_ended, view_ended}
 use Rattle.token_store.proofs.Following.{fits_ended}
@@ -17,8 +17,10 @@ returns c =
     let changed = view_ended t.families.entries slots' n es ended (λ k. (let same = c.requires.tied.counted k in omega (arith, same))) in
     record {
       tied = rw c.pass.ensures.same (tied_ended t.families.entries slots' n es t.agenda t.owners.keys _ ended (rw c.pass.ensures.same at c.pass.ensures.tied));
-      makes = λ history fits can. rw c.pass.ensures.same (record {
+      alters = λ history fits. rw c.pass.ensures.same (record {
         kept = rw changed (fits_ended (all_kept t.families.entries es) history m n fits.kept);
         last = last_pushed t.last history (event_at m (told.FamilyEnded n)) fits.last;
       });
+      families = ended;
+      coming = ap (λ x. x.coming) c.pass.ensures.same;
     }

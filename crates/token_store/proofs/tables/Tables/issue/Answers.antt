@@ -1,5 +1,5 @@
 use Rattle.std.proofs.Common.{◌∙◌, ap, sym, None}
-use Rattle.token_store.proofs.Names.{with_change, event_at, parties_of, change_of, kept_of, kept_under, shared_at, home_shared, is_some, Tables}
+use Rattle.token_store.proofs.Names.{can_stand, with_change, event_at, parties_of, change_of, kept_of, kept_under, shared_at, home_shared, is_some, Tables}
 use Rattle.consent.specs.declared.change.Change.TheVariants as given
 use Rattle.token_store.proofs.Dropping.{has_slot}
 use Rattle.token_store.proofs.Issuing.{fits_token, shared_new}
@@ -33,7 +33,7 @@ returns-then-is_some-clause-makes c = λ history fits can.
     let is = ap (λ s. kept_under s token.digest c.of_token-record.result) c.of_home.ensures ∙ c.of_token-record.ensures.kept (home_shared home 0) in
     record {
       kept = fits_put (kept_of t) _ _ c.put_expected.new.self history (with_change history m x) m token.digest is (rw c.pass.ensures.same at (c.put_expected.ensures.keeps m)) fits.kept can.1
-          c.put_expected.ensures.tied (fits_token (kept_of t) history m home.family (parties_of home) (home_shared home 0) token (shared_new history home new) can fits.kept);
+          c.put_expected.ensures.tied (fits_token (kept_of t) history m home.family (parties_of home) (home_shared home 0) token (shared_new history home new) (can_stand history m m x fits.kept.is_history can) fits.kept);
       last = c.put_expected.ensures.last ∙ ap (λ t. t.last) c.pass.ensures.same ∙ last_pushed t.last history (event_at m x) fits.last;
     }
 
@@ -52,7 +52,7 @@ returns-else-is_some-clause-makes c = λ history fits can.
     let is = ap (λ i. kept_under (shared_at f i) token.digest r) c.of_token-record.ensures.family ∙ c.of_token-record.ensures.kept (shared_at f home.family) in
     record {
       kept = fits_put (kept_of t) _ _ c.put.new.self history (with_change history m x) m token.digest is (rw c.pass.ensures.same at (c.put.ensures.keeps m)) fits.kept can.1
-          c.put.ensures.tied (fits_token (kept_of t) history m home.family (parties_of home) (shared_at f home.family) token shared can fits.kept);
+          c.put.ensures.tied (fits_token (kept_of t) history m home.family (parties_of home) (shared_at f home.family) token shared (can_stand history m m x fits.kept.is_history can) fits.kept);
       last = c.put.ensures.last ∙ ap (λ t. t.last) c.pass.ensures.same ∙ last_pushed t.last history (event_at m x) fits.last;
     }
 

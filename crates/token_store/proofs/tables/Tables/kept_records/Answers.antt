@@ -2,7 +2,7 @@ use Rattle.std.proofs.Common.{rules, ◌≡◌, ◌∷◌, ◌∙◌, ap, sym, �
 use Rattle.token_store.proofs.Names.{family_numbered, bytes_eq, lookup, All-rest, Record, as_kept, kept_record, kept_in, kept_under, or_nothing, is_live_at}
 use Rattle.std.specs.Map.Iter.{deref_pair}
 use Rattle.std.proofs.lemmas.Map.Iter.{rest_more}
-use Rattle.token_store.proofs.Remaking.{step_expired, step_kept}
+use Rattle.token_store.proofs.Unexpired.{step_expired, step_kept}
 use Rattle.token_store.proofs.tables.Tables.kept_records.Goals as goal
 
 pub loop-digest-preserved-then-not-is_unexpired : goal.loop-digest-preserved-then-not-is_unexpired

@@ -1,4 +1,4 @@
-use Rattle.std.proofs.Common.{◌≡◌, ◌∙◌, sym}
+use Rattle.std.proofs.Common.{◌∙◌, sym}
 use Rattle.token_store.proofs.Names.{ne_eqb}
 use Rattle.token_store.proofs.Families.{cleared, tied_opened, unseen_empty}
 use Rattle.token_store.proofs.tables.Tables.open_family.Goals as goal

@@ -19,11 +19,13 @@ returns-then-is_some c =
     let changed = ap (all_kept t.families.entries) spent ∙ view_spent t.families.entries es d m c.requires.tied.once there in
     record {
       tied = rw spent (tied_spent t.families.entries es t.agenda t.owners.keys t.last d c.requires.tied);
-      makes = λ history fits can. record { kept = rw changed (fits_spent (kept_of t) history m d fits.kept); last = last_pushed_none t.last history (event_at m (told.Spent d)) fits.last refl };
+      alters = λ history fits. record { kept = rw changed (fits_spent (kept_of t) history m d fits.kept); last = last_pushed_none t.last history (event_at m (told.Spent d)) fits.last refl };
+      families = refl;
+      coming = refl;
     }
 
-pub returns-else-is_some-clause-makes : goal.returns-else-is_some-clause-makes
-returns-else-is_some-clause-makes c = λ history fits can.
+pub returns-else-is_some-clause-alters : goal.returns-else-is_some-clause-alters
+returns-else-is_some-clause-alters c = λ history fits.
     let t = c.args.self.now in
     let d = c.args.digest.now in
     let m = c.args.moment in

@@ -1,0 +1,36 @@
+-- The tables without the families that have no records.
+use Rattle.std.proofs.Common.{◌≡◌, ◌≤◌, ℕ, List, [], ◌∷◌, Option, Some, None, Bool, true, eqb, refl, ap, sym, arith}
+use Rattle.token_store.proofs.Names.{family_numbered, is_at, list_any, is_some, count_by-cons, values_of, Record, Shared, shared_at, all_kept, member_count, has_owner, owner_cmp, where_peopled}
+use Rattle.token_store.proofs.Names.{nat_tests}
+use Rattle.std.specs.Prelude.{◌&&◌, filter, nat_lt}
+use Rattle.std.specs.Option.{option_and_then}
+use Rattle.std.proofs.lemmas.Map.Entries.{option_filter}
+use Rattle.token_store.proofs.Tying.{owner_at}
+
+pub peopled_is : (o : Option Shared) → option_filter (λ s. nat_lt 0 s.count) o ≡ option_and_then where_peopled o
+peopled_is None = refl
+peopled_is (Some s) = refl
+
+-- some of those that are left pass, where what passes is left or is not
+any_left : {X : Type 0} (p left : X → Bool) (b : Bool) (xs : List X) → ((x : X) → p x ≡ true → left x ≡ b) → list_any p (filter left xs) ≡ (list_any p xs && b)
+any_left p left b [] same = refl
+any_left p left b (x ∷ xs) same = let more = any_left p left b xs same in let here = same x in grind (arith, more, here)
+
+-- the index, without the families that are not there
+pub known_owners : (families : List (ℕ × Shared)) (owners : List ((ℕ × ℕ) × ℕ)) (q : (ℕ × ℕ) × ℕ) →
+    has_owner (filter (λ k. is_some (family_numbered families k.1)) owners) q ≡ (has_owner owners q && is_some (family_numbered families q.1))
+known_owners families owners q =
+    any_left (is_at (owner_cmp q)) (λ (k : (ℕ × ℕ) × ℕ). is_some (family_numbered families k.1)) (is_some (family_numbered families q.1)) owners
+    (λ k at. ap (λ n. is_some (family_numbered families n)) (sym (owner_at q k at).1.1))
+
+-- all records are seen as before
+pub seen_peopled : (old new : List (ℕ × Shared)) (es : List (List ℕ × Record)) → ((k : ℕ) → member_count es k ≤ (shared_at old k).count) →
+    ((k : ℕ) → family_numbered new k ≡ option_and_then where_peopled (family_numbered old k)) → all_kept new es ≡ all_kept old es
+seen_peopled old new [] counted peopled = refl
+seen_peopled old new (e ∷ es) counted peopled =
+    let sums = λ (k : ℕ). count_by-cons (λ x. eqb x.family k) e.1 (values_of es) in
+    let tail = seen_peopled old new es (λ k. (let more = sums k in let le = counted k in omega (arith, more, le))) peopled in
+    let here = sums e.1.family in
+    let le = counted e.1.family in
+    let is = peopled e.1.family in
+    grind (arith, nat_tests, tail, here, le, is)

@@ -1,0 +1,65 @@
+//! A store's codes and tokens as values.
+ghost use Rattle.std.specs.Prelude.{◌≡◌, filter, IfOk};
+ghost use Rattle.consent.specs.History.{is_unexpired};
+ghost use Rattle.token_store.specs.Image.{as_kept, kept_record};
+ghost use Rattle.token_store.specs.Records.{kept_of, kept_under, IsTied};
+
+use crate::record::{Given, Record, Shared};
+use crate::tables::Tables;
+use consent::{Digest, KeptKind, KeptRecord, Moment};
+use std::alloc::{AllocError, Global};
+
+impl Record {
+    // What the record is under the digest, with what its family shares.
+    fn kept(&self, digest: &Digest, shared: &Shared) -> KeptRecord<'_>
+        ensures { kept_record result ≡ kept_under shared.now digest.now self.now }
+    {
+        let kind = match &self.given {
+            Given::Code(texts) => KeptKind::Code {
+                owner: texts.owner,
+                redirect: texts.redirect.as_str(),
+                challenge: texts.challenge.as_str(),
+            },
+            Given::Token(kind) => KeptKind::Token(*kind),
+        };
+        KeptRecord {
+            digest: *digest,
+            kind,
+            family: self.family,
+            client: shared.client,
+            owner: shared.owner,
+            scope: self.scope,
+            moment: self.moment,
+            life: self.life,
+            code_scope: shared.code_scope,
+            spent: self.spent,
+            ended: shared.ended,
+        }
+    }
+}
+
+impl Tables {
+    /// The unexpired records.
+    pub(crate) fn kept_records(
+        &self,
+        alloc: Global,
+        moment: Moment,
+    ) -> Result<Vec<KeptRecord<'_>>, AllocError>
+        requires tied { IsTied self.now }
+        ensures { IfOk result (λ v. as_kept v.items ≡ filter (λ k. is_unexpired moment k.grant) (kept_of self.now)) }
+    {
+        let mut kept = Vec::new(alloc);
+        for (digest, record) in self.records.iter() {
+            if !record.is_unexpired(moment) {
+                continue;
+            }
+            let Some(shared) = self.families.get(&record.family) else {
+                continue;
+            };
+            let Ok(()) = kept.push(record.kept(digest, shared)) else {
+                return Err(AllocError);
+            };
+        }
+        Ok(kept)
+    }
+}
