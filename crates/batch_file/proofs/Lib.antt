@@ -1,4 +1,3 @@
-mod Moments
 mod Reading
 mod Steps
 mod Tearing

@@ -5,7 +5,7 @@ use Rattle.std.proofs.lemmas.Bool.{cases_eq}
 use Rattle.batch_file.specs.Crashes.{ComesOfStep, Elapses, IsWrittenAt, LeavesOnly, Swapped, Torn}
 use Rattle.batch_file.specs.Frames.{header, body, digest, sealed, limit, recovered, IsTorn, IsFileOf, IsReadable, IsAtRest, IsWhole, IsAsBefore, IsBeforeOrAfter, IsOldOrNew, IsReadableOrChance}
 use Rattle.batch_file.specs.FramesLaws.{length-seal, length-sealed, file_is, framed_is, readable_is, hides_or_not, two_sealed}
-use Rattle.batch_file.proofs.Moments.{started, goes_on, then, weaker}
+use Rattle.batch_file.specs.CrashesLaws.{started, goes_on, then, weaker}
 use Rattle.batch_file.proofs.Tearing.{torn_behind, length-torn, written_behind, torn_latch, written_latch}
 use Rattle.batch_file.proofs.Wholes.{front_of, front_is, length-front, one_more, head_is}
 

@@ -2,7 +2,7 @@
 use Rattle.std.proofs.Common.{◌≡◌, ℕ, ◌+◌, ◌-◌, ◌≤◌, List, ◌++◌, length, take, drop, refl, sym, ◌∙◌, ap, subst, arith, append_assoc, length-append, length-take}
 use Rattle.std.proofs.lemmas.List.{take_at, drop_at, drop-drop, take-take}
 use Rattle.batch_file.specs.Crashes.{IsWrittenAt, Torn, Only, ComesOfStep, Elapses, LeavesOnly}
-use Rattle.batch_file.proofs.Moments.{started, goes_on}
+use Rattle.batch_file.specs.CrashesLaws.{started, goes_on}
 
 drop_both : (m n k : ℕ) (a b : List ℕ) → k ≡ m + n → drop m a ≡ drop m b → drop k a ≡ drop k b
 drop_both m n k a b is same =

@@ -52,6 +52,14 @@ abbrev pub of_device : DeviceFault → BatchFault
 of_device device.Memory = batch.Memory
 of_device (device.Failed reason) = batch.Failed reason
 
+-- a device's fault of a read, by the error that the system gave
+abbrev pub of_reading_kind : ErrorKind → SystemFault → DeviceFault
+of_reading_kind kinds.OutOfMemory reason = device.Memory
+of_reading_kind kind reason = device.Failed reason
+
+abbrev pub of_reading : Error → DeviceFault
+of_reading error = of_reading_kind (error_kind error) (system_fault error)
+
 abbrev pub of_replacing : DeviceFault → ReplaceFault
 of_replacing device.Memory = replacing.Memory
 of_replacing (device.Failed reason) = replacing.Failed reason

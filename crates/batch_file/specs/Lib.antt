@@ -9,4 +9,5 @@ pub mod CallsParts
 pub mod Folders
 pub mod Reads
 -- Laws, each proved: a reader may skip them.
+pub mod CrashesLaws
 pub mod FramesLaws

@@ -9,6 +9,7 @@ use crate::device::{Device, DeviceFault, ReplaceFault};
 use crate::frames::Frames;
 use crate::framing::head_of;
 use crate::system::SystemFault;
+use std::alloc::Global;
 use std::fmt::{self, Display, Formatter, Write};
 
 /// Behind this many bytes nothing is added.
@@ -110,6 +111,12 @@ impl<D: Device> BatchFile<D> {
             (IsAsBefore (D.may_leave device) frames)) }
         ensures any_moment_lost { IfErr result (λ lost. LeavesOnly D.moment D.left_since device lost.device
             (IsAsBefore (D.may_leave device) frames)) }
+        ensures truth { IfOk result (λ file. D.reads_true file.device → D.reads_true device) }
+        ensures truth_lost { IfErr result (λ lost. D.reads_true lost.device → D.reads_true device) }
+        ensures true_before { IfOk result (λ file. LeavesOnly D.moment D.left_since device file.device
+            (λ _. D.reads_true device)) }
+        ensures true_before_lost { IfErr result (λ lost. LeavesOnly D.moment D.left_since device lost.device
+            (λ _. D.reads_true device)) }
         ensures untouched { IfErr result (λ lost. IsUnplaced lost.fault → lost.device ≡ device) }
         ensures failed { IfErr result (λ lost. IsReplaceFailure lost.fault → D.faults device < D.faults lost.device) }
     {
@@ -136,6 +143,9 @@ impl<D: Device> BatchFile<D> {
         // Each of these is a file that is not refused, but for a coincidence of SHA-256.
         ensures readable { LeavesOnly D.moment D.left_since self.old.device self.new.device
             (IsReadableOrChance (D.seen self.old.device) self.old.last batch.now) }
+        // What a crash leaves is promised only where earlier reads told what was there.
+        ensures truth { D.reads_true self.new.device → D.reads_true self.old.device }
+        ensures true_before { LeavesOnly D.moment D.left_since self.old.device self.new.device (λ _. D.reads_true self.old.device) }
         ensures failed { IfErr result (λ fault. IsBatchFailure fault → D.faults self.old.device < D.faults self.new.device) }
         ensures full { IsErrOf result BatchFault.Full → 2 ^ 60 ≤ self.old.end }
         ensures too_long { IsErrOf result BatchFault.TooLong → limit ≤ length batch.now }
@@ -160,6 +170,23 @@ impl<D: Device> BatchFile<D> {
         Ok(())
     }
 
+    /// All bytes of the file, read again. It goes on, also where they are not given.
+    pub fn read(&mut self, alloc: Global) -> Result<Vec<u8>, DeviceFault>
+        requires { IsOnDisk D.seen D.may_leave D.faults self.old }
+        ensures settled { IsOnDisk D.seen D.may_leave D.faults self.new }
+        ensures read { IfOk result (λ bytes. D.reads_true self.new.device → bytes.items ≡ D.seen self.old.device) }
+        ensures end { self.new.end ≡ self.old.end }
+        ensures last { self.new.last ≡ self.old.last }
+        ensures seen { D.seen self.new.device ≡ D.seen self.old.device }
+        ensures untouched { IfErr result (λ _. self.new ≡ self.old) }
+        ensures any_moment { LeavesOnly D.moment D.left_since self.old.device self.new.device
+            (λ file. file ≡ D.seen self.old.device) }
+        ensures truth { D.reads_true self.new.device → D.reads_true self.old.device }
+        ensures true_before { LeavesOnly D.moment D.left_since self.old.device self.new.device (λ _. D.reads_true self.old.device) }
+    {
+        self.device.read(alloc)
+    }
+
     /// Puts another file in the place of all that there is. At `Ok` each crash leaves it and nothing else. At `Memory`,
     /// `Unplaced` and `Displaced` it goes on as it was; at `Failed`, open the file again.
     pub fn replace(&mut self, frames: Frames) -> Result<(), RenewFault>
@@ -172,6 +199,8 @@ impl<D: Device> BatchFile<D> {
             (IsOldOrNew (recovered (D.seen self.old.device)) frames) }
         ensures readable { LeavesOnly D.moment D.left_since self.old.device self.new.device IsReadable }
         ensures untouched { IfErr result (λ fault. IsUnrenewed fault → self.new ≡ self.old) }
+        ensures truth { D.reads_true self.new.device → D.reads_true self.old.device }
+        ensures true_before { LeavesOnly D.moment D.left_since self.old.device self.new.device (λ _. D.reads_true self.old.device) }
         ensures failed { IfErr result (λ fault. IsRenewFailure fault → D.faults self.old.device < D.faults self.new.device) }
         // It is put only in the place of a file that stands where it was opened.
         ensures in_place { OnOk result (D.tells_place self.old.device true) }
@@ -203,6 +232,8 @@ fn write_behind<D: Device>(
     ensures durable { OnOk result (Only (D.seen device.new) (D.may_leave device.new)) }
     ensures any_moment { LeavesOnly D.moment D.left_since device.old device.new
         (Torn at (length head.now + length batch.now + 1) (D.seen device.old)) }
+    ensures truth { D.reads_true device.new → D.reads_true device.old }
+    ensures true_before { LeavesOnly D.moment D.left_since device.old device.new (λ _. D.reads_true device.old) }
     ensures cause { HasCause IsFailure (D.faults device.old) (D.faults device.new) result }
 {
     device.write_at(at, head)?;
@@ -222,6 +253,8 @@ fn write_down<D: Device>(device: &mut D, at: usize, bytes: &[u8]) -> Result<(), 
     ensures durable { OnOk result (Only (D.seen device.new) (D.may_leave device.new)) }
     ensures any_moment { LeavesOnly D.moment D.left_since device.old device.new
         (Torn at (length bytes.now) (D.seen device.old)) }
+    ensures truth { D.reads_true device.new → D.reads_true device.old }
+    ensures true_before { LeavesOnly D.moment D.left_since device.old device.new (λ _. D.reads_true device.old) }
     ensures cause { HasCause IsFailure (D.faults device.old) (D.faults device.new) result }
 {
     device.write_at(at, bytes)?;

@@ -22,6 +22,8 @@ pub enum DiskCall<'b> {
     Synced,
     /// Another file with these bytes was renamed over it, and the folder synced.
     Replaced(&'b [u8]),
+    /// The file was read, and told these bytes.
+    Read(&'b [u8]),
 }
 
 /// The calls, the last one first.
@@ -66,6 +68,7 @@ impl CallLog {
             DiskCall::Wrote { at, bytes } => self.note(&[1, at, succeeded], bytes),
             DiskCall::Synced => self.note(&[2, 0, succeeded], &[]),
             DiskCall::Replaced(bytes) => self.note(&[3, 0, succeeded], bytes),
+            DiskCall::Read(bytes) => self.note(&[4, 0, succeeded], bytes),
         }
         match answer {
             Ok(()) => Ok(()),

@@ -1,13 +1,14 @@
 //! A file as a `BatchFile` sees it: what a read would return, and what a crash may leave.
 
-ghost use Rattle.std.specs.Prelude.{◌≡◌, ◌≤◌, Bool, List, ℕ, length, OnOk, IfErr};
+ghost use Rattle.std.specs.Prelude.{◌≡◌, ◌≤◌, Bool, List, ℕ, length, IfOk, OnOk, IfErr};
 ghost use Rattle.batch_file.specs.declared.device.DeviceFault.TheVariants.{Memory};
 ghost use Rattle.batch_file.specs.declared.device.ReplaceFault.TheVariants as replacing;
 ghost use Rattle.batch_file.specs.Crashes.{Elapses, ComesOfStep, HasCause, IsFailure, IsUnplaced, IsReplaceFailure, IsWrittenAt, Only, Swapped, Torn};
-ghost use Rattle.batch_file.specs.Faults.{of_replacing};
+ghost use Rattle.batch_file.specs.Faults.{of_reading, of_replacing};
 
 use crate::system::SystemFault;
-use std::alloc::AllocError;
+use std::alloc::{AllocError, Global};
+use std::io::{self, ErrorKind};
 
 /// Why a device did not do what it was asked for.
 #[derive(Clone, Copy, Debug, PartialEq, Eq)]
@@ -23,6 +24,17 @@ impl From<AllocError> for DeviceFault {
 
     fn from(_: AllocError) -> DeviceFault {
         DeviceFault::Memory
+    }
+}
+
+impl From<io::Error> for DeviceFault {
+    ghost from_gives = { λ error fault. fault ≡ of_reading error };
+
+    fn from(error: io::Error) -> DeviceFault {
+        match error.kind() {
+            ErrorKind::OutOfMemory => DeviceFault::Memory,
+            _ => DeviceFault::Failed(SystemFault::of(&error)),
+        }
     }
 }
 
@@ -73,6 +85,9 @@ pub trait Device {
     /// How often the disk has failed.
     ghost faults: { Self → ℕ };
 
+    /// What reads told is what was there, as far as there were any. Where it was not, nothing is promised of what a crash leaves.
+    ghost reads_true: { Self → Type 0 };
+
     /// What it may tell of whether its file stands where it was opened.
     ghost tells_place: { Self → Bool → Type 0 };
 
@@ -86,7 +101,8 @@ pub trait Device {
         ensures written { OnOk result (IsWrittenAt (seen self.old) at bytes.now (seen self.new)) }
         ensures crash { ComesOfStep (Torn at (length bytes.now)) (may_leave self.old) (may_leave self.new) }
         ensures time { Elapses (moment self.old) (moment self.new) (left_since self.old) (left_since self.new) (may_leave self.new) }
-        ensures cause { HasCause IsFailure (faults self.old) (faults self.new) result };
+        ensures cause { HasCause IsFailure (faults self.old) (faults self.new) result }
+        ensures truth { reads_true self.new → reads_true self.old };
 
     /// Waits until the file is on the disk: after it a crash leaves what a read would return, unless the disk has failed before.
     fn sync(&mut self) -> Result<(), DeviceFault>
@@ -94,7 +110,8 @@ pub trait Device {
         ensures seen { seen self.new ≡ seen self.old }
         ensures crash { (left : List ℕ) → may_leave self.new left → may_leave self.old left }
         ensures time { Elapses (moment self.old) (moment self.new) (left_since self.old) (left_since self.new) (may_leave self.new) }
-        ensures cause { HasCause IsFailure (faults self.old) (faults self.new) result };
+        ensures cause { HasCause IsFailure (faults self.old) (faults self.new) result }
+        ensures truth { reads_true self.new → reads_true self.old };
 
     /// Puts another file in the place of this one. A crash leaves the one or the other.
     fn replace(&mut self, bytes: &[u8]) -> Result<(), ReplaceFault>
@@ -103,7 +120,18 @@ pub trait Device {
         ensures untouched { IfErr result (λ fault. IsUnplaced fault → self.new ≡ self.old) }
         ensures crash { ComesOfStep (Swapped bytes.now) (may_leave self.old) (may_leave self.new) }
         ensures time { Elapses (moment self.old) (moment self.new) (left_since self.old) (left_since self.new) (may_leave self.new) }
-        ensures cause { HasCause IsReplaceFailure (faults self.old) (faults self.new) result };
+        ensures cause { HasCause IsReplaceFailure (faults self.old) (faults self.new) result }
+        ensures truth { reads_true self.new → reads_true self.old };
+
+    /// All its bytes. Where they are not given, nothing was done.
+    fn read(&mut self, alloc: Global) -> Result<Vec<u8>, DeviceFault>
+        ensures read { IfOk result (λ bytes. reads_true self.new → bytes.items ≡ seen self.new) }
+        ensures untouched { IfErr result (λ _. self.new ≡ self.old) }
+        ensures seen { seen self.new ≡ seen self.old }
+        ensures crash { (left : List ℕ) → may_leave self.new left → may_leave self.old left }
+        ensures time { Elapses (moment self.old) (moment self.new) (left_since self.old) (left_since self.new) (may_leave self.new) }
+        ensures faults { faults self.new ≡ faults self.old }
+        ensures truth { reads_true self.new → reads_true self.old };
 
     /// Puts bytes aside, beside the file, which stays as it was.
     fn set_aside(&self, torn: &[u8]) -> Result<(), DeviceFault>;
@@ -113,4 +141,7 @@ pub trait Device {
 
     /// Since this moment there is no other.
     ghost only_now: { (file : Self) (left : List ℕ) → left_since file (moment file) left → may_leave file left };
+
+    /// Something is promised only where reads told what was there.
+    ghost only_true: { (file : Self) (left : List ℕ) → may_leave file left → reads_true file };
 }

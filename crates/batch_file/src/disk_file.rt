@@ -10,11 +10,11 @@ ghost use Rattle.std.specs.Io.KnownBytes.{IsAtEnd};
 ghost use Rattle.std.specs.Path.{path_bytes};
 ghost use Rattle.batch_file.specs.declared.disk_file.OpenFault.TheVariants as opening;
 ghost use Rattle.batch_file.specs.declared.disk_file.MakeFault.TheVariants as making;
-ghost use Rattle.batch_file.specs.Calls.{content, failures, only_opened, LeftSince, MayLeave};
+ghost use Rattle.batch_file.specs.Calls.{content, failures, only_opened, LeftSince, MayLeave, ReadsTrue};
 ghost use Rattle.batch_file.specs.CallsParts.{RenamesNothing};
 ghost use Rattle.batch_file.specs.Faults.{of_error, of_making, of_lock};
 ghost use Rattle.batch_file.specs.Folders.{folder_of};
-ghost use Rattle.batch_file.specs.Moments.{counts_now_of, only_now_of};
+ghost use Rattle.batch_file.specs.Moments.{counts_now_of, only_now_of, only_true_of};
 
 use crate::call_log::{CallLog, DiskCall};
 use crate::device::{Device, DeviceFault, ReplaceFault};
@@ -181,6 +181,14 @@ fn read_whole<R: Read>(alloc: Global, from: &mut R) -> io::Result<Vec<u8>>
 {
     let mut bytes = Vec::new(alloc);
     from.read_to_end(&mut bytes)?;
+    Ok(bytes)
+}
+
+/// All bytes of an open file, from its beginning on.
+fn read_again<F: OpenFile + FileExt>(alloc: Global, file: &F) -> Result<Vec<u8>, DeviceFault> {
+    let size = file.metadata()?.len() as usize;
+    let mut bytes = vec![in alloc; 0; size]?;
+    file.read_exact_at(&mut bytes, 0)?;
     Ok(bytes)
 }
 
@@ -360,9 +368,13 @@ impl<'r, F: SystemFile, R: Files<File = F> + AllocGlobal> Device for DiskFile<'r
 
     ghost faults = { λ device. failures device.log.calls };
 
+    ghost reads_true = { λ device. ReadsTrue device.log.calls };
+
     ghost counts_now = { λ device t left le now. counts_now_of device.log.calls t left le now };
 
     ghost only_now = { λ device left since. only_now_of device.log.calls left since };
+
+    ghost only_true = { λ device left now. only_true_of device.log.calls left now };
 
     // The system promises nothing of what it tells of a path.
     ghost tells_place = { λ _ _. ⊤ };
@@ -397,6 +409,12 @@ impl<'r, F: SystemFile, R: Files<File = F> + AllocGlobal> Device for DiskFile<'r
                 Err(ReplaceFault::Unplaced(reason))
             }
         }
+    }
+
+    fn read(&mut self, alloc: Global) -> Result<Vec<u8>, DeviceFault> {
+        let bytes = read_again(alloc, &self.file)?;
+        let _ = self.log.told(DiskCall::Read(&bytes), Ok(()));
+        Ok(bytes)
     }
 
     fn set_aside(&self, torn: &[u8]) -> Result<(), DeviceFault> {

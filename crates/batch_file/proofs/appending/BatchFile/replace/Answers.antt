@@ -1,7 +1,7 @@
 use Rattle.std.proofs.Common.{List, ℕ, ⊎_elim, sym, subst}
 use Rattle.batch_file.specs.Frames.{IsReadable}
 use Rattle.batch_file.specs.FramesLaws.{readable_is}
-use Rattle.batch_file.proofs.Moments.{weaker}
+use Rattle.batch_file.specs.CrashesLaws.{weaker}
 use Rattle.batch_file.proofs.Steps.{at_rest_file, placing}
 use Rattle.batch_file.proofs.appending.BatchFile.replace.Goals as goal
 
