@@ -7,8 +7,8 @@ use Rattle.endpoints.proofs.Names.{AllRightAfter, CanMakeAll, endpoint_at, metho
 use Rattle.endpoints.proofs.Names.{FitsServer, AreUnkept, AreNoted, IsStep, outset_of}
 use Rattle.std.specs.Prelude.{bytes_eq}
 use Rattle.change_codec.specs.HappenedLaws.{all_dated-own}
-use Rattle.consent.specs.History.{AllFollow}
-use Rattle.consent.specs.HistoryLaws.{Happened-joined}
+use Rattle.consent.specs.History.{AllFollow, all_past, are_in_order, last_moment}
+use Rattle.consent.specs.HistoryLaws.{Happened-joined, in_order-now}
 use Rattle.endpoints.specs.Replies.{request_outcome, hook_change}
 use Rattle.endpoints.proofs.Ruled.{told_parts}
 
@@ -17,15 +17,19 @@ at_moment greatest m moment n is same = (omega (arith, is, same), is ∙ ap (λ 
 
 -- what is noted at the moment is what is changed
 pub notes_on : (unkept : Option (List Event)) (kept : Option (List Event)) (history : List Event) (m : ℕ) (changes : Changes) →
-    AllFollowAt history m (changes_of (as_list changes)) →
+    AllFollowAt history m (changes_of (as_list changes)) → all_past history m ≡ true →
     AreUnkept unkept kept history → AreUnkept (with_notes unkept m changes) kept (with_changes history m (changes_of (as_list changes)))
-notes_on None None history m changes follow noted = tt
-notes_on None (Some kept) history m changes follow noted = absurd noted
-notes_on (Some facts) None history m changes follow noted = absurd noted
-notes_on (Some facts) (Some kept) history m changes follow noted =
+notes_on None None history m changes follow past noted = tt
+notes_on None (Some kept) history m changes follow past noted = absurd noted
+notes_on (Some facts) None history m changes follow past noted = absurd noted
+notes_on (Some facts) (Some kept) history m changes follow past noted =
     let own = all_dated-own m changes in
     Happened-joined kept history (with_changes history m (changes_of (as_list changes))) facts (all_dated m changes) noted
-    (record { follow = subst (AllFollow history) (sym own) follow; leads = ap (λ es. history ++ es) (sym own) })
+    (record {
+      follow = subst (AllFollow history) (sym own) follow;
+      in_order = subst (λ es. are_in_order (last_moment 0 history) es ≡ true) (sym own) (in_order-now history m (changes_of (as_list changes)) past);
+      leads = ap (λ es. history ++ es) (sym own);
+    })
 
 -- nothing is noted where nothing happens
 still_noted : {H : Type 0} (old new : SeenServer H) (history : List Event) → new.unkept ≡ old.unkept → AreNoted old new history (history ++ [])
@@ -87,7 +91,8 @@ module _ {H : Type 0} (hosting : Hosting H) where
               noted ∙ ap (λ u. with_notes u mid.greatest ruling.decision.changes) same.unkept ∙ ap (λ n. with_notes old.unkept n ruling.decision.changes) same.greatest in
               subst (λ u. AreUnkept u kept (with_changes history old.greatest o.changes)) (sym now)
               (subst (λ (cs : List happening). AreUnkept (with_notes old.unkept old.greatest ruling.decision.changes) kept (with_changes history old.greatest cs)) changes
-              (notes_on old.unkept kept history old.greatest ruling.decision.changes (subst (AllFollowAt history old.greatest) (sym changes) r.follow) before));
+              (notes_on old.unkept kept history old.greatest ruling.decision.changes (subst (AllFollowAt history old.greatest) (sym changes) r.follow)
+              fits.store.kept.is_history.past before));
         },
       )
 

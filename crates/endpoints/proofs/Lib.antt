@@ -5,13 +5,11 @@ pub mod Walking
 pub mod Ways
 pub mod Sound
 pub mod Fair
-pub mod Homing
 pub mod ReadingOn
 pub mod Ruled
 pub mod Shorter
 pub mod Answering
 pub mod Sweeping
 pub mod Besides
-pub mod Redoing
-pub mod Restored
+pub mod Remade
 pub mod Names

@@ -3,7 +3,7 @@ use Rattle.std.specs.Prelude.{◌≡◌, List, [], ◌∷◌, Option, Some, None
 use Rattle.endpoints.specs.Names.{HookFault, Hosting, Event, Spent, HostSays}
 use Rattle.endpoints.specs.Layouts.{layout_of}
 use Rattle.consent.specs.History.{Change}
-use Rattle.consent.specs.History.Change.{Consented, CodeGiven, Issued, FamilyEnded, HookSet, HookGone}
+use Rattle.consent.specs.History.Change.{Consented, CodeGiven, Issued, FamilyEnded, HookSet, HookGone, Numbered}
 
 -- what a host says, with this fault for the change that is asked for
 abbrev pub says_with : {H : Type 0} → Hosting H → H → Option HookFault → HostSays
@@ -34,6 +34,7 @@ HostStep hosting old (CodeGiven family code digest) new = new ≡ old
 HostStep hosting old (Issued family parties token) new = new ≡ old
 HostStep hosting old (Spent digest) new = new ≡ old
 HostStep hosting old (FamilyEnded family) new = new ≡ old
+HostStep hosting old (Numbered last) new = new ≡ old
 
 -- all events' steps, in their order
 abbrev pub HostRun : {H : Type 0} → Hosting H → H → List Event → H → Type 0

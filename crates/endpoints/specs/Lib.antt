@@ -17,10 +17,11 @@ pub mod Making
 pub mod Rulings
 pub mod Widening
 pub mod Right
-pub mod Redo
 pub mod Faults
+pub mod Remaking
+pub mod Redo
 pub mod Steps
-pub mod Restoring
+pub mod Listing
 pub mod Imaging
 pub mod Keeping
 -- What only the contracts of this crate's own parts and their proofs cite.
@@ -29,7 +30,6 @@ pub mod HookAsking
 pub mod RulingParts
 pub mod MakingParts
 pub mod RulingsParts
-pub mod RedoParts
 -- Laws, each proved: a reader may skip them.
 pub mod BoundedLaws
 pub mod WideningLaws

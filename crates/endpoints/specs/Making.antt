@@ -1,6 +1,6 @@
 -- What is made of changes.
 use Rattle.std.specs.Prelude.{◌≡◌, ◌≤◌, ℕ, List, [], ◌∷◌}
-use Rattle.endpoints.specs.Names.{changes_of, as_list, AllFollowAt, KeptConsents, Event, with_changes, Changes, Hosting, Checked}
+use Rattle.endpoints.specs.Names.{changes_of, as_list, AllFollowAt, KeptConsents, Event, with_change, with_changes, Changes, Happening, Hosting, Checked}
 use Rattle.consent.specs.declared.change.Change.{Change}
 use Rattle.consent.specs.declared.change.Change.TheVariants.{Consented}
 use Rattle.token_store.specs.Room.{HasRoom}
@@ -47,3 +47,9 @@ Makes {H = H} hosting old changes checked new =
     AllFollowAt history old.greatest (changes_of changes) → AllRightAfter outset.rules history old.greatest (changes_of changes) →
     CanMakeAll hosting old.host changes checked →
     FitsServer hosting new outset (with_changes history old.greatest (changes_of changes)) old.greatest
+
+-- whatever history the server fitted, it then fits the history with the change, at its greatest moment
+abbrev pub GoesOnWith : {H : Type 0} → Hosting H → SeenServer H → Happening → SeenServer H → Type 0
+GoesOnWith {H = H} hosting old change new =
+    (outset : Outset H) (history : List Event) → FitsServer hosting old outset history old.greatest →
+    FitsServer hosting new outset (with_change history old.greatest change) old.greatest

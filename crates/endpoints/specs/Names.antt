@@ -23,7 +23,7 @@ pub use Rattle.consent.specs.Consents.{KeptConsents, FitsConsents, kept_consents
 pub use Rattle.consent.specs.CoveredLaws.{is_covered-start, is_covered-push, is_within-trans}
 pub use Rattle.consent.specs.Facts.{GivenCode, code_of}
 pub use Rattle.consent.specs.History.{is_within, consented_scope, Event, Grant, is_code, has_ended, opener, code_terms, with_change, grant_by, grants, is_code_of, IsHistory, has_consent_room}
-pub use Rattle.consent.specs.History.{Change as Happening, with_changes, live_grant, grant_at, AllFollowAt, CanFollow, greatest_family, is_unexpired, unexpired_count}
+pub use Rattle.consent.specs.History.{Change as Happening, with_changes, live_grant, grant_at, AllFollowAt, CanFollow, greatest_family, unexpired_count}
 pub use Rattle.consent.specs.History.Change.{Spent}
 pub use Rattle.consent.specs.declared.change.Changes.{Changes}
 pub use Rattle.consent.specs.declared.change.NewToken.{NewToken}
@@ -48,8 +48,8 @@ pub use Rattle.messages.specs.declared.error.ErrorName.TheVariants.{InvalidReque
 pub use Rattle.messages.specs.declared.request.Draws.{Draws}
 pub use Rattle.params.specs.Form.{read_params, value_sent}
 pub use Rattle.params.specs.Scope.{scope_text}
-pub use Rattle.std.specs.List.{cons_option, list_all}
+pub use Rattle.std.specs.List.{cons_option}
 pub use Rattle.std.specs.Option.{option_map_or}
 pub use Rattle.std.specs.Result.{result_ok}
 pub use Rattle.token_store.specs.Fits.{FitsStore, refusal, FitsHistory}
-pub use Rattle.token_store.specs.Kept.{Held, Kept, kept_unexpired}
+pub use Rattle.token_store.specs.Kept.{Held}

@@ -1,10 +1,14 @@
 //! The changes that are made beside the store: of consents and of hooks.
-ghost use Rattle.std.specs.Prelude.{[], ◌∷◌};
-ghost use Rattle.consent.specs.Changes.{as_list};
+ghost use Rattle.std.specs.Prelude.{[], ◌∷◌, ℕ, IfErr, OnOk};
+ghost use Rattle.consent.specs.Changes.{as_list, change_of};
+ghost use Rattle.consent.specs.History.{with_changes};
+ghost use Rattle.endpoints.specs.Hosts.{HostRun};
 ghost use Rattle.endpoints.specs.Making.{HasConsentRoom, MakesHost};
 ghost use Rattle.endpoints.specs.MakingParts.{MakesConsents};
+ghost use Rattle.endpoints.specs.Redo.{RefusesHookChange};
 ghost use Rattle.endpoints.specs.Ruling.{CanTake};
 
+use crate::redo::{RedoFault, check_hook};
 use crate::ruling::Checked;
 use consent::{Change, Changes, Consents};
 use hook_host::HookHost;
@@ -56,4 +60,24 @@ pub(crate) fn make_beside<H: HookHost>(
     if let Changes::One(change) = changes {
         make_one(host, consents, change, checked);
     }
+}
+
+/// Makes one of them again, unless the host has a fault for it, or memory is refused.
+pub(crate) fn redo_beside<H: HookHost>(
+    host: &mut H,
+    consents: &mut Consents,
+    change: &Change<'_>,
+) -> Result<(), RedoFault>
+    ensures consents { OnOk result (MakesConsents consents.old (change.now ∷ []) consents.new) }
+    ensures hosts { OnOk result ((m : ℕ) → HostRun H.HookHost host.old (with_changes [] m (change_of change.now ∷ [])) host.new) }
+    ensures refused { IfErr result (RefusesHookChange H.HookHost host.old change.now) }
+{
+    let checked = check_hook(host, change)?;
+    if let Change::Consented { .. } = change {
+        let Ok(()) = consents.reserve(1) else {
+            return Err(RedoFault::Memory);
+        };
+    }
+    make_one(host, consents, change, checked);
+    Ok(())
 }

@@ -9,11 +9,11 @@ use std::alloc::AllocError;
 /// Why no image is put.
 #[derive(Clone, Copy, Debug, PartialEq, Eq)]
 pub enum ImageFault {
-    /// Memory was refused. What is kept is as it was.
+    /// Memory was refused. What was kept is kept still.
     Memory,
-    /// The image is too long to be kept. What is kept is as it was.
+    /// What is left is too long to be kept. What was kept is kept still.
     TooLong,
-    /// It could not be written, and nothing was put in its place. What is kept is as it was.
+    /// What is kept could not be read, or what is left not be written. What was kept is kept still.
     Unwritten,
     /// It is not known whether it stands in the place of what was kept, and nothing is kept any more.
     Failed,
@@ -40,15 +40,21 @@ pub trait ImageKeeper: Keeper {
     // It keeps more than it may, beside an image.
     ghost is_long: { Self → Type 0 };
 
+    // What the new one keeps is what was left of what the old one kept.
+    ghost shortens: { Self → Self → Type 0 };
+
     /// Where it keeps more than it may, an image of the server is put in the place of that, and else nothing is done. The
     /// server has to be one of which all is kept.
     fn put_image<H: HookHost>(&mut self, server: &Server<H>) -> Result<(), ImageFault>
         ensures kept { OnOk result (KeepsImage H.HookHost (crashes Self.stands_for Self.tells Self.may_leave Self.moment Self.left_since) server.now self.old self.new) }
         ensures short { OnOk result (¬ (is_long self.new)) }
         ensures left { OnOk result (¬ (is_long self.old) → self.new ≡ self.old) }
-        // An image is refused only where what is kept is long, and that is as it was.
+        ensures shortened { OnOk result (is_long self.old → shortens self.old self.new) }
+        // An image is refused only where what is kept is long, and that is kept still.
         ensures refused { IfErr result (λ fault. fault ≢ Failed → is_long self.old) }
-        ensures same { IfErr result (λ fault. fault ≢ Failed → self.new ≡ self.old) }
+        ensures still { IfErr result (λ fault. fault ≢ Failed → KeepsImage H.HookHost (crashes Self.stands_for Self.tells Self.may_leave Self.moment Self.left_since) server.now self.old self.new) }
+        ensures told { IfErr result (λ fault. fault ≢ Failed → KeepsBasis (crashes Self.stands_for Self.tells Self.may_leave Self.moment Self.left_since) self.old self.new) }
+        ensures size { IfErr result (λ fault. fault ≢ Failed → Self.size_of self.new ≡ Self.size_of self.old) }
         ensures fails { IsErrOf result Failed → Self.has_failed self.new }
         ensures works { OnOk result (¬ (Self.has_failed self.new)) }
         ensures failed { IsErrOf result Failed → KeepsNoImage H.HookHost (crashes Self.stands_for Self.tells Self.may_leave Self.moment Self.left_since) server.now self.old self.new }
@@ -58,6 +64,8 @@ pub trait ImageKeeper: Keeper {
 
 impl ImageKeeper for NoKeeper {
     ghost is_long = { λ _. ⊥ };
+
+    ghost shortens = { λ _ _. ⊥ };
 
     fn put_image<H: HookHost>(&mut self, _server: &Server<H>) -> Result<(), ImageFault> {
         Ok(())

@@ -1,32 +1,24 @@
 //! A change that happened before is made again.
-ghost use Rattle.std.specs.Prelude.{◌≡◌, ◌∷◌, [], Some, IfOk, IfErr, IfSome, option_map};
-ghost use Rattle.consent.specs.Changes.{as_list, parties_of};
-ghost use Rattle.consent.specs.Consents.{FitsConsents};
-ghost use Rattle.consent.specs.History.{is_home, lives};
-ghost use Rattle.endpoints.specs.Parts.{WhereverFits};
+ghost use Rattle.std.specs.Prelude.{◌≡◌, IfOk, IfErr};
 ghost use Rattle.endpoints.specs.Layouts.{layout_of};
-ghost use Rattle.token_store.specs.Fits.{refusal};
-ghost use Rattle.token_store.specs.Found.{family_seen};
-ghost use Rattle.endpoints.specs.Faults.{of_hook_fault};
-ghost use Rattle.endpoints.specs.Redo.{RefusesHookChange, history_refusal, wanting};
-ghost use Rattle.endpoints.specs.RedoParts.{IsOfHistory, is_of_home};
+ghost use Rattle.endpoints.specs.Faults.{of_again_fault, of_hook_fault};
+ghost use Rattle.endpoints.specs.Redo.{RefusesHookChange};
 ghost use Rattle.endpoints.specs.Ruling.{CanMake};
 
-use crate::right::is_right;
 use crate::ruling::Checked;
-use clients::Registry;
-use consent::{Change, Changes, Consents, Digest, Home, Moment, OwnerNo, RecordVersion};
+use consent::{Change, RecordVersion};
 use hook_host::{HookFault, HookHost};
 use insn::layout::Layout;
 use std::fmt::{self, Display, Formatter, Write};
-use token_store::{Family, Store, StoreFault};
+use token_store::{AgainFault, StoreFault};
 
 /// Why a change is not made again.
 #[derive(Clone, Copy, Debug, PartialEq, Eq)]
 pub enum RedoFault {
     /// It is of an earlier moment than what was made before it.
     MomentBack,
-    /// It cannot be of the family that it names: that is not new and does not live, has ended, or is another's.
+    /// It cannot be of the family that it names: that is not new where it should be, or not known where it should be, or has
+    /// ended, or is another's.
     Unknown,
     /// The store refuses the code or the token.
     Store(StoreFault),
@@ -65,113 +57,16 @@ impl From<HookFault> for RedoFault {
     }
 }
 
-/// The change, by itself.
-pub(crate) fn alone<'a>(change: &Change<'a>) -> Changes<'a>
-    ensures { as_list result ≡ change.now ∷ [] }
-{
-    match Some(change).copied() {
-        Some(change) => Changes::One(change),
-        None => Changes::Nothing,
-    }
-}
+impl From<AgainFault> for RedoFault {
+    ghost from_gives = { λ fault e. e ≡ of_again_fault fault };
 
-// Whether the family of the number lives.
-fn lives(store: &Store, family: u64, moment: Moment) -> bool
-    ensures { WhereverFits store.now moment (λ h. result ≡ lives h moment family) }
-{
-    store.family(family, moment).is_some()
-}
-
-// Whether the family has not ended, and is of the client and the owner.
-fn is_of(family: &Family, home: &Home) -> bool
-    ensures { result ≡ is_of_home (parties_of home.now) (family_seen family.now) }
-{
-    family.client == home.client
-        && OwnerNo::number_of(family.owner) == OwnerNo::number_of(home.owner)
-        && !family.ended
-}
-
-// Whether so it is of a family that lives.
-fn is_home(store: &Store, home: &Home, moment: Moment) -> bool
-    ensures { WhereverFits store.now moment (λ h. result ≡ is_home h moment home.now.family (parties_of home.now)) }
-{
-    let Some(family) = store.family(home.family, moment) else {
-        return false;
-    };
-    is_of(&family, home)
-}
-
-// Why nothing may be given under the digest.
-fn digest_refusal(store: &Store, digest: &Digest, moment: Moment) -> Option<RedoFault>
-    ensures refusal { WhereverFits store.now moment (λ h. result ≡ option_map RedoFault.Store (refusal h moment (digest.now ∷ []))) }
-    ensures own { IfSome result IsOfHistory }
-{
-    let fault = store.refusal(&[*digest], moment)?;
-    Some(RedoFault::Store(fault))
-}
-
-// What is wanting for the change at the moment.
-fn wanting(
-    store: &Store,
-    consents: &Consents,
-    moment: Moment,
-    change: &Change<'_>,
-) -> Option<RedoFault>
-    ensures refusal { WhereverFits store.now moment (λ h. FitsConsents consents.now h → result ≡ wanting h moment change.now) }
-    ensures own { IfSome result IsOfHistory }
-{
-    match change {
-        Change::Consented {
-            owner,
-            client,
-            mask,
-        } => {
-            if consents.has_room(*owner, *client, *mask) {
-                return None;
-            }
-            Some(RedoFault::ConsentsFull)
+    fn from(fault: AgainFault) -> RedoFault {
+        match fault {
+            AgainFault::Unknown => RedoFault::Unknown,
+            AgainFault::Refused(fault) => RedoFault::Store(fault),
+            AgainFault::Memory => RedoFault::Memory,
         }
-        Change::CodeGiven { family, digest, .. } => {
-            if store.is_new(*family) {
-                return digest_refusal(store, digest, moment);
-            }
-            Some(RedoFault::Unknown)
-        }
-        Change::Issued { home, token } => {
-            if store.is_new(home.family) || is_home(store, home, moment) {
-                return digest_refusal(store, &token.digest, moment);
-            }
-            Some(RedoFault::Unknown)
-        }
-        Change::FamilyEnded { family } => {
-            if lives(store, *family, moment) {
-                return None;
-            }
-            Some(RedoFault::Unknown)
-        }
-        Change::Spent { .. } | Change::HookSet { .. } | Change::HookGone { .. } => None,
     }
-}
-
-/// Why the history does not go on with the change at the moment. NotRight comes last.
-pub(crate) fn history_refusal(
-    rules: &Registry,
-    store: &Store,
-    consents: &Consents,
-    moment: Moment,
-    change: &Change<'_>,
-) -> Option<RedoFault>
-    ensures refusal { WhereverFits store.now moment
-        (λ h. FitsConsents consents.now h → result ≡ history_refusal rules.now h moment change.now) }
-    ensures own { IfSome result IsOfHistory }
-{
-    if let Some(fault) = wanting(store, consents, moment, change) {
-        return Some(fault);
-    }
-    if is_right(rules, store, consents, moment, change) {
-        return None;
-    }
-    Some(RedoFault::NotRight)
 }
 
 /// The layout of a version of the record.

@@ -1,14 +1,15 @@
 //! Whether a change is right under rules.
-ghost use Rattle.std.specs.Prelude.{◌≡◌, option_map};
+ghost use Rattle.std.specs.Prelude.{◌≡◌, ℕ, List, option_map};
 ghost use Rattle.consent.specs.Consents.{FitsConsents};
+ghost use Rattle.consent.specs.History.{Event};
 ghost use Rattle.endpoints.specs.Bounded.{token_life_limit};
-ghost use Rattle.endpoints.specs.Parts.{WhereverFits};
 ghost use Rattle.endpoints.specs.Right.{comes_of_family, is_right, is_right_token, may_have, may_have_token};
 ghost use Rattle.consent.specs.Owners.{owner_number};
 ghost use Rattle.token_store.specs.Found.{family_seen};
+ghost use Rattle.token_store.specs.Lists.{FitsList};
 
 use clients::Registry;
-use consent::{Change, ClientNo, Consents, Home, Moment, NewToken, OwnerNo, ScopeSet, TokenKind};
+use consent::{Change, ClientNo, Consents, Home, NewToken, OwnerNo, ScopeSet, TokenKind};
 use token_store::{Family, Store};
 
 /// Whether the client is one of the registry's, and may be allowed the scope.
@@ -38,7 +39,7 @@ fn may_have_token(rules: &Registry, client: ClientNo, token: &NewToken) -> bool
     may_have(rules, client, token.scope) && token.life <= life_limit(rules, token.kind)
 }
 
-// Whether a token of the scope may come of the family that lives; a new one is the client's own.
+// Whether a token of the scope may come of the family that is known; that of a new one is the client's own.
 fn comes_of(family: Option<Family>, owner: Option<OwnerNo>, scope: ScopeSet) -> bool
     ensures { result ≡ comes_of_family (option_map family_seen family) (owner_number owner) scope }
 {
@@ -52,28 +53,22 @@ fn comes_of(family: Option<Family>, owner: Option<OwnerNo>, scope: ScopeSet) -> 
 }
 
 // Whether the token may come of the family.
-fn is_right_token(
-    rules: &Registry,
-    store: &Store,
-    moment: Moment,
-    home: &Home,
-    token: &NewToken,
-) -> bool
-    ensures { WhereverFits store.now moment (λ h. result ≡ is_right_token rules.now h moment home.now token.now) }
+fn is_right_token(rules: &Registry, store: &Store, home: &Home, token: &NewToken) -> bool
+    ensures { (list : List Event) (m : ℕ) → FitsList store.now list m → result ≡ is_right_token rules.now list home.now token.now }
 {
-    let family = store.family(home.family, moment);
+    let family = store.family_told(home.family);
     may_have_token(rules, home.client, token) && comes_of(family, home.owner, token.scope)
 }
 
-/// Whether the change is right under the rules at the moment.
+/// Whether the change is right under the rules, as the next one of a list.
 pub(crate) fn is_right(
     rules: &Registry,
     store: &Store,
     consents: &Consents,
-    moment: Moment,
     change: &Change<'_>,
 ) -> bool
-    ensures { WhereverFits store.now moment (λ h. FitsConsents consents.now h → result ≡ is_right rules.now h moment change.now) }
+    ensures { (list : List Event) (m : ℕ) → FitsList store.now list m → FitsConsents consents.now list →
+        result ≡ is_right rules.now list change.now }
 {
     match change {
         Change::CodeGiven { facts, .. } => {
@@ -82,11 +77,12 @@ pub(crate) fn is_right(
                     .scope
                     .is_within(consents.get(facts.owner, facts.client))
         }
-        Change::Issued { home, token } => is_right_token(rules, store, moment, home, token),
+        Change::Issued { home, token } => is_right_token(rules, store, home, token),
         Change::Consented { .. }
         | Change::Spent { .. }
         | Change::FamilyEnded { .. }
         | Change::HookSet { .. }
-        | Change::HookGone { .. } => true,
+        | Change::HookGone { .. }
+        | Change::Numbered { .. } => true,
     }
 }

@@ -1,21 +1,22 @@
 //! The server.
-ghost use Rattle.std.specs.Prelude.{◌≡◌, ◌<◌, ◌≤◌, ◌↔◌, [], true, Err, None, Some, IfErr, IfOk, OnErr, OnOk, max, length, option_map, unwrap_or, ◌⊎◌};
+ghost use Rattle.std.specs.Prelude.{◌≡◌, ◌≤◌, [], None, Some, IfErr, IfOk, OnErr, OnOk, max, length, option_map, unwrap_or, ◌⊎◌};
 ghost use Rattle.consent.specs.Changes.{as_list};
-ghost use Rattle.consent.specs.declared.change.Changes.TheVariants.{One};
 ghost use Rattle.messages.specs.Asked.{asked_of};
 ghost use Rattle.answers.specs.Short.{IsShortReply, IsShortAnswer, state_limit};
 ghost use Rattle.change_codec.specs.Batches.{facts_in};
 ghost use Rattle.endpoints.specs.Parts.{WhereverFits};
-ghost use Rattle.endpoints.specs.Making.{HasRooms, IsReadyToMake, IsSame, Makes, MakesHost};
+ghost use Rattle.consent.specs.History.Change.{HookSet};
+ghost use Rattle.consent.specs.declared.change.Change.TheVariants as given;
+ghost use Rattle.consent.specs.declared.change.Changes.TheVariants.{One};
+ghost use Rattle.endpoints.specs.Hosts.{HostRefuses};
+ghost use Rattle.endpoints.specs.Making.{GoesOnWith, HasRooms, IsReadyToMake, IsSame, Makes, MakesHost};
 ghost use Rattle.consent.specs.History.{unexpired_count};
-ghost use Rattle.endpoints.specs.Redo.{RedoesChange, RefusesRedo};
-ghost use Rattle.endpoints.specs.RedoParts.{FollowsEach};
 ghost use Rattle.endpoints.specs.Noting.{IsNothingPrepared, with_notes};
 ghost use Rattle.endpoints.specs.Reading.{EndsAt, IsRequestRead, IsShortReading, endpoint_of};
-ghost use Rattle.endpoints.specs.Ruling.{CanMake, CanTake};
+ghost use Rattle.endpoints.specs.Ruling.{CanTake};
 ghost use Rattle.endpoints.specs.Rulings.{RulesRead, asking_at, read_request};
 ghost use Rattle.endpoints.specs.RulingsParts.{AnswersRequest, IsHalted, RulesReadAlone};
-ghost use Rattle.endpoints.specs.Restoring.{AreConsentsOf, AreRecordsOf, IsLastOf, GoesOnFrom, RefusesRestore, are_allowed, remains};
+ghost use Rattle.endpoints.specs.Listing.{AreConsentsOf, AreRecordsOf, IsLastOf};
 ghost use Rattle.endpoints.specs.Server.{FitsServer, Notes, NowNotes, outset_of};
 ghost use Rattle.endpoints.specs.Steps.{Reaches, Steps, Sweeps};
 ghost use Rattle.token_store.specs.Fits.{FitsStore};
@@ -28,15 +29,14 @@ use crate::hooks::{install, remove};
 use crate::introspect::introspect;
 use crate::noting::{note_prepared, prepare};
 use crate::reading::{Reading, read};
-use crate::redo::{RedoFault, alone, check_hook, history_refusal};
-use crate::restoring::{RestoreFault, are_allowed};
+use crate::redo::layout_of;
 use crate::revoke::revoke;
 use crate::ruling::{Checked, Ruling};
 use answers::{Answer, Cause, Decision, Endpoint, Halt, Tally, View, Want, status_of, write};
 use change_codec::Batch;
 use clients::Registry;
-use consent::{Change, Changes, Consents, KeptConsent, KeptRecord, Moment};
-use hook_host::HookHost;
+use consent::{Change, Changes, Consents, KeptConsent, KeptRecord, Moment, RecordVersion};
+use hook_host::{HookFault, HookHost};
 use http::StatusCode;
 use messages::{Draws, Request, Response, failure};
 use std::alloc::{AllocError, Global};
@@ -91,7 +91,8 @@ impl<H> Model for Server<H> {
     } };
 }
 
-fn greater(a: Moment, b: Moment) -> Moment
+/// The later one.
+pub(crate) fn greater(a: Moment, b: Moment) -> Moment
     ensures { result ≡ max a b }
 {
     if a.get() < b.get() { b } else { a }
@@ -116,29 +117,26 @@ impl<H: HookHost> Server<H> {
         }
     }
 
-    /// A server under the rules that goes on from the moment, with a host that has its hooks: made of the codes, tokens and
-    /// consents that are left of another, and of the greatest number of a family. It notes nothing.
-    pub fn restored(
+    /// A server under the rules that goes on from the moment with what is kept, and which notes nothing.
+    pub(crate) fn going_on(
         alloc: Global,
         rules: Registry,
         host: H,
+        store: Store,
+        consents: Consents,
         moment: Moment,
-        last: u64,
-        records: &[KeptRecord<'_>],
-        consents: &[KeptConsent],
-    ) -> Result<Self, RestoreFault>
-        ensures fits { IfOk result (GoesOnFrom H.HookHost rules host (remains records.now consents.now last moment)) }
-        ensures notes { IfOk result (λ server. Notes server None []) }
-        ensures right { OnOk result (are_allowed rules moment records.now ≡ true) }
-        // NotRight comes behind the others, but for Memory.
-        ensures refused { IfErr result (RefusesRestore rules (remains records.now consents.now last moment)) }
+    ) -> Self
+        ensures { result ≡ record {
+          rules = rules;
+          host = host;
+          store = store;
+          consents = consents;
+          greatest = moment;
+          unkept = None;
+          prepared = None;
+        } }
     {
-        let store = Store::restored(alloc, records, last, moment)?;
-        let consents = Consents::restored(alloc, consents)?;
-        if !are_allowed(&rules, moment, records) {
-            return Err(RestoreFault::NotRight);
-        }
-        Ok(Server {
+        Server {
             rules,
             host,
             store,
@@ -147,7 +145,7 @@ impl<H: HookHost> Server<H> {
             unkept: None,
             tally: Tally::default(),
             alloc,
-        })
+        }
     }
 
     /// The codes and tokens that are unexpired at the greatest moment.
@@ -291,12 +289,42 @@ impl<H: HookHost> Server<H> {
         prepare(&mut self.unkept, moment, changes)
     }
 
+    /// Sets a hook, at the greatest moment, which is noted where that is done. A refused one changes nothing.
+    pub fn set_hook(
+        &mut self,
+        name: &str,
+        version: RecordVersion,
+        code: &[u8],
+    ) -> Result<(), HookFault>
+        ensures set { OnOk result (GoesOnWith H.HookHost self.old (HookSet name.now version code.now) self.new) }
+        ensures moment { self.new.greatest ≡ self.old.greatest }
+        ensures noted { OnOk result (self.new.unkept
+            ≡ with_notes self.old.unkept self.old.greatest (One (given.HookSet name.entry version code.entry))) }
+        ensures refused { IfErr result (λ fault. (fault ≡ HookFault.Memory)
+            ⊎ HostRefuses H.HookHost self.old.host (HookSet name.now version code.now) fault) }
+        ensures same { OnErr result (IsSame H.HookHost self.old self.new) }
+    {
+        let hook = self.host.check(name, layout_of(version), code)?;
+        let changes = Changes::One(Change::HookSet {
+            name,
+            version,
+            code,
+        });
+        let now = self.greatest;
+        let Ok(()) = self.reserve(now, &changes) else {
+            return Err(HookFault::Memory);
+        };
+        self.apply(&changes, Checked::Installs(hook));
+        Ok(())
+    }
+
     /// Makes the changes of a ruling, which room was made for, and notes them at the greatest moment, where that is done.
     pub(crate) fn apply(&mut self, changes: &Changes<'_>, checked: Checked<H>)
         requires { IsReadyToMake H.HookHost self.old changes.now checked }
         ensures makes { Makes H.HookHost self.old (as_list changes.now) checked self.new }
         ensures host { MakesHost H.HookHost self.old.host (as_list changes.now) checked self.new.host }
         ensures notes { self.new.unkept ≡ with_notes self.old.unkept self.old.greatest changes.now }
+        ensures greatest { self.new.greatest ≡ self.old.greatest }
     {
         note_prepared(&mut self.unkept);
         make_beside(&mut self.host, &mut self.consents, changes, checked);
@@ -442,51 +470,6 @@ fn hook_count<H: HookHost>(host: &H) -> usize
         count += 1;
     }
     count
-}
-
-impl<H: HookHost> Server<H> {
-    // What the host finds of a change that may be made again at the moment.
-    fn check_again(&self, moment: Moment, change: &Change<'_>) -> Result<Checked<H>, RedoFault>
-        ensures back { (result ≡ Err RedoFault.MomentBack) ↔ (moment < self.now.greatest) }
-        ensures follows { OnOk result (FollowsEach H.HookHost self.now moment change.now) }
-        ensures can { IfOk result (CanMake H.HookHost self.now.host change.now) }
-        ensures refused { IfErr result (RefusesRedo H.HookHost self.now moment change.now) }
-    {
-        if moment.get() < self.greatest.get() {
-            return Err(RedoFault::MomentBack);
-        }
-        if let Some(fault) = history_refusal(
-            &self.rules,
-            &self.store,
-            &self.consents,
-            moment,
-            change,
-        ) {
-            return Err(fault);
-        }
-        check_hook(&self.host, change)
-    }
-
-    /// Makes a change again that happened at the moment, which is then the greatest. One that is not right under the rules is
-    /// refused. A refused one changes nothing.
-    /// `RedoFault` has the faults in the order in which they come.
-    pub fn redo(&mut self, moment: Moment, change: &Change<'_>) -> Result<(), RedoFault>
-        ensures redone { OnOk result (RedoesChange H.HookHost self.old moment change.now self.new) }
-        ensures noted { OnOk result (self.new.unkept ≡ with_notes self.old.unkept moment (One change.now)) }
-        ensures back { (result ≡ Err RedoFault.MomentBack) ↔ (moment < self.old.greatest) }
-        ensures refused { IfErr result (RefusesRedo H.HookHost self.old moment change.now) }
-        ensures same { OnErr result (IsSame H.HookHost self.old self.new) }
-    {
-        let checked = self.check_again(moment, change)?;
-        let changes = alone(change);
-        let Ok(()) = self.reserve(moment, &changes) else {
-            return Err(RedoFault::Memory);
-        };
-        self.greatest = moment;
-        self.apply(&changes, checked);
-        self.store.drop_expired(moment);
-        Ok(())
-    }
 }
 
 // What ended the request is answered.

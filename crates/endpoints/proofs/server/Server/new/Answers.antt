@@ -5,7 +5,7 @@ pub returns-clause-fits : goal.returns-clause-fits
 returns-clause-fits g c = record {
   rules_are = refl;
   greatest_is = c.new-3.ensures;
-  store = c.new.ensures 0;
+  store = c.new.ensures.fits 0;
   consents = c.new-2.ensures;
   hosts = refl;
   right = tt;
