@@ -1,20 +1,20 @@
--- What an image says, without where its texts lie in memory.
+-- What rules say, and what a server has, without where its texts lie in memory.
 use Rattle.std.specs.Prelude.{ℕ, List, map}
 use Rattle.change_codec.specs.Rules.{ClientFact, RulesFact}
 use Rattle.consent.specs.RecordFacts.{RecordFact, record_fact}
-use Rattle.consent.specs.declared.record_version.RecordVersion.{RecordVersion}
-use Rattle.image_codec.specs.declared.image.ClientRules.{ClientRules}
-use Rattle.image_codec.specs.declared.image.Rules.{Rules}
 use Rattle.consent.specs.declared.kept_consent.KeptConsent.{KeptConsent}
-use Rattle.image_codec.specs.declared.image.KeptHook.{KeptHook}
-use Rattle.image_codec.specs.declared.image.Image.{Image}
+use Rattle.consent.specs.declared.record_version.RecordVersion.{RecordVersion}
+use Rattle.rules_codec.specs.declared.rules.ClientRules.{ClientRules}
+use Rattle.rules_codec.specs.declared.rules.Rules.{Rules}
+use Rattle.rules_codec.specs.declared.standing.KeptHook.{KeptHook}
+use Rattle.rules_codec.specs.declared.standing.Standing.{Standing}
 
 pub record HookFact : Type 0 where
   pub name : List ℕ
   pub version : RecordVersion
   pub code : List ℕ
 
-pub record ImageFact : Type 0 where
+pub record StandingFact : Type 0 where
   pub rules : RulesFact
   pub greatest : ℕ
   pub last : ℕ
@@ -37,12 +37,12 @@ rules_fact r = record {
 abbrev pub hook_fact : KeptHook → HookFact
 hook_fact h = record { name = h.name.now; version = h.version; code = h.code.now }
 
-abbrev pub image_fact : Image → ImageFact
-image_fact i = record {
-  rules = rules_fact i.rules;
-  greatest = i.greatest;
-  last = i.last;
-  records = map record_fact i.records.items;
-  consents = i.consents.items;
-  hooks = map hook_fact i.hooks.items;
+abbrev pub standing_fact : Standing → StandingFact
+standing_fact s = record {
+  rules = rules_fact s.rules;
+  greatest = s.greatest;
+  last = s.last;
+  records = map record_fact s.records.items;
+  consents = s.consents.items;
+  hooks = map hook_fact s.hooks.items;
 }

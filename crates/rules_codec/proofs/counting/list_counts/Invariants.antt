@@ -1,5 +1,5 @@
 use Rattle.std.proofs.Common.{take, All}
-use Rattle.image_codec.proofs.counting.list_counts.Given as goal
+use Rattle.rules_codec.proofs.counting.list_counts.Given as goal
 
 abbrev pub invariant-loop-item : goal.invariant-loop-item
 invariant-loop-item g l = All (λ x. g.T.Wire.format.Counts (g.T.Wire.value x)) (take l.item-index l.items)

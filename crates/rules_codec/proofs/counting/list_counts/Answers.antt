@@ -2,8 +2,8 @@ use Rattle.std.proofs.Common.{rules, ◌<◌, ◌^◌, length, map, subst, arith
 use Rattle.std.specs.Prelude.{IsTrue}
 use Rattle.std.proofs.lemmas.List.{length-map}
 use Rattle.std.proofs.lemmas.List.Elements.{All-more}
-use Rattle.image_codec.proofs.Loops.{facts_after, each_of}
-use Rattle.image_codec.proofs.counting.list_counts.Goals as goal
+use Rattle.rules_codec.proofs.Loops.{facts_after, each_of}
+use Rattle.rules_codec.proofs.counting.list_counts.Goals as goal
 
 pub returns-then-not-counts : goal.returns-then-not-counts
 returns-then-not-counts g c = (

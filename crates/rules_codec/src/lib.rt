@@ -1,0 +1,20 @@
+//! The rules under which a server's history is right, as bytes and back; and what a server has under them.
+//!
+//! Rules are a byte 0, which tells them apart from the other batches of a state file, and then, with nothing behind it:
+//! the names of the scopes, how many owners there are (short), the clients, the lives of access and refresh tokens
+//! (short). A client is its name and the scope that it may be allowed (wide).
+//!
+//! A list is how many there are (short), and each of them. A wide number has eight bytes and a short one four, the
+//! high byte first. A text is its length in bytes (short) and these bytes.
+#![tactic(auto)]
+
+mod counting;
+mod laws;
+mod rules;
+mod standing;
+mod whole;
+
+pub use laws::bytes_tell_one_rules;
+pub use rules::{ClientRules, Rules};
+pub use standing::{KeptHook, Standing};
+pub use whole::{decode_rules, encode_rules};
