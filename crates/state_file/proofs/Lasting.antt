@@ -1,7 +1,7 @@
 -- What horizons tell, and a file's batches once one is behind them.
 use Rattle.std.proofs.Common.{◌≡◌, inr, ◌<◌, ◌^◌, ℕ, zero, suc, List, [], ◌∷◌, ◌++◌, Option, Some, Bool, true, false, refl, sym, ap, ◌∙◌, subst, arith}
-use Rattle.state_file.proofs.Names.{IsSome, max, unwrap_or, ◌==◌, if◌then◌else◌, eqb-true, lt-ltb, nat_tests, Event, ImageFact, ImageFits, image_spelling, AreTold, IsImageOf, StandFor, horizon}
-use Rattle.state_file.proofs.Names.{horizon_in, horizons, until_of, AreTold-horizon, StandFor-beside, StandFor-image, until_of-append, until_of-more, Tell, last_rules, last_rules-push}
+use Rattle.state_file.proofs.Names.{IsSome, max, unwrap_or, ◌==◌, if◌then◌else◌, eqb-true, lt-ltb, nat_tests, Event, AreTold, StandFor, horizon}
+use Rattle.state_file.proofs.Names.{horizon_in, horizons, until_of, AreTold-horizon, StandFor-beside, until_of-append, until_of-more, Tell, last_rules, last_rules-push}
 use Rattle.std.specs.Prelude.{length}
 use Rattle.std.proofs.lemmas.Nat.{from_be_bytes-to_be_bytes_8}
 use Rattle.std.specs.Int.{w64, from_be_bytes, to_be_bytes}
@@ -14,7 +14,7 @@ by_value bytes n long is less = let below = lt-ltb n (2 ^ 63) less in rw (long, 
 pub horizon_in-horizon : (until : ℕ) → until < 2 ^ 63 → horizon_in (horizon until) ≡ Some until
 horizon_in-horizon until less = by_value (to_be_bytes w64 until) until refl (from_be_bytes-to_be_bytes_8 until (omega arith)) less
 
-is_horizon : (until : ℕ) → until < 2 ^ 63 → IsSome (horizon_in (horizon until))
+pub is_horizon : (until : ℕ) → until < 2 ^ 63 → IsSome (horizon_in (horizon until))
 is_horizon until less = subst (λ (o : Option ℕ). IsSome o) (sym (horizon_in-horizon until less)) refl
 
 -- every moment of a horizon is so
@@ -51,7 +51,7 @@ pub horizon_tells : (batches : List (List ℕ)) (batch : List ℕ) (until : ℕ)
 horizon_tells batches batch until is = tell_on batches (batches ++ batch ∷ []) (until_of-more batches (batch ∷ []))
     (λ rules tell. (tell.0, ap (λ (b : List ℕ). last_rules (batches ++ b ∷ [])) is ∙ last_rules-push batches (horizon until) ∙ tell.1, tell.2))
 
--- AN IMAGE, AND THE HORIZON OF A MOMENT
+-- THE HORIZON OF A MOMENT, IF IT IS ANY
 
 pub by_horizons : (until : ℕ) (P : List (List ℕ) → Type 0) → (until ≡ 0 → P []) → P (horizon until ∷ []) → P (horizons until)
 by_horizons until P none one = by (until == 0) refl
@@ -66,16 +66,3 @@ AreTold-horizons until less = by_horizons until (λ bs. AreTold bs []) (λ _. re
 pub until_of-horizons : (until : ℕ) → until < 2 ^ 63 → until_of (horizons until) ≡ until
 until_of-horizons until less =
     by_horizons until (λ bs. until_of bs ≡ until) (λ none. sym none) (let one = value_of (horizon_in (horizon until)) until (horizon_in-horizon until less) in omega (arith, one))
-
-pub until_of-image : (image : ImageFact) (until : ℕ) → until < 2 ^ 63 → until_of (image_spelling image ∷ horizons until) ≡ until
-until_of-image image until less = let told = until_of-horizons until less in omega (arith, told)
-
-pub last_rules-image : (image : ImageFact) (until : ℕ) → last_rules (image_spelling image ∷ horizons until) ≡ Some (image_spelling image)
-last_rules-image image until = by_horizons until (λ bs. last_rules (image_spelling image ∷ bs) ≡ Some (image_spelling image)) (λ _. refl) refl
-
-pub StandFor-image_horizon : (image : ImageFact) (until : ℕ) (history : List Event) → until < 2 ^ 63 → ImageFits image → IsImageOf image history →
-    StandFor (image_spelling image ∷ horizons until) history
-StandFor-image_horizon image until history less fits is = StandFor-image image (horizons until) history fits (AreTold-horizons until less) is
-
-pub Tell-image : (image : ImageFact) (until : ℕ) → ImageFits image → Tell (image_spelling image ∷ horizons until) image.rules
-Tell-image image until fits = (image_spelling image, last_rules-image image until, inr (image, fits, refl, refl))

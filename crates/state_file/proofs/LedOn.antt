@@ -43,21 +43,21 @@ noted_leads (Some facts) before after notes = (notes, refl)
 -- why it is not added
 pub unadded : {H : Type 0} (hosting : Hosting H) (on : OnBytes H) (facts : List Event) (fault : StateFault) → (2 ^ 32 ≤ length (batch_spelling facts) → AreTooLong hosting on) →
     IsUnadded facts fault → RefusesMaking hosting on fault
-unadded hosting on facts state.Memory long is = inl tt
+unadded hosting on facts state.Memory long is = inl (inl tt)
 unadded hosting on facts state.Full long is = inr (inr (refl, long is))
 unadded hosting on facts _ long is = absurd is
 
 -- A WHOLE START
 
 -- the batches that were read, with the rules and with what was noted, and those of the new file
-pub record LeadOn {H : Type 0} (hosting : Hosting H) (noted : SeenServer H) (server : SeenServer H) (rules : RulesFact) (read new : List (List ℕ)) : Type 0 where
+pub record LeadOn {H : Type 0} (noted : SeenServer H) (rules : RulesFact) (read new : List (List ℕ)) : Type 0 where
   pub told : List (List ℕ)
   pub tell : AreToldBehind read rules told
   pub more : List (List ℕ)
   pub added : AreAdded (unwrap_or noted.unkept []) told more
-  pub in_for : StandInFor hosting server more new
+  pub in_for : StandInFor more new
 
-module _ {H : Type 0} (hosting : Hosting H) (noted server : SeenServer H) (rules : RulesFact) (read new : List (List ℕ)) (leads : LeadOn hosting noted server rules read new) where
+module _ {H : Type 0} {noted : SeenServer H} {rules : RulesFact} {read new : List (List ℕ)} (leads : LeadOn noted rules read new) where
   pub lead_tell : Tell new rules
   lead_tell = leads.in_for.tell rules (added_tell (unwrap_or noted.unkept []) leads.told leads.more rules leads.added (tells_behind read leads.told rules leads.tell))
 
@@ -65,16 +65,16 @@ module _ {H : Type 0} (hosting : Hosting H) (noted server : SeenServer H) (rules
   lead_until =
       let same = leads.in_for.until ∙ added_until (unwrap_or noted.unkept []) leads.told leads.more leads.added ∙ until_behind read leads.told rules leads.tell in omega (arith, same)
 
-  pub lead_stand : (outset : Outset H) (before after : List Event) (m : ℕ) → StandFor read before → Happened before (unwrap_or noted.unkept []) after → FitsServer hosting server outset after m → StandFor new after
-  lead_stand outset before after m stands happened fits =
-      leads.in_for.stand outset after m fits
+  pub lead_stand : (before after : List Event) → StandFor read before → Happened before (unwrap_or noted.unkept []) after → StandFor new after
+  lead_stand before after stands happened =
+      leads.in_for.stand after
       (added_stand (unwrap_or noted.unkept []) leads.told leads.more before after leads.added happened (stand_behind read leads.told rules before leads.tell stands))
 
 -- each history goes on with the hooks
 pub makes_from : {H : Type 0} (hosting : Hosting H) (on : OnBytes H) (made : Made H) (restored : Restored H) (noting : SeenServer H) (set : Restored H) (rules : RulesFact) (history : List Event) →
     FitsRestored hosting restored on.outset history → NowNotes restored.server noting (Some []) → Sets hosting (record restored { server = noting }) on.hooks set → set.moment ≡ restored.moment →
     NowNotes set.server made.server made.server.unkept → made.server.unkept ≡ no_more set.server.unkept → made.moment ≡ set.moment →
-    LeadOn hosting set.server made.server rules (recovered on.bytes) made.batches → StandFor (recovered on.bytes) history → MakesFrom hosting on made history
+    LeadOn set.server rules (recovered on.bytes) made.batches → StandFor (recovered on.bytes) history → MakesFrom hosting on made history
 makes_from {H = H} hosting on made restored noting set rules history fits begins sets moment same unkept moment_is leads stands =
     let begun : FitsRestored hosting (record restored { server = noting }) on.outset history = noting_fits hosting restored noting on.outset history begins fits in
     let noted : noting.unkept ≡ Some [] = ap (λ (s : SeenServer H). s.unkept) begins in
@@ -90,5 +90,5 @@ makes_from {H = H} hosting on made restored noting set rules history fits begins
     record {
       serves = record { fits = fits_made; notes = subst (λ (facts : Option (List Event)). AreUnkept facts (Some now) now) (sym (unkept ∙ led.1)) (Happened-none now) };
       set = subst (λ (h : List Event). AreSet on.hooks h) at all.1;
-      stands = lead_stand hosting set.server made.server rules (recovered on.bytes) made.batches leads on.outset history now made.moment stands led.0 fits_made;
+      stands = lead_stand leads history now stands led.0;
     }

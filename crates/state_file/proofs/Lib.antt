@@ -1,6 +1,4 @@
-pub mod Begun
 pub mod Compared
-pub mod Imaged
 pub mod Renewed
 pub mod Hooked
 pub mod Kept
@@ -9,8 +7,10 @@ pub mod Listed
 pub mod Lasting
 pub mod LedOn
 pub mod Put
-pub mod Redone
 pub mod Refused
+pub mod Remaking
 pub mod Setting
+pub mod Shorts
+pub mod Lengths
 pub mod Tells
 pub mod Names

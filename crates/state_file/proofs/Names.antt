@@ -1,6 +1,6 @@
 -- The names of other crates that more than one file of these proofs uses.
 pub use Rattle.state_file.specs.Names.{recovered, frames_size, Device, Happened, Basis, Until, Rules, ClientFact, RulesFact, HaveSpelling, batch_spelling, RegistryRecord, Event, is_within}
-pub use Rattle.state_file.specs.Names.{with_change, happens, Outset, SeenServer, FitsServer, Notes, AreNoted, Hosting, HookFact, ImageFact, ImageFits, image_spelling, rules_spelling, RulesFit}
+pub use Rattle.state_file.specs.Names.{with_change, happens, Outset, SeenServer, FitsServer, Notes, AreNoted, Hosting, HookFact, rules_spelling, RulesFit}
 pub use Rattle.state_file.specs.Names.{StateFault, option_or, bytes_eq}
 pub use Rattle.batch_file.specs.Crashes.{LeavesOnly, Only}
 pub use Rattle.batch_file.specs.Frames.{IsOldOrNew, IsOnDisk, IsAsBefore, IsUnrenewed, file_size, lists}
@@ -11,37 +11,36 @@ pub use Rattle.change_codec.specs.Keeping.{Holds, HoldsBasis, Keeps, KeepsBasis,
 pub use Rattle.change_codec.specs.Spelling.{dated_fact, dated_facts}
 pub use Rattle.change_codec.specs.declared.dated.DatedChange.{DatedChange}
 pub use Rattle.clients.specs.ClientRecord.{ClientRecord}
-pub use Rattle.consent.specs.Consents.{FitsConsents, kept_consents}
 pub use Rattle.consent.specs.Changes.{change_of}
-pub use Rattle.consent.specs.History.{event_at, grant_at}
-pub use Rattle.consent.specs.RecordFacts.{record_fact}
+pub use Rattle.consent.specs.History.{event_at, last_moment, greatest_family}
 pub use Rattle.consent.specs.declared.change.Changes.TheVariants.{One}
-pub use Rattle.consent.specs.declared.kept_consent.KeptConsent.{KeptConsent}
 pub use Rattle.consent.specs.declared.record_version.RecordVersion.TheVariants.{First}
 pub use Rattle.endpoints.specs.Bounded.{AllRight, token_life_limit}
 pub use Rattle.endpoints.specs.Noting.{with_notes}
 pub use Rattle.endpoints.specs.Server.{AreUnkept, outset_of, NowNotes}
-pub use Rattle.endpoints.specs.declared.image_keeper.ImageFault.TheVariants.{TooLong}
-pub use Rattle.image_codec.specs.Facts.{client_fact, hook_fact, image_fact, rules_fact}
-pub use Rattle.image_codec.specs.Spelling.{rules_fields}
-pub use Rattle.image_codec.specs.SpellingLaws.{one_image, one_rules, rules_of_fitting}
-pub use Rattle.image_codec.specs.declared.image.ClientRules.{ClientRules}
-pub use Rattle.image_codec.specs.declared.image.KeptHook.{KeptHook}
+pub use Rattle.rules_codec.specs.Facts.{client_fact, hook_fact, rules_fact}
+pub use Rattle.rules_codec.specs.Spelling.{rules_fields}
+pub use Rattle.rules_codec.specs.SpellingLaws.{one_rules}
+pub use Rattle.rules_codec.specs.declared.rules.ClientRules.{ClientRules}
+pub use Rattle.rules_codec.specs.declared.standing.KeptHook.{KeptHook}
 pub use Rattle.state_file.specs.Comparing.{AreAsWide, client_names, first_moved, first_narrowed, IsUnread, RefuseBeside, RefuseRules, TakesRules}
-pub use Rattle.state_file.specs.Hooks.{hooks_after, hooks_set_in, hooks_with, AreBehind, AreSet, with_hooks, hook_named, with_hook, without_hook}
-pub use Rattle.state_file.specs.Knowing.{LeftTells, SeenKeeper, TellBasis, file_crashes, IsKnown, image_size, IsLong}
-pub use Rattle.state_file.specs.Making.{AreTooLong, MakesFrom, Made, OnBytes, RefusesMaking, end_of, AreKeptShort, on_bytes}
+pub use Rattle.state_file.specs.Hooks.{hooks_after, hooks_set_in, hooks_with, AreSet, with_hooks, hook_named, with_hook, without_hook}
+pub use Rattle.state_file.specs.Knowing.{LeftTells, SeenKeeper, TellBasis, file_crashes, IsKnown, MayBe, IsLong, IsLongFile, end_of, shortened_size, tells_number}
+pub use Rattle.state_file.specs.Making.{AreTooLong, MakesFrom, Made, OnBytes, RefusesMaking, AreKeptShort, on_bytes}
 pub use Rattle.state_file.specs.MakingParts.{AreToldBehind, AreAdded, IsUnadded, StandInFor}
-pub use Rattle.state_file.specs.Renewing.{IsImageFor, HasTooMuch, IsUnspelled, SpellImage}
-pub use Rattle.state_file.specs.Resuming.{AnswersFor, BeginsByBatches, FitsOn, FitsRestored, HaveNoImage, IsMadeOf, IsRight, RedoesBatches, Replays, WasRun, Installs, Sets, RedoesDated, StaysUnnoted}
-pub use Rattle.state_file.specs.Resuming.{FitsNone, IsOfChanges, IsOfImage, RefusesSetting, RefusesImage, RefusesResume, RefusesSettings}
-pub use Rattle.state_file.specs.Standing.{AreTold, Begin, BeginWithImage, IsMomentTold, StandFor, StandsFor, first_moment, last_moment, until_of, IsImageOf, begins_image, horizon, horizons}
+pub use Rattle.state_file.specs.Listing.{IsUnlisted, TellNone}
+pub use Rattle.state_file.specs.Remaking.{FinishesAs, FitsRemade, MakesAgain, RefusesAgain, RefusesBatches, RefusesOne, TellsAgain}
+pub use Rattle.state_file.specs.Renewing.{IsShortened, ShortensFile, left_numbered, number_told, AreTooMuch}
+pub use Rattle.state_file.specs.Resuming.{AnswersFor, AnswersForBatches, FitsRestored, IsRight, ListsItself, Replays, WasRun, Sets, RefusesChange, RefusesList, RefusesNext, RefuseServer}
+pub use Rattle.state_file.specs.Resuming.{RefusesSetting, RefusesResume, RefusesSettings}
+pub use Rattle.state_file.specs.Standing.{AreTold, IsMomentTold, StandFor, StandsFor, moment_told, until_of, horizon, horizons}
 pub use Rattle.state_file.specs.Standing.{horizon_in, IsTold}
-pub use Rattle.state_file.specs.StandingLaws.{AreTold-changes, StandFor-joined, until_of-more, AreTold-split, until_of-append, AreTold-horizon, StandFor-beside, StandFor-image, AreTold-rules}
+pub use Rattle.state_file.specs.StandingLaws.{AreTold-changes, AreTold-joined, StandFor-joined, StandFor-shortened, until_of-more, AreTold-split, until_of-append, AreTold-horizon, StandFor-beside, AreTold-rules, one_told}
 pub use Rattle.state_file.specs.Starting.{IsOldOr, IsPutOn}
-pub use Rattle.state_file.specs.Telling.{client_told, rules_of, Tell, last_rules, TellsIn, IsOfRules, rules_in}
+pub use Rattle.state_file.specs.Telling.{client_told, rules_of, Tell, last_rules, IsOfRules, rules_in}
 pub use Rattle.state_file.specs.TellingLaws.{last_rules-push, tell_in, tell_one, tells_one}
 pub use Rattle.state_file.specs.declared.keeper.Known.{Known}
+pub use Rattle.state_file.specs.declared.remade.Remade.{Remade}
 pub use Rattle.state_file.specs.declared.restored.Restored.{Restored}
 pub use Rattle.std.proofs.lemmas.Bool.{eqb-true, lt-ltb, ne_eqb, iff_false}
 pub use Rattle.std.proofs.lemmas.Bool.Decides.{nat_tests}

@@ -1,15 +1,8 @@
 -- Why rules are refused, over a batch and over all.
-use Rattle.std.proofs.Common.{◌≡◌, ◌<◌, ◌+◌, ◌++◌, ◌∙◌, ℕ, List, ◌∷◌, None, Some, inl, inr, map, take, drop, length, get_or, refl, sym, ap, arith}
-use Rattle.state_file.proofs.Names.{drop_more, map-append, take-append-drop, recovered, Event, FitsServer, Outset, Hosting, RulesFact, HookFact, ImageFact, hook_fact, ImageFits, image_spelling}
-use Rattle.state_file.proofs.Names.{KeptHook, IsUnread, RefuseBeside, RefuseRules, TakesRules, FitsNone, IsOfChanges, IsOfImage, RefusesSetting, RefusesImage, RefusesResume, StateFault, Restored}
-use Rattle.std.specs.Borrow.{Bor}
-use Rattle.consent.specs.declared.change.Change.TheVariants.{HookSet}
-use Rattle.consent.specs.declared.record_version.RecordVersion.{RecordVersion}
-use Rattle.endpoints.specs.Redo.{RefusesRedo, history_refusal}
-use Rattle.endpoints.specs.declared.redo.RedoFault.{RedoFault}
-use Rattle.endpoints.specs.declared.redo.RedoFault.TheVariants as redoing
-use Rattle.hook_host.specs.declared.fault.HookFault.{HookFault}
-use Rattle.state_file.specs.Faults.{of_redoing}
+use Rattle.std.proofs.Common.{◌≡◌, ◌<◌, ◌+◌, ◌++◌, ◌∙◌, ℕ, List, [], ◌∷◌, inl, inr, map, take, drop, length, get_or, sym, ap, subst, append_assoc, Vec}
+use Rattle.std.specs.declared.alloc.Global.{Global}
+use Rattle.state_file.proofs.Names.{drop_more, map-append, take-append-drop, recovered, Event, Outset, Hosting, RulesFact, hook_fact, KeptHook, IsUnread, RefuseBeside, DatedChange, dated_fact, dated_facts, lists}
+use Rattle.state_file.proofs.Names.{AreTold, AreTold-split, IsUnlisted, FitsRemade, RefusesBatches, RefusesList, RefuseServer, RefusesResume, Remade, StateFault}
 use Rattle.state_file.specs.declared.fault.StateFault.TheVariants as state
 
 -- what the batch tells is not read
@@ -18,25 +11,6 @@ unread batch now state.Memory is = tt
 unread batch now (state.Spelling fault) is = is
 unread batch now _ is = absurd is
 
--- WHY A HOOK IS REFUSED
-
-module _ {H : Type 0} (hosting : Hosting H) (restored : Restored H) (name : Bor (List ℕ)) (version : RecordVersion) (code : Bor (List ℕ)) where
-  -- every history goes on with a hook
-  follows_each : (fault : RedoFault) →
-      ((outset : Outset H) (history : List Event) (m : ℕ) → FitsServer hosting restored.server outset history m →
-      history_refusal outset.rules history restored.moment (HookSet name version code) ≡ Some fault) →
-      FitsNone hosting restored
-  follows_each fault is = λ outset history fits. let no : None ≡ Some fault = is outset history restored.moment fits.0 in absurd (cc)
-
-  -- one that the host does not refuse, and that is not made
-  pub not_made : (hook : HookFact) (fault : RedoFault) → RefusesRedo hosting restored.server restored.moment (HookSet name version code) fault →
-      ((refused : HookFault) → fault ≡ redoing.Hook refused → ⊥) → RefusesSetting hosting restored hook (of_redoing fault)
-  not_made hook redoing.MomentBack back other = λ outset history fits.
-      let less : restored.moment < restored.server.greatest = back in let none : ⊥ = omega (arith, less, fits.0.greatest_is) in none
-  not_made hook (redoing.Hook fault) is other = absurd (other fault refl)
-  not_made hook redoing.Memory is other = tt
-  not_made hook fault is other = follows_each fault is
-
 -- the hooks before one, itself, and those behind it
 pub parted : (hooks : List KeptHook) (i : ℕ) (d : KeptHook) → i < length hooks → map hook_fact hooks ≡ map hook_fact (take i hooks) ++ hook_fact (get_or hooks i d) ∷ map hook_fact (drop (i + 1) hooks)
 parted hooks i d within =
@@ -44,35 +18,58 @@ parted hooks i d within =
     ap (λ (rest : List KeptHook). take i hooks ++ rest) (sym (drop_more hooks i d within)) ∙ take-append-drop i hooks in
     ap (map hook_fact) (sym e) ∙ map-append hook_fact (take i hooks) (get_or hooks i d ∷ drop (i + 1) hooks)
 
--- what refuses the rules refuses the file
-pub no_start : (left : List ℕ) (now : RulesFact) (fault : StateFault) → RefuseRules (recovered left) now fault → RefusesResume left now fault
-no_start left now state.NotState refused = absurd refused.2.2
-no_start left now (state.Version version) refused = absurd refused.2.2
-no_start left now (state.Damaged number) refused = absurd refused.2.2
-no_start left now (state.Spelling fault) refused = inl refused
-no_start left now (state.Follows fault) refused = absurd refused.2.2
-no_start left now (state.Image fault) refused = absurd refused.2.2
-no_start left now (state.Hook name fault) refused = absurd refused.2.2
-no_start left now _ refused = refused
+-- the changes before one, itself, and those behind it
+pub parted_changes : (changes : List DatedChange) (i : ℕ) (item : DatedChange) → dated_facts (take (i + 1) changes) ≡ dated_facts (take i changes) ++ dated_fact item ∷ [] →
+    dated_facts changes ≡ dated_facts (take i changes) ++ dated_fact item ∷ dated_facts (drop (i + 1) changes)
+parted_changes changes i item more =
+    ap dated_facts (sym (take-append-drop (i + 1) changes)) ∙ map-append dated_fact (take (i + 1) changes) (drop (i + 1) changes)
+    ∙ ap (λ (es : List Event). es ++ dated_facts (drop (i + 1) changes)) more
+    ∙ append_assoc (dated_facts (take i changes)) (dated_fact item ∷ []) (dated_facts (drop (i + 1) changes))
 
--- what refuses the image refuses the file
-pub no_server : (left : List ℕ) (now : RulesFact) (fault : StateFault) → TakesRules (recovered left) now → RefusesImage (recovered left) fault → RefusesResume left now fault
-no_server left now state.Memory takes refuses = tt
-no_server left now (state.Spelling fault) takes refuses = inr takes
-no_server left now (state.Image fault) takes refuses = (takes, refuses)
-no_server left now (state.Hook name fault) takes refuses = (takes, refuses)
-no_server left now _ takes refuses = absurd refuses
+-- the batches before one, itself, and those behind it
+pub parted_batches : (batches : List (Vec ℕ Global)) (i : ℕ) (batch : List ℕ) → lists (take (i + 1) batches) ≡ lists (take i batches) ++ batch ∷ [] →
+    lists batches ≡ (lists (take i batches) ++ batch ∷ []) ++ lists (drop (i + 1) batches)
+parted_batches batches i batch more =
+    ap lists (sym (take-append-drop (i + 1) batches)) ∙ map-append (λ (v : Vec ℕ Global). v.items) (take (i + 1) batches) (drop (i + 1) batches)
+    ∙ ap (λ (bs : List (List ℕ)). bs ++ lists (drop (i + 1) batches)) more
 
--- what refuses to be made of the first batch
-pub not_made_of : (batches later : List (List ℕ)) (batch : List ℕ) (image : ImageFact) → batches ≡ batch ∷ later → ImageFits image → batch ≡ image_spelling image →
-    (fault : StateFault) → IsOfImage fault → RefusesImage batches fault
-not_made_of batches later batch image are fits is (state.Image fault) of = (image, later, (fits, are ∙ ap (λ (b : List ℕ). b ∷ later) is))
-not_made_of batches later batch image are fits is (state.Hook name fault) of = (image, later, (fits, are ∙ ap (λ (b : List ℕ). b ∷ later) is))
-not_made_of batches later batch image are fits is _ of = of
+-- where one tells no list, none is told by all
+pub unlisted_batch : (batches front later : List (List ℕ)) (batch : List ℕ) (fault : StateFault) → batches ≡ (front ++ batch ∷ []) ++ later →
+    IsUnlisted (batch ∷ []) fault → IsUnlisted batches fault
+unlisted_batch batches front later batch state.Memory are refused = tt
+unlisted_batch batches front later batch (state.Spelling fault) are refused = λ facts told.
+    let one = AreTold-split (front ++ batch ∷ []) later facts (subst (λ (bs : List (List ℕ)). AreTold bs facts) are told) in
+    let two = AreTold-split front (batch ∷ []) one.0 one.2 in
+    refused two.1 two.3
+unlisted_batch batches front later batch _ are refused = absurd refused
 
--- what refuses the changes refuses the file
-pub not_redone : (left : List ℕ) (now : RulesFact) (fault : StateFault) → TakesRules (recovered left) now → IsOfChanges fault → RefusesResume left now fault
-not_redone left now state.Memory takes of = tt
-not_redone left now (state.Spelling fault) takes of = inr takes
-not_redone left now (state.Follows fault) takes of = takes
-not_redone left now _ takes of = absurd of
+module _ {H : Type 0} (hosting : Hosting H) (outset : Outset H) where
+  -- what refuses the rules, or the changes, refuses the file
+  pub no_start : (left : List ℕ) (fault : StateFault) → RefuseServer hosting outset (recovered left) fault → RefusesResume hosting outset left fault
+  no_start left state.NotState (inl refused) = absurd refused.2.2
+  no_start left state.NotState (inr refused) = absurd refused.1
+  no_start left (state.Version version) (inl refused) = absurd refused.2.2
+  no_start left (state.Version version) (inr refused) = absurd refused.1
+  no_start left (state.Damaged number) (inl refused) = absurd refused.2.2
+  no_start left (state.Damaged number) (inr refused) = absurd refused.1
+  no_start left _ refused = refused
+
+  -- the changes before one are made again, and it is refused
+  pub refused_next : (batches : List (List ℕ)) (made : Remade H) (fault : StateFault) → FitsRemade hosting made outset [] 0 →
+      RefusesBatches hosting made batches fault → RefusesList hosting outset batches fault
+  refused_next batches made state.Memory fits refused = tt
+  refused_next batches made (state.Spelling fault) fits refused = refused
+  refused_next batches made (state.Follows fault) fits refused =
+      let again = refused.5 in
+      let mid = again.5 outset [] 0 fits in
+      inl (
+        refused.0,
+        refused.1,
+        again.0,
+        again.1,
+        again.2,
+        refused.3,
+        subst (λ (facts : List Event). AreTold refused.0 facts) again.3 refused.4,
+        (again.4.server, mid.0, again.6, again.7, again.8),
+      )
+  refused_next batches made _ fits refused = absurd refused

@@ -1,9 +1,12 @@
 -- Hooks that are set, and keeping that they are.
 use Rattle.std.proofs.Common.{◌≡◌, ℕ, List, [], ◌∷◌, ◌++◌, true, Option, None, Some, refl, sym, ap, ◌∙◌, subst, arith}
 use Rattle.state_file.proofs.Names.{bytes_eq, nat_tests, bytes_eq-Decides, Event, event_at, with_change, happens, Happened, all_dated, Happened-joined, with_notes, SeenServer, FitsServer, Notes}
-use Rattle.state_file.proofs.Names.{NowNotes, AreUnkept, AreNoted, Outset, Hosting, HookFact, AreSet, hooks_set_in, hook_named, with_hook, with_hooks, FitsRestored, RedoesDated, Sets, Restored}
+use Rattle.state_file.proofs.Names.{NowNotes, AreUnkept, AreNoted, Outset, Hosting, HookFact, AreSet, hooks_set_in, hook_named, with_hook, with_hooks, FitsRestored, Sets, Restored}
 use Rattle.std.proofs.lemmas.List.Elements.{All-append, All-cons, All-nil, All-weaker}
+use Rattle.consent.specs.History.{all_past}
+use Rattle.consent.specs.HistoryLaws.{in_order-now}
 use Rattle.consent.specs.declared.change.Changes.{Changes}
+use Rattle.endpoints.specs.Making.{GoesOnWith}
 use Rattle.state_file.proofs.Hooked.{hooks_of-with}
 
 -- LOOKING UP
@@ -63,20 +66,30 @@ noted_more _ _ before after moment changes unkept happened = absurd unkept
 module _ {H : Type 0} (hosting : Hosting H) where
   -- a hook of a new name
   pub sets_new : (old new : Restored H) (hook : HookFact) (changes : Changes) →
-      all_dated old.moment changes ≡ event_at old.moment (happens.HookSet hook.name hook.version hook.code) ∷ [] →
-      RedoesDated hosting old (all_dated old.moment changes) new → new.server.unkept ≡ with_notes old.server.unkept old.moment changes →
-      hook_named hook.name old.hooks ≡ None → Sets hosting old (hook ∷ []) new
-  sets_new old new hook changes are redone noted none outset history fits =
+      all_dated old.server.greatest changes ≡ event_at old.server.greatest (happens.HookSet hook.name hook.version hook.code) ∷ [] →
+      GoesOnWith hosting old.server (happens.HookSet hook.name hook.version hook.code) new.server → new.server.unkept ≡ with_notes old.server.unkept old.server.greatest changes →
+      new.hooks ≡ old.hooks ++ hook ∷ [] → new.moment ≡ old.moment → hook_named hook.name old.hooks ≡ None → Sets hosting old (hook ∷ []) new
+  sets_new old new hook changes are on noted pushed moment none outset history fits =
+      let change = happens.HookSet hook.name hook.version hook.code in
       let free : hook_named hook.name (hooks_set_in history) ≡ None = ap (hook_named hook.name) (sym fits.1) ∙ none in
-      let goes_on : with_hook old.moment history hook ≡ with_change history old.moment (happens.HookSet hook.name hook.version hook.code) =
-      with_hook-new old.moment history hook free in
+      let at : old.server.greatest ≡ old.moment = fits.0.greatest_is in
+      let goes_on : with_hook old.moment history hook ≡ with_change history old.moment change = with_hook-new old.moment history hook free in
       let after : List Event = with_hook old.moment history hook in
-      let happened : Happened history (all_dated old.moment changes) after =
-      subst (λ (ds : List Event). Happened history ds after) (sym are) (record { follow = (tt, tt); leads = goes_on }) in
-      let set : hook_named hook.name (hooks_set_in after) ≡ Some hook = ap (hook_named hook.name) (hooks_of-set old.moment history hook free) ∙ named_new (hooks_set_in history) hook free in (
-        redone.1 outset history after fits happened,
+      let now : after ≡ with_change history old.server.greatest change = goes_on ∙ ap (λ (m : ℕ). with_change history m change) (sym at) in
+      let made = on outset history (subst (λ (m : ℕ). FitsServer hosting old.server outset history m) (sym at) fits.0) in
+      let fits_now : FitsServer hosting new.server outset after new.moment =
+      subst (λ (m : ℕ). FitsServer hosting new.server outset after m) (at ∙ sym moment)
+      (subst (λ (h : List Event). FitsServer hosting new.server outset h old.server.greatest) (sym now) made) in
+      let past : all_past history old.server.greatest ≡ true = rw at fits.0.store.kept.is_history.past in
+      let happened : Happened history (all_dated old.server.greatest changes) after =
+      subst (λ (ds : List Event). Happened history ds after) (sym are)
+      (record { follow = (tt, tt); in_order = in_order-now history old.server.greatest (change ∷ []) past; leads = now }) in
+      let hooks : hooks_set_in after ≡ hooks_set_in history ++ hook ∷ [] = hooks_of-set old.moment history hook free in
+      let set : hook_named hook.name (hooks_set_in after) ≡ Some hook = ap (hook_named hook.name) hooks ∙ named_new (hooks_set_in history) hook free in (
+        (fits_now, pushed ∙ ap (λ (hs : List HookFact). hs ++ hook ∷ []) fits.1 ∙ sym hooks),
         All-cons (λ (h : HookFact). hook_named h.name (hooks_set_in after) ≡ Some h) hook [] set (All-nil (λ (h : HookFact). hook_named h.name (hooks_set_in after) ≡ Some h)),
-        λ kept notes. subst (λ (unkept : Option (List Event)). AreUnkept unkept kept after) (sym noted) (noted_more old.server.unkept kept history after old.moment changes notes happened),
+        λ kept notes. subst (λ (unkept : Option (List Event)). AreUnkept unkept kept after) (sym noted)
+            (noted_more old.server.unkept kept history after old.server.greatest changes notes happened),
       )
 
   -- some hooks, and then one

@@ -1,12 +1,11 @@
 -- A state file in which rules are told.
-use Rattle.std.proofs.Common.{◌≡◌, ◌↔◌, inl, inr, ℕ, zero, suc, List, [], ◌∷◌, ◌++◌, Bool, true, false, Option, None, Some, refl, sym, ap, ◌∙◌, subst, arith}
+use Rattle.std.proofs.Common.{◌≡◌, ◌↔◌, inl, inr, ℕ, zero, List, [], ◌∷◌, ◌++◌, Bool, true, false, Option, None, Some, refl, sym, ap, ◌∙◌, subst, arith}
 use Rattle.state_file.proofs.Names.{option_or, Event, one_rules, RulesFact, RulesFit, rules_fields, rules_spelling, AreToldBehind, StandFor, until_of, AreTold-rules, StandFor-beside, until_of-append}
-use Rattle.state_file.proofs.Names.{IsOfRules, Tell, TellsIn, last_rules, rules_in, last_rules-push}
+use Rattle.state_file.proofs.Names.{IsOfRules, Tell, last_rules, rules_in, last_rules-push}
 
--- what begins neither with a byte 0 nor with a byte 2 tells no rules
+-- what does not begin with a byte 0 tells no rules
 no_rules : (batch : List ℕ) → (rules_in batch ≡ Some batch → ⊥) → rules_in batch ≡ None
 no_rules (zero ∷ fields) not = absurd (not refl)
-no_rules (suc (suc zero) ∷ fields) not = absurd (not refl)
 no_rules _ not = refl
 
 -- the last rules among some batches and one more
@@ -27,7 +26,7 @@ module _ (old new : List (List ℕ)) (rules : RulesFact) where
   -- then they are told
   pub tells_behind : AreToldBehind old rules new → Tell new rules
   tells_behind (inl same) = subst (λ (bs : List (List ℕ)). Tell bs rules) (sym same.1) same.0
-  tells_behind (inr more) = (rules_spelling rules, ap last_rules more.1 ∙ last_rules-push old (rules_spelling rules), inl (more.0, refl))
+  tells_behind (inr more) = (rules_spelling rules, ap last_rules more.1 ∙ last_rules-push old (rules_spelling rules), (more.0, refl))
 
   -- and the batches stand for the same
   pub stand_behind : (history : List Event) → AreToldBehind old rules new → StandFor old history → StandFor new history
@@ -43,9 +42,9 @@ module _ (old new : List (List ℕ)) (rules : RulesFact) where
 -- WHAT A BATCH TELLS
 
 -- rules of one spelling are the same
-pub told_spelled : (batch : List ℕ) (told now : RulesFact) → TellsIn batch told → RulesFit told → RulesFit now → ((others : RulesFact) → TellsIn batch others → others ≡ told) →
-    (rules_spelling told ≡ rules_spelling now) ↔ TellsIn batch now
+pub told_spelled : (batch : List ℕ) (told now : RulesFact) → IsOfRules batch told → RulesFit told → RulesFit now → ((others : RulesFact) → IsOfRules batch others → others ≡ told) →
+    (rules_spelling told ≡ rules_spelling now) ↔ IsOfRules batch now
 told_spelled batch told now tells fit fits one = (
-  λ same. subst (λ (r : RulesFact). TellsIn batch r) (one_rules told now fit fits same) tells,
+  λ same. subst (λ (r : RulesFact). IsOfRules batch r) (one_rules told now fit fits same) tells,
   λ others. ap rules_spelling (sym (one now others)),
 )

@@ -1,9 +1,9 @@
 -- When a registry's rules are as wide as those that a file tells, and where they first are not.
-use Rattle.std.specs.Prelude.{◌≡◌, ◌≤◌, ◌<◌, ◌^◌, ◌⊎◌, ℕ, zero, suc, List, [], ◌∷◌, length, map, Option, None, Some, if◌then◌else◌, string_bytes}
-use Rattle.state_file.specs.Names.{bytes_eq, Fault, is_within, ClientFact, RulesFact, image_reading, rules_reading, RulesCount, rules_spelling, StateFault, NoRules, Spelling, ScopeMoved, OwnerMoved}
+use Rattle.std.specs.Prelude.{◌≡◌, ◌≤◌, ◌<◌, ◌^◌, ◌⊎◌, ℕ, List, [], ◌∷◌, length, map, Option, None, Some, if◌then◌else◌, string_bytes}
+use Rattle.state_file.specs.Names.{bytes_eq, is_within, ClientFact, RulesFact, rules_reading, RulesCount, rules_spelling, StateFault, NoRules, Spelling, ScopeMoved, OwnerMoved}
 use Rattle.state_file.specs.Names.{ClientMoved, ClientNarrowed, LifeNarrowed}
 use Rattle.std.specs.Prelude.{Err}
-use Rattle.state_file.specs.Telling.{last_rules, Tell, TellsIn, BeginWithRules}
+use Rattle.state_file.specs.Telling.{last_rules, Tell, IsOfRules, BeginWithRules}
 use Rattle.state_file.specs.declared.fault.StateFault.TheVariants.{Memory, TooLong}
 
 -- the first of the names told that does not have its place now
@@ -67,22 +67,17 @@ IsUnwritten bytes TooLong = 2 ^ 32 ≤ length bytes
 IsUnwritten bytes Memory = Unit {0}
 IsUnwritten bytes _ = ⊥
 
--- the bytes that should tell rules spell none: no image where they begin with a byte 2, and else no rules alone
-abbrev pub IsMisspelled : List ℕ → Fault → Type 0
-IsMisspelled (suc (suc zero) ∷ fields) fault = image_reading (2 ∷ fields) ≡ Err fault
-IsMisspelled batch fault = rules_reading batch ≡ Err fault
-
 -- why what a batch tells is not read
 abbrev pub IsUnread : List ℕ → StateFault → Type 0
 IsUnread batch Memory = Unit {0}
-IsUnread batch (Spelling fault) = IsMisspelled batch fault
+IsUnread batch (Spelling fault) = rules_reading batch ≡ Err fault
 IsUnread batch _ = ⊥
 
 -- why rules are not taken where a batch tells others
 abbrev pub RefuseBeside : List ℕ → RulesFact → StateFault → Type 0
 RefuseBeside batch now Memory = Unit {0}
-RefuseBeside batch now (Spelling fault) = IsMisspelled batch fault
-RefuseBeside batch now fault = (told : RulesFact) × TellsIn batch told × AreNarrower told now fault
+RefuseBeside batch now (Spelling fault) = rules_reading batch ≡ Err fault
+RefuseBeside batch now fault = (told : RulesFact) × IsOfRules batch told × AreNarrower told now fault
 
 -- why rules are not taken behind the batches
 abbrev pub RefuseRules : List (List ℕ) → RulesFact → StateFault → Type 0

@@ -11,8 +11,6 @@ use Rattle.batch_file.specs.declared.framing.ReadFault.{ReadFault}
 use Rattle.batch_file.specs.declared.framing.ReadFault.TheVariants as reading
 use Rattle.endpoints.specs.declared.redo.RedoFault.{RedoFault}
 use Rattle.endpoints.specs.declared.redo.RedoFault.TheVariants as redoing
-use Rattle.endpoints.specs.declared.restoring.RestoreFault.{RestoreFault}
-use Rattle.endpoints.specs.declared.restoring.RestoreFault.TheVariants as restoring
 use Rattle.state_file.specs.declared.fault.StateFault.{StateFault}
 use Rattle.state_file.specs.declared.fault.StateFault.TheVariants as state
 
@@ -27,10 +25,6 @@ of_encoding encoding.TooLong = state.TooLong
 abbrev pub of_redoing : RedoFault → StateFault
 of_redoing redoing.Memory = state.Memory
 of_redoing fault = state.Follows fault
-
-abbrev pub of_restoring : RestoreFault → StateFault
-of_restoring restoring.Memory = state.Memory
-of_restoring fault = state.Image fault
 
 abbrev pub of_reading : ReadFault → StateFault
 of_reading reading.Memory = state.Memory

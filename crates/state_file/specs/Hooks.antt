@@ -1,6 +1,6 @@
 -- The hooks that a history sets.
 use Rattle.std.specs.Prelude.{◌≡◌, ◌++◌, ℕ, List, [], ◌∷◌, Option, Some, is_some, find, filter, not, if◌then◌else◌, All}
-use Rattle.state_file.specs.Names.{bytes_eq, Event, Change, with_change, happens, HaveSpelling, batch_spelling, HookFact}
+use Rattle.state_file.specs.Names.{bytes_eq, Event, Change, with_change, happens, HookFact}
 
 -- the hook of the name
 abbrev pub hook_named : List ℕ → List HookFact → Option HookFact
@@ -19,11 +19,6 @@ hooks_with hooks _ = hooks
 abbrev pub hooks_after : List HookFact → List Event → List HookFact
 hooks_after hooks [] = hooks
 hooks_after hooks (e ∷ later) = hooks_after (hooks_with hooks e.change) later
-
--- so it is of those that the batch spells
-abbrev pub AreBehind : List HookFact → List ℕ → List HookFact → Type 0
-AreBehind before batch hooks =
-    (facts : List Event) → HaveSpelling facts → batch ≡ batch_spelling facts → hooks ≡ hooks_after before facts
 
 abbrev pub hooks_set_in : List Event → List HookFact
 hooks_set_in history = hooks_after [] history

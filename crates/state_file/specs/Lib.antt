@@ -3,6 +3,7 @@ pub mod Standing
 pub mod Telling
 pub mod Comparing
 pub mod Hooks
+pub mod Listing
 pub mod Resuming
 pub mod Runs
 pub mod Making
@@ -12,9 +13,12 @@ pub mod Knowing
 pub mod Renewing
 -- What only the contracts of this crate's own parts and their proofs cite.
 pub mod MakingParts
+pub mod Remaking
+pub mod ShortParts
 -- Laws, each proved: a reader may skip them.
 pub mod StandingLaws
 pub mod TellingLaws
+pub mod HookLaws
 pub mod ResumingLaws
 pub mod ReplayingLaws
 pub mod RunLaws

@@ -1,36 +1,39 @@
--- When an image is put in the place of a state file's batches.
-use Rattle.std.specs.Prelude.{◌≡◌, ◌⊎◌, ◌≤◌, ◌^◌, ℕ, List, length}
-use Rattle.state_file.specs.Names.{SeenServer, Hosting, HookFact, ImageFact, ImageCounts, ImageFits, image_spelling, rules_spelling, OfFitted}
-use Rattle.endpoints.specs.declared.image_keeper.ImageFault.{ImageFault}
-use Rattle.endpoints.specs.declared.image_keeper.ImageFault.TheVariants.{Memory, TooLong, Unwritten, Failed}
-use Rattle.state_file.specs.Hooks.{hooks_set_in}
-use Rattle.state_file.specs.Standing.{IsImageOf, StandFor}
+-- When what is left of a list takes the place of a state file's batches.
+use Rattle.std.specs.Prelude.{◌≡◌, ◌++◌, ◌≤◌, ◌^◌, List, [], ◌∷◌, ℕ, length}
+use Rattle.consent.specs.History.{Event, event_at, greatest_family, last_moment}
+use Rattle.consent.specs.History.Change.{Numbered}
+use Rattle.shortening.specs.Shortened.{shortened}
+use Rattle.state_file.specs.Names.{RulesFact, recovered, Device, batch_spelling, StateFault}
+use Rattle.state_file.specs.Knowing.{SeenKeeper}
+use Rattle.state_file.specs.Standing.{AreTold, until_of}
+use Rattle.state_file.specs.Telling.{Tell}
+use Rattle.state_file.specs.declared.fault.StateFault.TheVariants.{Memory, Full}
 
--- the image is one of each history that the server fits and that sets these hooks
-abbrev pub IsImageFor : {H : Type 0} → Hosting H → SeenServer H → List HookFact → ImageFact → Type 0
-IsImageFor hosting server hooks image = OfFitted hosting server (λ history. hooks ≡ hooks_set_in history → IsImageOf image history)
+-- the greatest number of a family that the list tells, at its last moment
+abbrev pub number_told : List Event → Event
+number_told list = event_at (last_moment 0 list) (Numbered (greatest_family list))
 
--- the bytes spell such an image, under the rules that these others spell
-pub record SpellImage {H : Type 0} (hosting : Hosting H) (server : SeenServer H) (hooks : List HookFact) (rules bytes : List ℕ) : Type 0 where
-  pub image : ImageFact
-  pub fits : ImageFits image
-  pub spelled : bytes ≡ image_spelling image
-  pub rules_are : rules ≡ rules_spelling image.rules
-  pub hooks_are : image.hooks ≡ hooks
-  pub is : IsImageFor hosting server hooks image
+-- what is left of the list at its last moment, and then that number
+abbrev pub left_numbered : List Event → List Event
+left_numbered list = shortened (last_moment 0 list) list ++ number_told list ∷ []
 
--- a text or a list of it takes more than four bytes to count, or it is too long to be a batch
-abbrev pub IsTooLarge : ImageFact → Type 0
-IsTooLarge image = (¬ ImageCounts image) ⊎ (2 ^ 32 ≤ length (image_spelling image))
+-- The new batches tell just what is left of the list that the old ones tell, the same rules and the same moment.
+pub record IsShortened (old new : List (List ℕ)) : Type 0 where
+  pub left : (facts : List Event) → AreTold old facts → AreTold new (left_numbered facts)
+  pub tell : (rules : RulesFact) → Tell old rules → Tell new rules
+  pub until : until_of new ≡ until_of old
 
--- why no image of the server is spelled: memory was refused, or such an image is too large
-abbrev pub IsUnspelled : {H : Type 0} → Hosting H → SeenServer H → List HookFact → ImageFault → Type 0
-IsUnspelled hosting server hooks Memory = Unit {0}
-IsUnspelled hosting server hooks TooLong = (image : ImageFact) × IsImageFor hosting server hooks image × IsTooLarge image
-IsUnspelled hosting server hooks Unwritten = ⊥
-IsUnspelled hosting server hooks Failed = ⊥
+-- so it is of the batches of the keepers' files, where the file was read as it was
+abbrev pub ShortensFile : {D : Type 0} → Device D → SeenKeeper D → SeenKeeper D → Type 0
+ShortensFile device old new =
+    device.reads_true new.file.device → IsShortened (recovered (device.seen old.file.device)) (recovered (device.seen new.file.device))
 
--- an image is too large that is one of each history that the server fits and for which the batches stand
-abbrev pub HasTooMuch : {H : Type 0} → Hosting H → SeenServer H → List (List ℕ) → Type 0
-HasTooMuch hosting server batches =
-    (image : ImageFact) × OfFitted hosting server (λ history. StandFor batches history → IsImageOf image history) × IsTooLarge image
+-- some of the events, one behind the other, take 2^32 bytes or more
+abbrev pub AreTooMuch : List Event → Type 0
+AreTooMuch facts = (before some behind : List Event) × (facts ≡ before ++ (some ++ behind)) × (2 ^ 32 ≤ length (batch_spelling some))
+
+-- why what is left of the list is not told: memory was refused, or some of it is too long for a batch
+abbrev pub IsUntoldList : List Event → StateFault → Type 0
+IsUntoldList list Memory = Unit {0}
+IsUntoldList list Full = AreTooMuch (left_numbered list)
+IsUntoldList list _ = ⊥

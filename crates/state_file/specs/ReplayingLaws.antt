@@ -1,12 +1,15 @@
--- A chain of hooks that is made again of what is left of them.
-use Rattle.std.proofs.Common.{◌≡◌, ℕ, List, [], ◌∷◌, ◌++◌, Bool, true, false, refl, sym, ap, ◌∙◌, subst, append_assoc, append-nil}
-use Rattle.state_file.specs.Names.{bytes_eq, Event, Change, IsFrontOf, HostStep, HostRun, Named, IsAcceptedCode, IsInstalled, without_name, layout_of, HookFact}
+-- A chain of hooks that is made again by the list that a file tells.
+use Rattle.std.proofs.Common.{◌≡◌, ℕ, List, [], ◌∷◌, ◌++◌, Bool, true, false, refl, sym, ap, ◌∙◌, subst}
+use Rattle.state_file.specs.Names.{recovered, bytes_eq, Event, Change, HostStep, HostRun, Named, IsAcceptedCode, IsInstalled, without_name, layout_of, HookFact}
 use Rattle.consent.specs.declared.record_version.RecordVersion.{RecordVersion}
 use Rattle.consent.specs.History.Change.{HookSet, HookGone}
 use Rattle.encoding.proofs.Reading.{one_program}
 use Rattle.hook_chain.specs.contracts.chain.ChainHookHost.TheImpl as chain
 use Rattle.state_file.specs.Hooks.{hooks_after, hooks_set_in, hooks_with, without_hook}
-use Rattle.state_file.specs.Resuming.{Installs, Replays}
+use Rattle.state_file.specs.HookLaws.{same_hooks}
+use Rattle.state_file.specs.Resuming.{Replays}
+use Rattle.state_file.specs.Standing.{StandsFor}
+use Rattle.state_file.specs.StandingLaws.{one_told}
 
 -- the chain has just these hooks
 abbrev Has : List Named → List HookFact → Type 0
@@ -48,14 +51,6 @@ run_has : (first now : List Named) (hooks : List HookFact) (history : List Event
 run_has first now hooks [] run has = subst (λ (ns : List Named). Has ns hooks) (sym run) has
 run_has first now hooks (e ∷ later) run has = run_has run.0 now (hooks_with hooks e.change) later run.2 (step_has first run.0 e.change hooks run.1 has)
 
--- and so has one on which they are installed
-installs_has : (old new : List Named) (before hooks : List HookFact) → Installs chain.ghosts old hooks new → Has old before → Has new (before ++ hooks)
-installs_has old new before [] installs has =
-    subst (λ (hs : List HookFact). Has new hs) (sym (append-nil before)) (subst (λ (ns : List Named). Has ns before) (sym installs) has)
-installs_has old new before (h ∷ hooks) installs has =
-    subst (λ (hs : List HookFact). Has new hs) (append_assoc before (h ∷ []) hooks)
-    (installs_has installs.0 new (before ++ h ∷ []) hooks installs.2 (installed_has old installs.0 before h.name h.version h.code installs.1 has))
-
 -- no two chains have just these hooks
 has_one : (a b : List Named) (hooks : List HookFact) → Has a hooks → Has b hooks → a ≡ b
 has_one [] [] [] has other = refl
@@ -74,9 +69,11 @@ pub front_run : (first now : List Named) (front more : List Event) → HostRun c
 front_run first now [] more run = (first, refl)
 front_run first now (e ∷ front) more run = let rest = front_run run.0 now front more run.2 in (rest.0, (run.0, run.1, rest.1))
 
--- a chain that came through a history comes of what is left of its hooks, wherever the history is broken off
-pub replays : (history : List Event) (host : List Named) → HostRun chain.ghosts [] history host → (front : List Event) → IsFrontOf front history → Replays chain.ghosts [] front
-replays history host run front is other installs =
-    let mid = front_run [] host front is.0 (subst (λ (h : List Event). HostRun chain.ghosts [] h host) is.1 run) in
-    let same : mid.0 ≡ other = has_one mid.0 other (hooks_set_in front) (run_has [] mid.0 [] front mid.1 tt) (installs_has [] other [] (hooks_set_in front) installs tt) in
-    subst (λ (h : List Named). HostRun chain.ghosts [] front h) same mid.1
+-- a chain that came through a history comes by it to what it comes to by the list that a file tells
+pub replays : (left : List ℕ) (history : List Event) → StandsFor left history → (host : List Named) → HostRun chain.ghosts [] history host → Replays chain.ghosts [] left history
+replays left history stands host run facts other told again =
+    let listed : stands.facts ≡ facts = one_told (recovered left) stands.facts facts stands.told told in
+    let hooks : hooks_set_in facts ≡ hooks_set_in history = ap hooks_set_in (sym listed) ∙ same_hooks stands.facts history stands.left.alike.hooks in
+    let has : Has other (hooks_set_in history) = subst (λ (hs : List HookFact). Has other hs) hooks (run_has [] other [] facts again tt) in
+    let same : host ≡ other = has_one host other (hooks_set_in history) (run_has [] host [] history run tt) has in
+    subst (λ (h : List Named). HostRun chain.ghosts [] history h) same run

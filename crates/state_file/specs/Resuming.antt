@@ -1,17 +1,26 @@
 -- What a server does that is started on a state file.
-use Rattle.std.specs.Prelude.{◌≡◌, ◌≢◌, ◌⊎◌, ◌++◌, ℕ, List, [], ◌∷◌, false, None, Some, string_bytes}
-use Rattle.state_file.specs.Names.{RefusesFile, recovered, Happened, IsFrontOf, RegistryRecord, Event, HostRun, SeenServer, Outset, FitsServer, Notes, AreNoted, layout_of, Hosting}
-use Rattle.state_file.specs.Names.{RulesFact, HookFact, ImageFact, StateFault, NotState, Version, Damaged, Spelling, Follows, Image, HookDiffers, Hook}
+use Rattle.std.specs.Prelude.{◌≡◌, ◌≢◌, ◌⊎◌, ◌++◌, ◌<◌, ℕ, List, [], ◌∷◌, None, Some, string_bytes}
+use Rattle.state_file.specs.Names.{RefusesFile, recovered, RegistryRecord, Event, HostRun, SeenServer, Outset, FitsServer, Notes, AreNoted, layout_of, Hosting}
+use Rattle.state_file.specs.Names.{HookFact, StateFault, NotState, Version, Damaged, Spelling, Follows, HookDiffers, Hook}
 use Rattle.batch_file.specs.declared.framing.ReadFault.TheVariants as reading
+use Rattle.consent.specs.Changes.{change_of}
+use Rattle.consent.specs.History.{consents_kept, last_moment}
+use Rattle.consent.specs.declared.change.Change.{Change}
+use Rattle.consent.specs.Limits.{consent_limit}
 use Rattle.endpoints.specs.Bounded.{AllRight}
+use Rattle.endpoints.specs.Redo.{RefusesRedo}
+use Rattle.endpoints.specs.Remaking.{FitsRemaking, SeenRemaking}
+use Rattle.endpoints.specs.declared.redo.RedoFault.{RedoFault}
+use Rattle.endpoints.specs.declared.redo.RedoFault.TheVariants.{ConsentsFull}
 use Rattle.state_file.specs.Comparing.{RefuseRules, TakesRules}
-use Rattle.state_file.specs.Hooks.{AreSet, hooks_after, hooks_set_in, hook_named, with_hooks}
-use Rattle.state_file.specs.Standing.{AreTold, BeginWithImage, IsImageOf, StandsFor, begins_image, last_moment}
+use Rattle.state_file.specs.Hooks.{AreSet, hooks_set_in, hook_named, with_hooks}
+use Rattle.state_file.specs.Listing.{TellNone}
+use Rattle.state_file.specs.Standing.{AreTold, StandFor, StandsFor}
 use Rattle.state_file.specs.Telling.{TellsRules, rules_of}
 use Rattle.state_file.specs.declared.fault.StateFault.TheVariants.{Memory}
 use Rattle.state_file.specs.declared.restored.Restored.{Restored}
 
--- CHANGES MADE AGAIN
+-- A SERVER MADE OF A LIST
 
 -- the server fits the history from its moment on, and its hooks are that history's
 abbrev pub FitsRestored : {H : Type 0} → Hosting H → Restored H → Outset H → List Event → Type 0
@@ -19,72 +28,19 @@ FitsRestored hosting restored outset history =
     FitsServer hosting restored.server outset history restored.moment
     × (restored.hooks ≡ hooks_set_in history)
 
--- Whatever history the old one fits: where the dated changes lead on to another one, the new one fits that, which is right.
-abbrev pub FitsOn : {H : Type 0} → Hosting H → Restored H → List Event → Restored H → Type 0
-FitsOn {H = H} hosting old facts new =
-    (outset : Outset H) (history after : List Event) → FitsRestored hosting old outset history →
-    Happened history facts after → FitsRestored hosting new outset after
-
--- a server that noted nothing notes nothing
-abbrev pub StaysUnnoted : {H : Type 0} → Restored H → Restored H → Type 0
-StaysUnnoted old new = old.server.unkept ≡ None → new.server.unkept ≡ None
-
--- and its hooks and its moment are those that the changes leave
-abbrev pub RedoesDated : {H : Type 0} → Hosting H → Restored H → List Event → Restored H → Type 0
-RedoesDated hosting old facts new =
-    (new.hooks ≡ hooks_after old.hooks facts) × FitsOn hosting old facts new × StaysUnnoted old new
-    × (new.moment ≡ last_moment old.moment facts)
-
--- so it is of the dated changes that the batches have
-abbrev pub RedoesBatches : {H : Type 0} → Hosting H → Restored H → List (List ℕ) → Restored H → Type 0
-RedoesBatches hosting old batches new =
-    StaysUnnoted old new × ((facts : List Event) → AreTold batches facts → RedoesDated hosting old facts new)
-
--- A HOST MADE AGAIN
-
--- the hooks, installed one after the other, lead from the one host to the other
-abbrev pub Installs : {H : Type 0} → Hosting H → H → List HookFact → H → Type 0
-Installs hosting old [] new = new ≡ old
-Installs {H = H} hosting old (hook ∷ hooks) new =
-    (mid : H) × hosting.installs old hook.name (layout_of hook.version) hook.code mid × Installs hosting mid hooks new
-
--- the first host comes by the history to what it comes to when the hooks that the history sets are installed on it
-abbrev pub Replays : {H : Type 0} → Hosting H → H → List Event → Type 0
-Replays {H = H} hosting first history =
-    (host : H) → Installs hosting first (hooks_set_in history) host → HostRun hosting first history host
-
--- the first batch, if there is one, is none
-abbrev pub HaveNoImage : List (List ℕ) → Type 0
-HaveNoImage [] = Unit {0}
-HaveNoImage (batch ∷ batches) = begins_image batch ≡ false
-
--- The host came by the history to its hooks. It is asked for where the bytes begin with an image alone, and of each front of
--- the history, since the image is of one.
-abbrev pub WasRun : {H : Type 0} → Hosting H → H → List ℕ → List Event → Type 0
-WasRun hosting first left history =
-    HaveNoImage (recovered left) ⊎ ((front : List Event) → IsFrontOf front history → Replays hosting first front)
-
--- the server has the hooks and the moment of the image, and fits each history that this is one of, where that is right under
--- the rules and was run
-abbrev pub IsMadeOf : {H : Type 0} → Hosting H → ImageFact → Outset H → Restored H → Type 0
-IsMadeOf hosting image outset restored =
-    (restored.hooks ≡ image.hooks)
-    × ((history : List Event) → IsImageOf image history → AllRight outset.rules [] history → Replays hosting outset.first history →
-    FitsRestored hosting restored outset history)
-    × (restored.moment ≡ image.greatest)
-
--- The server is made of the first batch, where that is an image, and else anew; the later batches are the others. It notes
--- nothing.
-pub record BeginsByBatches {H : Type 0} (hosting : Hosting H) (outset : Outset H) (batches later : List (List ℕ)) (restored : Restored H) : Type 0 where
-  pub anew : HaveNoImage batches → (later ≡ batches) × FitsRestored hosting restored outset [] × (restored.moment ≡ 0)
-  pub of_image : (image : ImageFact) (behind : List (List ℕ)) → BeginWithImage batches image behind →
-      (later ≡ behind) × IsMadeOf hosting image outset restored
-  pub unnoted : restored.server.unkept ≡ None
-
--- The history is right under the rules. It is asked for where the bytes begin with an image alone: of changes that are made
--- again the server sees to it.
+-- The history is right under the rules. It is asked for where it is not the list itself that the bytes tell: of changes that are
+-- made again the server sees to it.
 abbrev pub IsRight : RegistryRecord → List ℕ → List Event → Type 0
-IsRight rules left history = HaveNoImage (recovered left) ⊎ AllRight rules [] history
+IsRight rules left history = AreTold (recovered left) history ⊎ AllRight rules [] history
+
+-- the first host comes by the history to what it comes to by the list that the bytes tell
+abbrev pub Replays : {H : Type 0} → Hosting H → H → List ℕ → List Event → Type 0
+Replays {H = H} hosting first left history =
+    (facts : List Event) (host : H) → AreTold (recovered left) facts → HostRun hosting first facts host → HostRun hosting first history host
+
+-- the host came by the history to its hooks: it is asked for where that is not the list itself
+abbrev pub WasRun : {H : Type 0} → Hosting H → H → List ℕ → List Event → Type 0
+WasRun hosting first left history = AreTold (recovered left) history ⊎ Replays hosting first left history
 
 -- so it is of each history that the bytes stand for, that is right under the rules and that was run
 abbrev pub OfRight : {H : Type 0} → Hosting H → List ℕ → Outset H → (List Event → Type 0) → Type 0
@@ -99,46 +55,44 @@ AnswersFor hosting left outset restored = OfRight hosting left outset (λ histor
 abbrev pub AnswersForBatches : {H : Type 0} → Hosting H → List (List ℕ) → Outset H → Restored H → Type 0
 AnswersForBatches hosting batches outset restored = (left : List ℕ) → recovered left ≡ batches → AnswersFor hosting left outset restored
 
--- it is a fault of an image
-abbrev pub IsOfImage : StateFault → Type 0
-IsOfImage Memory = Unit {0}
-IsOfImage (Spelling fault) = Unit {0}
-IsOfImage (Image fault) = Unit {0}
-IsOfImage (Hook name fault) = Unit {0}
-IsOfImage _ = ⊥
+-- the batches stand for the list that they tell, which is right under the rules
+abbrev pub ListsItself : RegistryRecord → List (List ℕ) → Type 0
+ListsItself rules batches = (facts : List Event) × AreTold batches facts × StandFor batches facts × AllRight rules [] facts
 
--- it is a fault of changes
-abbrev pub IsOfChanges : StateFault → Type 0
-IsOfChanges Memory = Unit {0}
-IsOfChanges (Spelling fault) = Unit {0}
-IsOfChanges (Follows fault) = Unit {0}
-IsOfChanges _ = ⊥
+-- WHY NONE IS MADE
 
--- the first batch is an image
-abbrev pub IsImaged : List (List ℕ) → Type 0
-IsImaged batches = (image : ImageFact) × (later : List (List ℕ)) × BeginWithImage batches image later
+-- the event is refused as the next one behind a list
+abbrev pub RefusesNext : {H : Type 0} → Hosting H → Outset H → List Event → Event → RedoFault → Type 0
+RefusesNext {H = H} hosting outset before e fault =
+    (making : SeenRemaking H) × FitsRemaking hosting making outset before (last_moment 0 before)
+    × (change : Change) × (change_of change ≡ e.change) × RefusesRedo hosting making e.moment change fault
 
--- why no server is made of the first batch
-abbrev pub RefusesImage : List (List ℕ) → StateFault → Type 0
-RefusesImage batches (Image fault) = IsImaged batches
-RefusesImage batches (Hook name fault) = IsImaged batches
-RefusesImage batches fault = IsOfImage fault
+-- One of the changes that the batches tell is refused behind those before it; or, behind all of them, more consents are kept than
+-- may be.
+abbrev pub RefusesChange : {H : Type 0} → Hosting H → Outset H → List (List ℕ) → RedoFault → Type 0
+RefusesChange hosting outset batches fault =
+    ((front later : List (List ℕ)) × (before behind : List Event) × (e : Event) × (batches ≡ front ++ later)
+    × AreTold front (before ++ e ∷ behind) × RefusesNext hosting outset before e fault)
+    ⊎ ((fault ≡ ConsentsFull) × (facts : List Event) × AreTold batches facts × (consent_limit < consents_kept facts))
 
--- Why no server is made of the batches: for their rules, or else, where the rules are taken, for their image or for their
--- changes.
-abbrev pub RefuseServer : List (List ℕ) → RulesFact → StateFault → Type 0
-RefuseServer batches now (Follows fault) = TakesRules batches now
-RefuseServer batches now (Image fault) = TakesRules batches now × IsImaged batches
-RefuseServer batches now (Hook name fault) = TakesRules batches now × IsImaged batches
-RefuseServer batches now (Spelling fault) = RefuseRules batches now (Spelling fault) ⊎ TakesRules batches now
-RefuseServer batches now fault = RefuseRules batches now fault
+-- why no server is made of the changes of the batches
+abbrev pub RefusesList : {H : Type 0} → Hosting H → Outset H → List (List ℕ) → StateFault → Type 0
+RefusesList hosting outset batches Memory = Unit {0}
+RefusesList hosting outset batches (Spelling fault) = TellNone batches
+RefusesList hosting outset batches (Follows fault) = RefusesChange hosting outset batches fault
+RefusesList hosting outset batches _ = ⊥
+
+-- Why no server is made of the batches: for their rules, or else, where the rules are taken, for their changes.
+abbrev pub RefuseServer : {H : Type 0} → Hosting H → Outset H → List (List ℕ) → StateFault → Type 0
+RefuseServer hosting outset batches fault =
+    RefuseRules batches (rules_of outset.rules) fault ⊎ (TakesRules batches (rules_of outset.rules) × RefusesList hosting outset batches fault)
 
 -- why none is made of the bytes: they are no file of batches, or these are refused
-abbrev pub RefusesResume : List ℕ → RulesFact → StateFault → Type 0
-RefusesResume left now NotState = RefusesFile left reading.NotState
-RefusesResume left now (Version version) = RefusesFile left (reading.Version version)
-RefusesResume left now (Damaged number) = RefusesFile left (reading.Damaged number)
-RefusesResume left now fault = RefuseServer (recovered left) now fault
+abbrev pub RefusesResume : {H : Type 0} → Hosting H → Outset H → List ℕ → StateFault → Type 0
+RefusesResume hosting outset left NotState = RefusesFile left reading.NotState
+RefusesResume hosting outset left (Version version) = RefusesFile left (reading.Version version)
+RefusesResume hosting outset left (Damaged number) = RefusesFile left (reading.Damaged number)
+RefusesResume hosting outset left fault = RefuseServer hosting outset (recovered left) fault
 
 -- HOOKS
 
@@ -150,12 +104,7 @@ Sets {H = H} hosting old hooks new =
     FitsRestored hosting new outset (with_hooks old.moment history hooks) × AreSet hooks (with_hooks old.moment history hooks)
     × AreNoted old.server new.server history (with_hooks old.moment history hooks)
 
--- the server fits no history
-abbrev pub FitsNone : {H : Type 0} → Hosting H → Restored H → Type 0
-FitsNone {H = H} hosting restored =
-    (outset : Outset H) (history : List Event) → FitsRestored hosting restored outset history → ⊥
-
--- why the hook is not set: another of its name is, or the host refuses it, or the server is none of any history
+-- why the hook is not set: another of its name is, or the host refuses it
 abbrev pub RefusesSetting : {H : Type 0} → Hosting H → Restored H → HookFact → StateFault → Type 0
 RefusesSetting hosting restored hook Memory = Unit {0}
 RefusesSetting hosting restored hook (HookDiffers name) =
@@ -163,7 +112,6 @@ RefusesSetting hosting restored hook (HookDiffers name) =
 RefusesSetting hosting restored hook (Hook name fault) =
     (string_bytes name ≡ hook.name) × (hook_named hook.name restored.hooks ≡ None)
     × hosting.refuses_install restored.server.host hook.name (layout_of hook.version) hook.code fault
-RefusesSetting hosting restored hook (Follows fault) = FitsNone hosting restored
 RefusesSetting hosting restored hook _ = ⊥
 
 -- one of the hooks is not set, once those before it are
@@ -178,10 +126,10 @@ RefusesSome {H = H} hosting These hooks fault = (restored : Restored H) × These
 
 -- A START
 
--- The history is right under rules that the bytes tell. It is asked for where they begin with an image alone.
+-- The history is right under rules that the bytes tell. It is asked for where it is not the list itself that they tell.
 abbrev pub WasRight : List ℕ → List Event → Type 0
 WasRight left history =
-    HaveNoImage (recovered left) ⊎ ((old : RegistryRecord) × TellsRules left (rules_of old) × AllRight old [] history)
+    AreTold (recovered left) history ⊎ ((old : RegistryRecord) × TellsRules left (rules_of old) × AllRight old [] history)
 
 -- so it is of each history that the bytes stand for, that was right and that was run
 abbrev pub OfEachHistory : {H : Type 0} → Hosting H → H → List ℕ → (List Event → Type 0) → Type 0

@@ -1,10 +1,18 @@
 -- What batches stand for once there are more of them. For proofs alone.
-use Rattle.std.proofs.Common.{◌≡◌, ◌≤◌, ◌∙◌, inl, inr, ℕ, max, List, [], ◌∷◌, ◌++◌, refl, sym, ap, subst, append_assoc, arith}
-use Rattle.state_file.specs.Names.{recovered, Event, HaveSpelling, batch_spelling, Happened, ImageFact, ImageFits, image_spelling}
+use Rattle.std.proofs.Common.{◌≡◌, ◌≤◌, ◌∙◌, ℕ, zero, suc, max, List, [], ◌∷◌, ◌++◌, refl, sym, ap, subst, append_assoc, arith}
+use Rattle.state_file.specs.Names.{Event, HaveSpelling, batch_spelling}
 use Rattle.std.proofs.lemmas.List.{append-nil}
 use Rattle.std.specs.Prelude.{IsSome}
-use Rattle.consent.specs.HistoryLaws.{Happened-joined, Happened-none, Happened-nothing}
-use Rattle.state_file.specs.Standing.{AreTold, Begin, IsImageOf, StandFor, StandsFor, horizon, horizon_in, until_of}
+use Rattle.change_codec.specs.SpellingLaws.{one_list}
+use Rattle.consent.specs.History.{Happened, event_at, greatest_family, last_moment}
+use Rattle.consent.specs.History.Change.{Numbered}
+use Rattle.consent.specs.HistoryLaws.{Happened-none, last-joined}
+use Rattle.consent.specs.GrowthLaws.{greatest_family-append}
+use Rattle.shortening.specs.Standing.{IsLeftOf}
+use Rattle.shortening.specs.StandingLaws.{left-grown, left-renewed, greatest-renewed, last-numbered}
+use Rattle.shortening.specs.Shortened.{shortened}
+use Rattle.state_file.specs.Renewing.{IsShortened, left_numbered}
+use Rattle.state_file.specs.Standing.{AreTold, IsTold, StandFor, horizon, horizon_in, until_of}
 
 -- the changes of some batches, and of those behind them
 pub AreTold-joined : (batches more : List (List ℕ)) (facts others : List Event) → AreTold batches facts → AreTold more others →
@@ -36,48 +44,58 @@ AreTold-rules fields = ([], [], refl, refl, refl)
 pub AreTold-horizon : (until : ℕ) → IsSome (horizon_in (horizon until)) → AreTold (horizon until ∷ []) []
 AreTold-horizon until is = ([], [], (is, refl), refl, refl)
 
--- what begins so does with more batches
-Begin-more : (batches : List (List ℕ)) (history : List Event) (later more : List (List ℕ)) → Begin batches history later → Begin (batches ++ more) history (later ++ more)
-Begin-more batches history later more (inl none) = inl (none.0, ap (λ (bs : List (List ℕ)). bs ++ more) none.1)
-Begin-more batches history later more (inr of) = inr (of.0, of.1, (of.2.0, ap (λ (bs : List (List ℕ)). bs ++ more) of.2.1))
+-- the batches tell one list
+is_one : (batch : List ℕ) (some others : List Event) → IsTold batch some → IsTold batch others → some ≡ others
+is_one (zero ∷ rules) some others a b = a ∙ sym b
+is_one (suc (suc (suc zero)) ∷ bytes) some others a b = a.1 ∙ sym b.1
+is_one _ some others a b = one_list some others a.0 b.0 (sym a.1 ∙ b.1)
+
+pub one_told : (batches : List (List ℕ)) (some others : List Event) → AreTold batches some → AreTold batches others → some ≡ others
+one_told [] some others a b = a ∙ sym b
+one_told (batch ∷ batches) some others a b =
+    let first : a.0 ≡ b.0 = is_one batch a.0 b.0 a.2 b.2 in
+    let later : a.1 ≡ b.1 = one_told batches a.1 b.1 a.3 b.3 in
+    a.4 ∙ ap (λ (ds : List Event). ds ++ a.1) first ∙ ap (λ (ds : List Event). b.0 ++ ds) later ∙ sym b.4
 
 -- what the batches stood for, with what happened then
 pub StandFor-joined : (batches more : List (List ℕ)) (before after : List Event) (facts : List Event) → StandFor batches before →
     AreTold more facts → Happened before facts after → StandFor (batches ++ more) after
-StandFor-joined batches more before after facts stands told happened = record {
-  base = stands.base;
-  later = stands.later ++ more;
-  facts = stands.facts ++ facts;
-  begins = Begin-more batches stands.base stands.later more stands.begins;
-  told = AreTold-joined stands.later more stands.facts facts stands.told told;
-  happened = Happened-joined stands.base before after stands.facts facts stands.happened happened;
-}
+StandFor-joined batches more before after facts stands told happened =
+    subst (λ (h : List Event). StandFor (batches ++ more) h) (sym happened.leads) (record {
+      facts = stands.facts ++ facts;
+      told = AreTold-joined batches more stands.facts facts stands.told told;
+      left =
+          subst (λ (m : ℕ). IsLeftOf (stands.facts ++ facts) (before ++ facts) m) (sym (last-joined 0 before facts))
+          (left-grown stands.facts before (last_moment 0 before) facts stands.left (record { follow = happened.follow; in_order = happened.in_order }));
+      moment = last-joined 0 stands.facts facts ∙ ap (λ (m : ℕ). last_moment m facts) stands.moment ∙ sym (last-joined 0 before facts);
+      number =
+          greatest_family-append stands.facts facts ∙ ap (λ (n : ℕ). max n (greatest_family facts)) stands.number
+          ∙ sym (greatest_family-append before facts);
+    })
 
 -- batches without changes more, as rules or horizons
 pub StandFor-beside : (batches more : List (List ℕ)) (history : List Event) → AreTold more [] → StandFor batches history → StandFor (batches ++ more) history
 StandFor-beside batches more history told stands = StandFor-joined batches more history history [] stands told (Happened-none history)
 
--- no batch stands for no event
-pub StandsFor-none : (left : List ℕ) (history : List Event) → recovered left ≡ [] → StandsFor left history → history ≡ []
-StandsFor-none left history none stands = by stands.begins stands.told stands.happened
+-- batches that tell what is left stand for each history for which the others do
+pub StandFor-shortened : (old new : List (List ℕ)) (history : List Event) → IsShortened old new → StandFor old history → StandFor new history
+StandFor-shortened old new history short stands =
+    let m : ℕ = last_moment 0 history in
+    let at : last_moment 0 stands.facts ≡ m = stands.moment in
+    record {
+      facts = left_numbered stands.facts;
+      told = short.left stands.facts stands.told;
+      left =
+          subst (λ (n : ℕ). IsLeftOf (shortened n stands.facts ++ numbered n stands.facts ∷ []) history m) (sym at)
+          (left-renewed stands.facts history m stands.left stands.number);
+      moment = last-numbered (shortened (last_moment 0 stands.facts) stands.facts) history (last_moment 0 stands.facts) (greatest_family stands.facts) ∙ at;
+      number =
+          subst (λ (n : ℕ). greatest_family (shortened n stands.facts ++ numbered n stands.facts ∷ []) ≡ greatest_family history) (sym at)
+          (greatest-renewed stands.facts history m stands.left stands.number);
+    }
   where
-    by : Begin (recovered left) stands.base stands.later → AreTold stands.later stands.facts → Happened stands.base stands.facts history → history ≡ []
-    by (inl b) told happened =
-        let facts : stands.facts ≡ [] = subst (λ (batches : List (List ℕ)). AreTold batches stands.facts) (b.1 ∙ none) told in
-        Happened-nothing stands.base history (subst (λ (ds : List Event). Happened stands.base ds history) facts happened) ∙ b.0
-    by (inr b) told happened = let e = sym none ∙ b.2.1 in absurd cc
-
--- an image, with batches without changes behind it, stands for each history that it is one of
-pub StandFor-image : (image : ImageFact) (more : List (List ℕ)) (history : List Event) → ImageFits image → AreTold more [] →
-    IsImageOf image history → StandFor (image_spelling image ∷ more) history
-StandFor-image image more history fits told is = record {
-  base = history;
-  later = more;
-  facts = [];
-  begins = inr (image, is, (fits, refl));
-  told = told;
-  happened = Happened-none history;
-}
+    numbered : ℕ → List Event → Event
+    numbered n facts = event_at n (Numbered (greatest_family facts))
 
 -- HORIZONS
 

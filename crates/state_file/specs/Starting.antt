@@ -3,7 +3,7 @@ use Rattle.std.specs.Prelude.{◌≡◌, ◌⊎◌, ℕ, List, None}
 use Rattle.state_file.specs.Names.{recovered, Device, StateFault}
 use Rattle.batch_file.specs.Crashes.{LeavesOnly, Only}
 use Rattle.state_file.specs.Knowing.{SeenKeeper}
-use Rattle.state_file.specs.Making.{end_of}
+use Rattle.state_file.specs.Knowing.{end_of}
 use Rattle.state_file.specs.declared.fault.StateFault.TheVariants as state
 
 -- what a crash left stands for the batches, or is what one at the old moment might have left

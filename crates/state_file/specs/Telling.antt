@@ -1,6 +1,6 @@
 -- The rules that a state file tells.
-use Rattle.std.specs.Prelude.{◌≡◌, ◌⊎◌, ℕ, zero, suc, List, [], ◌∷◌, length, map, Option, None, Some}
-use Rattle.state_file.specs.Names.{option_or, recovered, RegistryRecord, ClientFact, RulesFact, ImageFact, RulesFit, ImageFits, rules_spelling, image_spelling}
+use Rattle.std.specs.Prelude.{◌≡◌, ℕ, zero, List, [], ◌∷◌, length, map, Option, None, Some}
+use Rattle.state_file.specs.Names.{option_or, recovered, RegistryRecord, ClientFact, RulesFact, RulesFit, rules_spelling}
 use Rattle.clients.specs.ClientRecord.{ClientRecord}
 
 -- what is told of a client
@@ -17,10 +17,9 @@ rules_of registry = record {
   refresh_life = registry.refresh_life;
 }
 
--- the batch, if it tells rules: it is of rules alone, which begin with a byte 0, or an image, which begins with a byte 2
+-- the batch, if it tells rules: these begin with a byte 0
 abbrev pub rules_in : List ℕ → Option (List ℕ)
 rules_in (zero ∷ fields) = Some (0 ∷ fields)
-rules_in (suc (suc zero) ∷ fields) = Some (2 ∷ fields)
 rules_in _ = None
 
 -- the last batch that tells rules
@@ -32,15 +31,9 @@ last_rules (batch ∷ batches) = option_or (last_rules batches) (rules_in batch)
 abbrev pub IsOfRules : List ℕ → RulesFact → Type 0
 IsOfRules bytes rules = RulesFit rules × (bytes ≡ rules_spelling rules)
 
--- the batch spells these rules, or an image under them
-abbrev pub TellsIn : List ℕ → RulesFact → Type 0
-TellsIn batch rules =
-    IsOfRules batch rules
-    ⊎ ((image : ImageFact) × ImageFits image × (image.rules ≡ rules) × (batch ≡ image_spelling image))
-
 -- the last batch that tells rules tells these
 abbrev pub Tell : List (List ℕ) → RulesFact → Type 0
-Tell batches rules = (batch : List ℕ) × (last_rules batches ≡ Some batch) × TellsIn batch rules
+Tell batches rules = (batch : List ℕ) × (last_rules batches ≡ Some batch) × IsOfRules batch rules
 
 -- so it is of the batches that the bytes stand for
 abbrev pub TellsRules : List ℕ → RulesFact → Type 0

@@ -1,10 +1,9 @@
 -- What rules a state file tells once it has one batch more, and that it tells one. For proofs alone.
-use Rattle.std.proofs.Common.{◌≡◌, inl, inr, ℕ, List, [], ◌∷◌, ◌++◌, Option, None, Some, refl, sym, ap, ◌∙◌, subst}
-use Rattle.state_file.specs.Names.{option_or, Fault, RulesFact, ImageFact}
+use Rattle.std.proofs.Common.{◌≡◌, ℕ, List, [], ◌∷◌, ◌++◌, Option, None, Some, refl, sym, ap, ◌∙◌, subst}
+use Rattle.state_file.specs.Names.{option_or, Fault, RulesFact, rules_reading}
 use Rattle.std.specs.Prelude.{Ok, Err}
-use Rattle.image_codec.specs.SpellingLaws.{image_reading_again, one_image, one_rules, rules_reading_again}
-use Rattle.state_file.specs.Comparing.{IsMisspelled}
-use Rattle.state_file.specs.Telling.{rules_in, last_rules, Tell, TellsIn}
+use Rattle.rules_codec.specs.SpellingLaws.{one_rules, rules_reading_again}
+use Rattle.state_file.specs.Telling.{rules_in, last_rules, IsOfRules, Tell}
 
 or_none : {A : Type 0} (x : Option A) → option_or x None ≡ x
 or_none None = refl
@@ -21,30 +20,23 @@ last_rules-push (b ∷ batches) batch =
     ap (λ (o : Option (List ℕ)). option_or o (rules_in b)) (last_rules-push batches batch) ∙ or_assoc (rules_in batch) (last_rules batches) (rules_in b)
 
 -- the last batch that tells rules tells them
-pub tell_in : (batches : List (List ℕ)) (batch : List ℕ) (told : RulesFact) → last_rules batches ≡ Some batch → Tell batches told → TellsIn batch told
+pub tell_in : (batches : List (List ℕ)) (batch : List ℕ) (told : RulesFact) → last_rules batches ≡ Some batch → Tell batches told → IsOfRules batch told
 tell_in batches batch told is tells =
     let both : Some tells.0 ≡ Some batch = sym tells.1 ∙ is in
     let same : tells.0 ≡ batch = cc in
-    subst (λ (b : List ℕ). TellsIn b told) same tells.2
+    subst (λ (b : List ℕ). IsOfRules b told) same tells.2
 
 -- a batch tells one rules
-pub tells_one : (batch : List ℕ) (some others : RulesFact) → TellsIn batch some → TellsIn batch others → some ≡ others
-tells_one batch some others (inl a) (inl b) = one_rules some others a.0 b.0 (sym a.1 ∙ b.1)
-tells_one batch some others (inl a) (inr b) = let e = sym a.1 ∙ b.3 in absurd cc
-tells_one batch some others (inr a) (inl b) = let e = sym a.3 ∙ b.1 in absurd cc
-tells_one batch some others (inr a) (inr b) = sym a.2 ∙ ap (λ (i : ImageFact). i.rules) (one_image a.0 b.0 a.1 b.1 (sym a.3 ∙ b.3)) ∙ b.2
+pub tells_one : (batch : List ℕ) (some others : RulesFact) → IsOfRules batch some → IsOfRules batch others → some ≡ others
+tells_one batch some others a b = one_rules some others a.0 b.0 (sym a.1 ∙ b.1)
 
 -- and so do bytes
 pub tell_one : (batches : List (List ℕ)) (some others : RulesFact) → Tell batches some → Tell batches others → some ≡ others
 tell_one batches some others a b = tells_one a.0 some others a.2 (tell_in batches a.0 others a.1 b)
 
 -- what spells no rules tells none
-pub tells_none : (batch : List ℕ) (fault : Fault) (told : RulesFact) → IsMisspelled batch fault → TellsIn batch told → ⊥
-tells_none batch fault told is (inl of) =
-    let read = subst (λ (b : List ℕ). IsMisspelled b fault) of.1 is in
+pub tells_none : (batch : List ℕ) (fault : Fault) (told : RulesFact) → rules_reading batch ≡ Err fault → IsOfRules batch told → ⊥
+tells_none batch fault told is of =
+    let read = subst (λ (b : List ℕ). rules_reading b ≡ Err fault) of.1 is in
     let e : Err fault ≡ Ok told = sym read ∙ rules_reading_again told of.0 in
-    absurd cc
-tells_none batch fault told is (inr of) =
-    let read = subst (λ (b : List ℕ). IsMisspelled b fault) of.3 is in
-    let e : Err fault ≡ Ok of.0 = sym read ∙ image_reading_again of.0 of.1 in
     absurd cc

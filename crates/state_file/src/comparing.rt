@@ -1,11 +1,11 @@
 //! Whether a registry's rules are as wide as those that a file tells.
 
 ghost use Rattle.std.specs.Prelude.{◌≡◌, OnOk, IfErr, map, option_copied};
-ghost use Rattle.image_codec.specs.Facts.{client_fact, rules_fact};
+ghost use Rattle.rules_codec.specs.Facts.{client_fact, rules_fact};
 ghost use Rattle.state_file.specs.Comparing.{AreAsWide, AreNarrower, client_names, first_moved, first_narrowed};
 
 use crate::fault::StateFault;
-use image_codec::{ClientRules, Rules};
+use rules_codec::{ClientRules, Rules};
 use std::alloc::Global;
 
 /// The first of the names that does not have its place now.

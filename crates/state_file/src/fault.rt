@@ -1,14 +1,14 @@
 //! Why a server is not started on a state file.
 
 ghost use Rattle.std.specs.Prelude.{◌≡◌};
-ghost use Rattle.state_file.specs.Faults.{of_adding, of_reading, of_redoing, of_replacing, of_restoring, of_encoding, state_fault_of_decoding};
+ghost use Rattle.state_file.specs.Faults.{of_adding, of_reading, of_redoing, of_replacing, of_encoding, state_fault_of_decoding};
 ghost use Rattle.state_file.specs.declared.fault.StateFault.TheVariants.{Memory};
 
 use batch_file::device::ReplaceFault;
 use batch_file::frames::AddFault;
 use batch_file::framing::ReadFault;
 use batch_file::system::SystemFault;
-use endpoints::{RedoFault, RestoreFault};
+use endpoints::RedoFault;
 use hook_host::HookFault;
 use std::alloc::{AllocError, AllocFailed};
 use std::fmt::{self, Display, Formatter, Write};
@@ -36,7 +36,7 @@ pub enum StateFault {
     TooLong,
     /// The first batch does not tell rules.
     NoRules,
-    /// A batch spells no dated changes, no rules and no image.
+    /// A batch spells no dated changes, no rules and no horizon.
     Spelling(Fault),
     /// The scope of this name has another place in the registry, or none.
     ScopeMoved(String),
@@ -48,10 +48,8 @@ pub enum StateFault {
     ClientNarrowed(String),
     /// Tokens may not live as long.
     LifeNarrowed,
-    /// A change does not follow those before it.
+    /// A change does not stand behind those before it.
     Follows(RedoFault),
-    /// No server is made of the image.
-    Image(RestoreFault),
     /// A hook of this name is set that has another version or code.
     HookDiffers(String),
     /// The hook of this name is refused.
@@ -77,7 +75,6 @@ impl Display for StateFault {
             StateFault::ClientNarrowed(name) => write!(f, "ClientNarrowed {name}"),
             StateFault::LifeNarrowed => write!(f, "LifeNarrowed"),
             StateFault::Follows(fault) => write!(f, "Follows {fault}"),
-            StateFault::Image(fault) => write!(f, "Image {fault}"),
             StateFault::HookDiffers(name) => write!(f, "HookDiffers {name}"),
             StateFault::Hook(name, fault) => write!(f, "Hook {name} {fault}"),
         }
@@ -129,17 +126,6 @@ impl From<RedoFault> for StateFault {
         match redoing {
             RedoFault::Memory => StateFault::Memory,
             fault => StateFault::Follows(fault),
-        }
-    }
-}
-
-impl From<RestoreFault> for StateFault {
-    ghost from_gives = { λ restoring fault. fault ≡ of_restoring restoring };
-
-    fn from(restoring: RestoreFault) -> StateFault {
-        match restoring {
-            RestoreFault::Memory => StateFault::Memory,
-            fault => StateFault::Image(fault),
         }
     }
 }

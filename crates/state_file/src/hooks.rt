@@ -1,14 +1,12 @@
 //! The hooks that the changes of a state file set.
 
-ghost use Rattle.std.specs.Prelude.{◌≡◌, ◌↔◌, ◌++◌, ◌∷◌, [], List, Some, IsTrue, IfOk, IfSome, OnOk, map, option_copied};
+ghost use Rattle.std.specs.Prelude.{◌≡◌, ◌↔◌, ◌++◌, ◌∷◌, [], List, IsTrue, IfOk, OnOk, map, option_copied};
 ghost use Rattle.consent.specs.Changes.{change_of};
-ghost use Rattle.change_codec.specs.Spelling.{dated_facts};
-ghost use Rattle.image_codec.specs.Facts.{HookFact, hook_fact};
-ghost use Rattle.state_file.specs.Hooks.{AreBehind, hooks_after, hooks_with, hook_named, without_hook};
+ghost use Rattle.rules_codec.specs.Facts.{HookFact, hook_fact};
+ghost use Rattle.state_file.specs.Hooks.{hooks_with, hook_named, without_hook};
 
-use change_codec::{DatedChange, decode};
 use consent::{Change, RecordVersion};
-use image_codec::KeptHook;
+use rules_codec::KeptHook;
 use std::alloc::{AllocError, Global};
 use std::marker::Model;
 
@@ -22,7 +20,7 @@ pub struct SetHook {
 
 impl Model for SetHook {
     ghost use Rattle.std.specs.Prelude.{string_bytes};
-    ghost use Rattle.image_codec.specs.Facts.{HookFact};
+    ghost use Rattle.rules_codec.specs.Facts.{HookFact};
 
     ghost Value = { HookFact };
 
@@ -58,7 +56,7 @@ pub struct SetHooks {
 
 impl Model for SetHooks {
     ghost use Rattle.std.specs.Prelude.{List};
-    ghost use Rattle.image_codec.specs.Facts.{HookFact};
+    ghost use Rattle.rules_codec.specs.Facts.{HookFact};
 
     ghost Value = { List HookFact };
 
@@ -84,7 +82,12 @@ impl SetHooks {
     }
 
     // A hook is set behind the others.
-    fn push(&mut self, name: &str, version: RecordVersion, code: &[u8]) -> Result<(), AllocError>
+    pub(crate) fn push(
+        &mut self,
+        name: &str,
+        version: RecordVersion,
+        code: &[u8],
+    ) -> Result<(), AllocError>
         ensures { OnOk result (self.new ≡ self.old ++ record { name = name.now; version = version; code = code.now } ∷ []) }
     {
         let name = String::from_str(self.alloc, name)?;
@@ -105,7 +108,7 @@ impl SetHooks {
     }
 
     /// Those that are set after the change.
-    pub fn follow(&mut self, change: &Change<'_>) -> Result<(), AllocError>
+    pub(crate) fn follow(&mut self, change: &Change<'_>) -> Result<(), AllocError>
         ensures { OnOk result (self.new ≡ hooks_with self.old (change_of change.now)) }
     {
         match change {
@@ -120,56 +123,6 @@ impl SetHooks {
             }
             _ => Ok(()),
         }
-    }
-
-    // Those that are set after the changes, one after the other.
-    fn follow_each(&mut self, changes: &[DatedChange<'_>]) -> Result<(), AllocError>
-        ensures { OnOk result (self.new ≡ hooks_after self.old (dated_facts changes.now)) }
-    {
-        let mut rest = changes;
-        while let [dated, later @ ..] = rest {
-            self.follow(&dated.change)?;
-            rest = later;
-        }
-        Ok(())
-    }
-
-    // Those that are set behind the dated changes that a batch spells.
-    fn follow_batch(&mut self, batch: &[u8]) -> Result<(), AllocError>
-        ensures { OnOk result (AreBehind self.old batch.now self.new) }
-    {
-        let Ok(changes) = decode(self.alloc, batch) else {
-            return Err(AllocError);
-        };
-        self.follow_each(&changes)
-    }
-
-    /// Those that are set behind the dated changes that a batch spells. Where memory is refused, they are not known any more.
-    pub(crate) fn behind(before: Option<SetHooks>, batch: &[u8]) -> Option<SetHooks>
-        ensures { IfSome result (λ hooks. (set : List HookFact) × (before ≡ Some set) × AreBehind set batch.now hooks) }
-    {
-        let mut hooks = before?;
-        hooks.follow_batch(batch).ok()?;
-        Some(hooks)
-    }
-
-    /// The same once more.
-    pub(crate) fn copy(&self) -> Result<SetHooks, AllocError>
-        ensures { IfOk result (λ set. set ≡ self.now) }
-    {
-        let list = self.listed(self.alloc)?;
-        SetHooks::of(self.alloc, list.as_slice())
-    }
-
-    /// Those that are listed.
-    pub(crate) fn of(alloc: Global, hooks: &[KeptHook<'_>]) -> Result<SetHooks, AllocError>
-        ensures { IfOk result (λ set. set ≡ map hook_fact hooks.now) }
-    {
-        let mut set = SetHooks::new(alloc);
-        for hook in hooks {
-            set.push(hook.name, hook.version, hook.code)?;
-        }
-        Ok(set)
     }
 
     /// A list of them.

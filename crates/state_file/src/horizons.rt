@@ -1,12 +1,10 @@
 //! Horizons: until which moment what was told by the clock is kept.
 
-ghost use Rattle.std.specs.Prelude.{◌≡◌, ◌++◌, [], ◌∷◌, ◌<◌, ◌^◌, OnOk, IfOk, length, max};
+ghost use Rattle.std.specs.Prelude.{◌≡◌, max};
 ghost use Rattle.batch_file.specs.Frames.{lists};
-ghost use Rattle.state_file.specs.Standing.{horizon, horizon_in, horizons, until_of};
+ghost use Rattle.state_file.specs.Standing.{horizon, horizon_in, until_of};
 
-use batch_file::frames::{AddFault, Frames};
 use consent::Moment;
-use std::alloc::{AllocError, Global};
 
 /// The horizon of a moment.
 pub(crate) fn horizon(until: Moment) -> [u8; 9]
@@ -49,29 +47,4 @@ pub fn until_of(batches: &[Vec<u8>]) -> Moment
         rest = behind;
     }
     until
-}
-
-// A batch more, which is short.
-fn add(frames: &mut Frames, batch: &[u8]) -> Result<(), AllocError>
-    requires { length batch.now < 2 ^ 32 }
-    ensures { OnOk result (frames.new ≡ frames.old ++ batch.now ∷ []) }
-{
-    match frames.add(batch) {
-        Ok(()) => Ok(()),
-        Err(AddFault::Memory) => Err(AllocError),
-        Err(AddFault::TooLong) => unreachable!(),
-    }
-}
-
-/// The batches of a file that has an image, and the horizon of a moment, if that is any.
-pub fn image_frames(alloc: Global, image: &[u8], until: Moment) -> Result<Frames, AllocError>
-    requires { length image.now < 2 ^ 32 }
-    ensures { IfOk result (λ frames. frames ≡ image.now ∷ horizons until) }
-{
-    let mut frames = Frames::new(alloc)?;
-    add(&mut frames, image)?;
-    if until.get() > 0 {
-        add(&mut frames, &horizon(until))?;
-    }
-    Ok(frames)
 }

@@ -2,8 +2,8 @@
 
 ghost use Rattle.std.specs.Prelude.{◌≡◌, ◌≤◌, ◌<◌, ◌+◌, ◌-◌, ◌^◌, min};
 
-use crate::hooks::SetHooks;
 use crate::horizons::horizon;
+use crate::sizes::size_behind;
 use batch_file::appending::{BatchFault, BatchFile};
 use batch_file::device::Device;
 use change_codec::{Batch, KeepFault, Keeper};
@@ -24,16 +24,14 @@ const LAST: u64 = (1 << 63) - 1;
 pub(crate) struct Known {
     /// The rules, as the file tells them.
     pub(crate) rules: Vec<u8>,
-    /// The hooks that its changes set, unless memory was refused for them.
-    pub(crate) hooks: Option<SetHooks>,
-    /// How many bytes its image has, if it has one.
-    pub(crate) image: usize,
+    /// How many bytes of its frames were left when it was shortened.
+    pub(crate) shortened: usize,
     /// The greatest moment of its horizons.
     pub(crate) until: Moment,
 }
 
-/// Keeps the changes of each round and the moment in a state file, and puts an image of the server in their place once the
-/// file is long. Where the disk has failed once, it keeps nothing more.
+/// Keeps the changes of each round and the moment in a state file, and puts what is left of them in their place once the file
+/// is long. Where the disk has failed once, it keeps nothing more.
 #[derive(Drop)]
 pub struct StateKeeper<D: Device> {
     pub(crate) file: BatchFile<D>,
@@ -93,7 +91,7 @@ impl<D: Device> Keeper for StateKeeper<D> {
 
     ghost tells = { LeftTells };
 
-    ghost may_leave = { λ k c. D.may_leave k.file.device c ⊎ (c ≡ D.seen k.file.device) };
+    ghost may_leave = { λ k c. D.may_leave k.file.device c ⊎ (D.reads_true k.file.device × (c ≡ D.seen k.file.device)) };
 
     ghost moment = { λ k. D.moment k.file.device };
 
@@ -111,9 +109,12 @@ impl<D: Device> Keeper for StateKeeper<D> {
         if self.fault.is_some() {
             return Err(KeepFault::Failed);
         }
-        self.known.hooks = SetHooks::behind(self.known.hooks.take(), batch.bytes());
         match self.file.append(batch.bytes()) {
-            Ok(()) => Ok(()),
+            Ok(()) => {
+                let size = self.file.end - 16;
+                self.known.shortened = size_behind(batch.bytes(), size, self.known.shortened);
+                Ok(())
+            }
             Err(fault) => {
                 self.fault = Some(fault);
                 Err(KeepFault::Failed)
@@ -149,10 +150,13 @@ impl<D: Device> Keeper for StateKeeper<D> {
 
 impl<D: Device> ImageKeeper for StateKeeper<D> {
     ghost use Rattle.state_file.specs.Knowing.{IsLongFile};
+    ghost use Rattle.state_file.specs.Renewing.{ShortensFile};
 
     ghost is_long = { λ k. IsLongFile D.seen k.file };
 
-    fn put_image<H: HookHost>(&mut self, server: &Server<H>) -> Result<(), ImageFault> {
-        self.shorten(server)
+    ghost shortens = { ShortensFile D.Device };
+
+    fn put_image<H: HookHost>(&mut self, _server: &Server<H>) -> Result<(), ImageFault> {
+        self.shorten()
     }
 }

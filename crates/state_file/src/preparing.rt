@@ -4,7 +4,7 @@ ghost use Rattle.std.specs.Prelude.{◌≡◌, [], IfOk, IfErr, OnOk, map, optio
 ghost use Rattle.clients.specs.RegistryRecord.{RegistryRecord};
 ghost use Rattle.endpoints.specs.Server.{NowNotes, outset_of};
 ghost use Rattle.endpoints.specs.Widening.{IsWider};
-ghost use Rattle.image_codec.specs.Facts.{hook_fact};
+ghost use Rattle.rules_codec.specs.Facts.{hook_fact};
 ghost use Rattle.state_file.specs.Knowing.{IsKnown};
 ghost use Rattle.state_file.specs.Making.{AreKeptShort, Makes, RefusesMaking, on_bytes};
 ghost use Rattle.state_file.specs.MakingParts.{AreAdded, IsUnadded, StandInFor};
@@ -12,18 +12,19 @@ ghost use Rattle.state_file.specs.Telling.{TellsRules, rules_of};
 ghost use Rattle.state_file.specs.declared.fault.StateFault.TheVariants.{Memory};
 
 use crate::fault::StateFault;
-use crate::hooks::SetHooks;
-use crate::horizons::image_frames;
 use crate::keeper::Known;
-use crate::renewing::{is_short, spelled_image};
+use crate::listing::changes_in;
 use crate::restored::Restored;
 use crate::resuming::{Resumed, resume};
+use crate::short::short_of;
+use crate::sizes::{is_short, size_behind};
 use batch_file::frames::Frames;
+use batch_file::framing::{Batches, read_batches};
 use clients::Registry;
 use consent::Moment;
-use endpoints::{ImageFault, Server};
+use endpoints::Server;
 use hook_host::HookHost;
-use image_codec::KeptHook;
+use rules_codec::KeptHook;
 use std::alloc::Global;
 use std::marker::Model;
 
@@ -70,45 +71,52 @@ fn add_noted<H: HookHost>(
         return Ok(());
     }
     frames.add(batch.bytes())?;
-    known.hooks = SetHooks::behind(known.hooks.take(), batch.bytes());
+    let size = frames.len_of_file() - 17;
+    known.shortened = size_behind(batch.bytes(), size, known.shortened);
     server.forget_unkept();
     Ok(())
 }
 
-/// Where batches are long, an image of the server and a horizon take their place, unless the image is too large.
-fn keep_short<H: HookHost>(
-    alloc: Global,
-    server: &Server<H>,
-    frames: Frames,
-    known: &mut Known,
-) -> Result<Frames, StateFault>
+/// Where batches are long, what is left of their list takes their place, unless some of it is too long for a batch.
+fn keep_short(alloc: Global, frames: Frames, known: &mut Known) -> Result<Frames, StateFault>
     requires known { IsKnown frames known.old }
     ensures known { IfOk result (λ short. IsKnown short known.new) }
-    ensures stands { IfOk result (StandInFor H.HookHost server.now frames) }
-    ensures short { IfOk result (AreKeptShort H.HookHost server.now) }
+    ensures stands { IfOk result (StandInFor frames) }
+    ensures short { IfOk result AreKeptShort }
     ensures refused { IfErr result (λ fault. fault ≡ Memory) }
 {
-    if is_short(frames.len_of_file() - 1, known.image) {
+    if is_short(frames.len_of_file() - 1, known.shortened) {
         return Ok(frames);
     }
-    let Some(hooks) = &known.hooks else {
+    let bytes = frames.into_bytes();
+    let Ok(
+        Batches {
+            batches,
+            frames,
+            torn: _torn,
+        },
+    ) = read_batches(alloc, &bytes)
+    else {
         return Err(StateFault::Memory);
     };
-    match spelled_image(alloc, server, hooks, known.rules.as_slice()) {
-        Ok(image) => {
-            let short = image_frames(alloc, image.as_slice(), known.until)?;
-            known.image = image.len();
-            Ok(short)
+    drop(bytes);
+    let Ok(changes) = changes_in(alloc, &batches) else {
+        return Err(StateFault::Memory);
+    };
+    match short_of(alloc, &known.rules, &changes, known.until) {
+        Ok(short) => {
+            known.shortened = short.shortened;
+            Ok(short.frames)
         }
-        Err(ImageFault::TooLong) => Ok(frames),
+        Err(StateFault::Full) => Ok(frames),
         Err(_) => Err(StateFault::Memory),
     }
 }
 
-/// Makes all that a server is started with on the bytes of a state file, whatever a crash left there. It is made of the file's
-/// image, if there is one, and all changes of the batches behind that are made again under these rules. A hook is then set,
-/// unless it is, at the moment from which the server goes on: the last change's, or the last horizon's. The batches are those that
-/// were read, the rules and the hooks where they lack them, or an image of the server where they are long.
+/// Makes all that a server is started with on the bytes of a state file, whatever a crash left there. All changes that
+/// the file tells are made again under these rules. A hook is then set, unless it is, at the moment from which the server goes on:
+/// the last change's, or the last horizon's. The batches are those that were read, the rules and the hooks where they lack them,
+/// or what is left of them where they are long.
 pub fn prepare<H: HookHost>(
     alloc: Global,
     bytes: &[u8],
@@ -135,7 +143,7 @@ pub fn prepare<H: HookHost>(
         hooks: _hooks,
     } = restored;
     add_noted(&mut server, &mut frames, &mut known)?;
-    let frames = keep_short(alloc, &server, frames, &mut known)?;
+    let frames = keep_short(alloc, frames, &mut known)?;
     Ok(Prepared {
         server,
         frames,

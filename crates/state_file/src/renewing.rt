@@ -1,93 +1,106 @@
-//! An image of a server in the place of all that a state file has.
+//! What is left of a list in the place of all that a state file has.
 
-ghost use Rattle.std.specs.Prelude.{◌≡◌, ◌≢◌, ◌<◌, ◌^◌, true, false, length, OnOk, IfOk, IfErr, IsErrOf, IsSome};
-ghost use Rattle.batch_file.specs.Frames.{recovered};
-ghost use Rattle.endpoints.specs.Imaging.{KeepsImage, KeepsNoImage};
-ghost use Rattle.endpoints.specs.declared.image_keeper.ImageFault.TheVariants.{TooLong, Failed};
-ghost use Rattle.change_codec.specs.Keeping.{KeepsBasis, TellsBasis};
-ghost use Rattle.state_file.specs.Knowing.{IsLong, IsLongFile, file_crashes};
-ghost use Rattle.state_file.specs.Renewing.{HasTooMuch, IsUnspelled, SpellImage};
+ghost use Rattle.std.specs.Prelude.{◌≡◌, ◌≢◌, ◌<◌, ◌^◌, length, Some, IfOk, IfErr, IsErrOf, IsSome, OnOk};
+ghost use Rattle.batch_file.specs.Frames.{lists, recovered};
+ghost use Rattle.change_codec.specs.Keeping.{HeldMeanwhile, HoldsStill, KeepsBasis, TellsBasis};
+ghost use Rattle.endpoints.specs.declared.image_keeper.ImageFault.TheVariants.{Failed};
+ghost use Rattle.state_file.specs.Knowing.{IsLongFile, file_crashes};
+ghost use Rattle.state_file.specs.Renewing.{ShortensFile};
+ghost use Rattle.state_file.specs.ShortParts.{IsShortOfBytes};
+ghost use Rattle.state_file.specs.Telling.{rules_in};
 
-use crate::hooks::SetHooks;
-use crate::horizons::image_frames;
-use crate::imaging::image_of;
+use crate::fault::StateFault;
 use crate::keeper::StateKeeper;
+use crate::listing::changes_in;
+use crate::short::{Short, short_of};
+use crate::sizes::is_short;
 use batch_file::appending::{BatchFault, RenewFault};
-use batch_file::device::Device;
-use endpoints::{ImageFault, Server};
-use hook_host::HookHost;
-use image_codec::{decode_rules, encode};
+use batch_file::device::{Device, DeviceFault};
+use batch_file::framing::{ReadFault, read_batches};
+use consent::Moment;
+use endpoints::ImageFault;
 use std::alloc::Global;
-use wire::EncodeFault;
 
-/// A file of fewer bytes is left as it is.
-const SMALL: usize = 1 << 20;
-
-/// The spelling of the image of a server, with these hooks, under the rules that the bytes spell.
-pub(crate) fn spelled_image<H: HookHost>(
-    alloc: Global,
-    server: &Server<H>,
-    hooks: &SetHooks,
-    rules: &[u8],
-) -> Result<Vec<u8>, ImageFault>
-    ensures is { IfOk result (λ bytes. SpellImage H.HookHost server.now hooks.now rules.now bytes.items) }
-    ensures short { IfOk result (λ bytes. length bytes.items < 2 ^ 32) }
-    ensures refused { IfErr result (IsUnspelled H.HookHost server.now hooks.now) }
+/// Why what is left of a list is not put in a file's place.
+fn fault_of(fault: StateFault) -> ImageFault
+    ensures { result ≢ Failed }
 {
-    let Ok(rules) = decode_rules(alloc, rules) else {
-        return Err(ImageFault::Memory);
-    };
-    let image = image_of(alloc, server, hooks, rules)?;
-    let bytes = match encode(alloc, &image) {
-        Ok(bytes) => bytes,
-        Err(EncodeFault::TooLong) => return Err(ImageFault::TooLong),
-        Err(EncodeFault::Memory) => return Err(ImageFault::Memory),
-    };
-    if bytes.len() > u32::MAX as usize {
-        return Err(ImageFault::TooLong);
+    match fault {
+        StateFault::Memory => ImageFault::Memory,
+        StateFault::Full => ImageFault::TooLong,
+        _ => ImageFault::Unwritten,
     }
-    Ok(bytes)
 }
 
-/// Whether batches that take so many bytes are short, beside an image of so many.
-pub(crate) fn is_short(end: usize, image: usize) -> bool
-    ensures short { result ≡ true → ¬ (IsLong end image) }
-    ensures long { result ≡ false → IsLong end image }
+/// The batches that a file's bytes stand for. All else goes.
+fn batches_of(alloc: Global, bytes: Vec<u8>) -> Result<Vec<Vec<u8>>, ImageFault>
+    ensures batches { IfOk result (λ batches. lists batches.items ≡ recovered bytes.items) }
+    ensures refused { IfErr result (λ fault. fault ≢ Failed) }
 {
-    end <= SMALL || end / 4 <= image
+    match read_batches(alloc, &bytes) {
+        Ok(read) => Ok(read.batches),
+        Err(ReadFault::Memory) => Err(ImageFault::Memory),
+        Err(_) => Err(ImageFault::Unwritten),
+    }
+}
+
+/// Batches that tell what is left of the list that a file's bytes tell.
+fn short_of_bytes(
+    alloc: Global,
+    rules: &[u8],
+    bytes: Vec<u8>,
+    until: Moment,
+) -> Result<Short, ImageFault>
+    requires rules { rules_in rules.now ≡ Some rules.now }
+    requires few { length rules.now < 2 ^ 32 }
+    ensures short { IfOk result (IsShortOfBytes bytes.items rules.now until) }
+    ensures refused { IfErr result (λ fault. fault ≢ Failed) }
+{
+    let batches = batches_of(alloc, bytes)?;
+    let changes = match changes_in(alloc, &batches) {
+        Ok(changes) => changes,
+        Err(fault) => return Err(fault_of(fault)),
+    };
+    match short_of(alloc, rules, &changes, until) {
+        Ok(short) => Ok(short),
+        Err(fault) => Err(fault_of(fault)),
+    }
 }
 
 impl<D: Device> StateKeeper<D> {
-    /// Where the file is longer than 1 MB, and than four times its image, the image of a server and a horizon are put in the place
-    /// of all that it has. Where it is not known whether they stand there, or the file was moved, the keeper keeps nothing more.
-    pub(crate) fn shorten<H: HookHost>(&mut self, server: &Server<H>) -> Result<(), ImageFault>
-        ensures kept { OnOk result (KeepsImage H.HookHost (file_crashes D.Device) server.now self.old self.new) }
-        ensures basis { OnOk result (KeepsBasis (file_crashes D.Device) self.old self.new) }
+    /// Where the file is longer than 1 MB, and than four times what was left when it was shortened, what is left of its list
+    /// takes the place of all that it has. Where it is not known whether it stands there, or the file was moved, the keeper keeps
+    /// nothing more.
+    pub(crate) fn shorten(&mut self) -> Result<(), ImageFault>
+        ensures kept { IfErr result (λ fault. fault ≢ Failed → HoldsStill (file_crashes D.Device) self.old self.new) }
+        ensures basis { IfErr result (λ fault. fault ≢ Failed → KeepsBasis (file_crashes D.Device) self.old self.new) }
+        ensures size { IfErr result (λ fault. fault ≢ Failed → self.new.file.end ≡ self.old.file.end) }
+        ensures holds { OnOk result (HoldsStill (file_crashes D.Device) self.old self.new) }
+        ensures tells { OnOk result (KeepsBasis (file_crashes D.Device) self.old self.new) }
         ensures meanwhile { TellsBasis (file_crashes D.Device) self.old self.new }
         ensures short { OnOk result (¬ (IsLongFile D.seen self.new.file)) }
         ensures left { OnOk result (¬ (IsLongFile D.seen self.old.file) → self.new ≡ self.old) }
+        ensures shortened { OnOk result (IsLongFile D.seen self.old.file → ShortensFile D.Device self.old self.new) }
         ensures refused { IfErr result (λ fault. fault ≢ Failed → IsLongFile D.seen self.old.file) }
-        ensures same { IfErr result (λ fault. fault ≢ Failed → self.new ≡ self.old) }
-        ensures too_much { IsErrOf result TooLong → HasTooMuch H.HookHost server.now (recovered (D.seen self.old.file.device)) }
         ensures fails { IsErrOf result Failed → IsSome self.new.fault }
         ensures works { OnOk result (¬ (IsSome self.new.fault)) }
-        ensures failed { IsErrOf result Failed →
-            KeepsNoImage H.HookHost (file_crashes D.Device) server.now self.old self.new }
+        ensures failed { IsErrOf result Failed → HeldMeanwhile (file_crashes D.Device) self.old self.new }
     {
         if self.fault.is_some() {
             return Err(ImageFault::Failed);
         }
-        if is_short(self.file.end, self.known.image) {
+        if is_short(self.file.end, self.known.shortened) {
             return Ok(());
         }
-        let Some(hooks) = &self.known.hooks else {
-            return Err(ImageFault::Memory);
+        let bytes = match self.file.read(self.alloc) {
+            Ok(bytes) => bytes,
+            Err(DeviceFault::Memory) => return Err(ImageFault::Memory),
+            Err(DeviceFault::Failed(_)) => return Err(ImageFault::Unwritten),
         };
-        let image = spelled_image(self.alloc, server, hooks, self.known.rules.as_slice())?;
-        let frames = image_frames(self.alloc, image.as_slice(), self.known.until)?;
-        match self.file.replace(frames) {
+        let short = short_of_bytes(self.alloc, &self.known.rules, bytes, self.known.until)?;
+        match self.file.replace(short.frames) {
             Ok(()) => {
-                self.known.image = image.len();
+                self.known.shortened = short.shortened;
                 Ok(())
             }
             Err(RenewFault::Memory) => Err(ImageFault::Memory),

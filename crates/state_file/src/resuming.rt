@@ -1,22 +1,21 @@
 //! Making a server of the bytes of a state file.
 
-ghost use Rattle.std.specs.Prelude.{◌≡◌, ◌≤◌, None, IfOk, IfErr};
+ghost use Rattle.std.specs.Prelude.{◌≡◌, ◌≤◌, None, IfOk, IfErr, OnOk};
 ghost use Rattle.clients.specs.RegistryRecord.{RegistryRecord};
 ghost use Rattle.endpoints.specs.Server.{outset_of};
 ghost use Rattle.endpoints.specs.Widening.{IsWider};
 ghost use Rattle.batch_file.specs.Frames.{recovered, torn_of};
 ghost use Rattle.state_file.specs.Knowing.{IsKnown};
 ghost use Rattle.state_file.specs.MakingParts.{AreToldBehind};
-ghost use Rattle.state_file.specs.Resuming.{AnswersFor, RefusesResume};
+ghost use Rattle.state_file.specs.Resuming.{AnswersFor, ListsItself, RefusesResume};
 ghost use Rattle.state_file.specs.Standing.{IsMomentTold, until_of};
 ghost use Rattle.state_file.specs.Telling.{TellsRules, rules_of};
 
-use crate::beginning::{Beginning, begin};
 use crate::fault::StateFault;
 use crate::horizons::until_of;
 use crate::keeper::Known;
-use crate::redoing::redo_all;
-use crate::restored::Restored;
+use crate::restored::{Restored, remake};
+use crate::sizes::shortened_size;
 use crate::telling::{rules_behind, tell};
 use batch_file::frames::Frames;
 use batch_file::framing::{Batches, read_batches};
@@ -36,8 +35,8 @@ pub(crate) struct Resumed<H> {
     pub(crate) torn: Vec<u8>,
 }
 
-/// Makes a server of the bytes of a state file: of its image, if there is one, and of all changes of the batches behind it,
-/// which are made again under these rules. It goes on from no moment before the file's horizons.
+/// Makes a server of the bytes of a state file: all changes that they tell are made again under these rules. It goes on from no
+/// moment before the file's horizons.
 pub(crate) fn resume<H: HookHost>(
     alloc: Global,
     bytes: &[u8],
@@ -45,6 +44,7 @@ pub(crate) fn resume<H: HookHost>(
     host: H,
 ) -> Result<Resumed<H>, StateFault>
     ensures answers { IfOk result (λ resumed. AnswersFor H.HookHost bytes.now (outset_of registry host) resumed.restored) }
+    ensures listed { OnOk result (ListsItself registry (recovered bytes.now)) }
     ensures unnoted { IfOk result (λ resumed. resumed.restored.server.unkept ≡ None) }
     ensures later { IfOk result (λ resumed. until_of (recovered bytes.now) ≤ resumed.restored.moment) }
     ensures moment { IfOk result (λ resumed. IsMomentTold (recovered bytes.now) resumed.restored.moment) }
@@ -53,7 +53,7 @@ pub(crate) fn resume<H: HookHost>(
     ensures told { IfOk result (λ resumed. AreToldBehind (recovered bytes.now) (rules_of registry) resumed.frames) }
     ensures known { IfOk result (λ resumed. IsKnown resumed.frames resumed.known) }
     ensures torn { IfOk result (λ resumed. resumed.torn.items ≡ torn_of bytes.now) }
-    ensures refused { IfErr result (RefusesResume bytes.now (rules_of registry)) }
+    ensures refused { IfErr result (RefusesResume H.HookHost (outset_of registry host) bytes.now) }
 {
     let Batches {
         batches: list,
@@ -62,21 +62,18 @@ pub(crate) fn resume<H: HookHost>(
     } = read_batches(alloc, bytes)?;
     let batches = list.as_slice();
     let rules = rules_behind(alloc, batches, &registry)?;
-    let Beginning {
-        mut restored,
-        later,
-        image,
-    } = begin(alloc, registry, host, batches)?;
-    if let Err((_, fault)) = redo_all(alloc, &mut restored, later) {
-        return Err(fault);
-    }
+    let restored = match remake(alloc, registry, host, batches) {
+        Ok(restored) => restored,
+        Err((_, fault)) => return Err(fault),
+    };
     let until = until_of(batches);
-    restored.reach(until);
+    // It bounds what is counted.
+    let _ = frames.len_of_file();
+    let shortened = shortened_size(batches);
     tell(&mut frames, &rules)?;
     let known = Known {
         rules: rules.bytes,
-        hooks: Some(restored.hooks.copy()?),
-        image,
+        shortened,
         until,
     };
     Ok(Resumed {

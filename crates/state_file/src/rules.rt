@@ -1,13 +1,13 @@
 //! The rules of a registry, as a state file tells them.
 
 ghost use Rattle.std.specs.Prelude.{◌≡◌, IfOk, IfErr, length, map};
-ghost use Rattle.image_codec.specs.Facts.{client_fact, rules_fact};
+ghost use Rattle.rules_codec.specs.Facts.{client_fact, rules_fact};
 ghost use Rattle.state_file.specs.Telling.{client_told, rules_of};
 ghost use Rattle.state_file.specs.Comparing.{IsUntold};
 
 use crate::fault::StateFault;
 use clients::{ClientNo, Registry};
-use image_codec::{ClientRules, Rules};
+use rules_codec::{ClientRules, Rules};
 use std::alloc::{AllocError, Global};
 
 /// The names of the scopes.
@@ -42,7 +42,7 @@ fn first_clients(
 }
 
 /// The rules of a registry. Their texts lie in it.
-#[tactic(auto, unfolding(image_codec::specs::Formats::rules_format))]
+#[tactic(auto, unfolding(rules_codec::specs::Formats::rules_format))]
 pub fn registry_rules(alloc: Global, registry: &Registry) -> Result<Rules<'_>, StateFault>
     ensures rules { IfOk result (λ rules. rules_fact rules ≡ rules_of registry.now) }
     ensures refused { IfErr result (IsUntold (rules_of registry.now)) }

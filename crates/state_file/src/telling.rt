@@ -1,12 +1,12 @@
 //! What rules a state file tells, and telling a registry's.
 
-ghost use Rattle.std.specs.Prelude.{◌++◌, ◌∷◌, [], ◌≡◌, ◌↔◌, Some, true, false, IsTrue, IfOk, IfErr, OnOk, option_copied};
+ghost use Rattle.std.specs.Prelude.{◌++◌, ◌∷◌, [], ◌≡◌, ◌<◌, ◌^◌, ◌↔◌, Some, length, true, false, IsTrue, IfOk, IfErr, OnOk, option_copied};
 ghost use Rattle.batch_file.specs.Frames.{lists};
 ghost use Rattle.change_codec.specs.Rules.{RulesFact};
-ghost use Rattle.image_codec.specs.Facts.{rules_fact};
-ghost use Rattle.image_codec.specs.Spelling.{RulesCount, RulesFit, rules_spelling};
-ghost use Rattle.state_file.specs.Comparing.{AreAsWide, IsUnread, IsUnwritten, RefuseBeside, RefuseRules, TakesRules};
-ghost use Rattle.state_file.specs.Telling.{BeginWithRules, Tell, TellsIn, last_rules, rules_in, rules_of};
+ghost use Rattle.rules_codec.specs.Facts.{rules_fact};
+ghost use Rattle.rules_codec.specs.Spelling.{RulesCount, RulesFit, rules_spelling};
+ghost use Rattle.state_file.specs.Comparing.{AreAsWide, IsUnread, IsUntold, IsUnwritten, RefuseBeside, RefuseRules, TakesRules};
+ghost use Rattle.state_file.specs.Telling.{BeginWithRules, IsOfRules, Tell, last_rules, rules_in, rules_of};
 ghost use Rattle.state_file.specs.declared.fault.StateFault.TheVariants.{Memory};
 
 use crate::comparing::compare;
@@ -14,7 +14,7 @@ use crate::fault::StateFault;
 use crate::rules::registry_rules;
 use batch_file::frames::{AddFault, Frames};
 use clients::Registry;
-use image_codec::{Image, Rules, decode, decode_rules, encode_rules};
+use rules_codec::{Rules, decode_rules, encode_rules};
 use std::alloc::Global;
 use wire::EncodeFault;
 
@@ -33,7 +33,6 @@ pub fn tells_rules(batch: &[u8]) -> bool
 {
     match batch {
         [0, ..] => true,
-        [2, ..] => true,
         _ => false,
     }
 }
@@ -62,27 +61,13 @@ pub fn last_rules(batches: &[Vec<u8>]) -> Option<&[u8]>
 }
 
 /// The rules that a batch tells.
-#[tactic(auto, using(image_codec::specs::SpellingLaws::rules_of_fitting))]
 pub fn told_rules(alloc: Global, batch: &[u8]) -> Result<Rules<'_>, StateFault>
-    ensures told { IfOk result (λ rules. TellsIn batch.now (rules_fact rules)) }
-    ensures one { IfOk result (λ rules. (others : RulesFact) → TellsIn batch.now others → others ≡ rules_fact rules) }
+    ensures told { IfOk result (λ rules. IsOfRules batch.now (rules_fact rules)) }
+    ensures one { IfOk result (λ rules. (others : RulesFact) → IsOfRules batch.now others → others ≡ rules_fact rules) }
     ensures fit { IfOk result (λ rules. RulesFit (rules_fact rules)) }
     ensures refused { IfErr result (IsUnread batch.now) }
 {
-    match batch {
-        [2, ..] => {
-            let Image {
-                rules,
-                greatest: _,
-                last: _,
-                records: _records,
-                consents: _consents,
-                hooks: _hooks,
-            } = decode(alloc, batch)?;
-            Ok(rules)
-        }
-        _ => Ok(decode_rules(alloc, batch)?),
-    }
+    Ok(decode_rules(alloc, batch)?)
 }
 
 /// Whether the bytes spell the rules.
@@ -99,18 +84,32 @@ fn are_spelled(alloc: Global, rules: &Rules<'_>, bytes: &[u8]) -> Result<bool, S
 }
 
 /// Tests whether rules are as wide as those that a batch tells, and says whether it tells just these.
-#[tactic(auto, using(image_codec::specs::SpellingLaws::fit_counts))]
+#[tactic(auto, using(rules_codec::specs::SpellingLaws::fit_counts))]
 fn tells_as(alloc: Global, batch: &[u8], now: &Rules<'_>, bytes: &[u8]) -> Result<bool, StateFault>
     requires spelled { bytes.now ≡ rules_spelling (rules_fact now.now) }
     requires fit { RulesFit (rules_fact now.now) }
-    ensures wide { OnOk result ((told : RulesFact) → TellsIn batch.now told → AreAsWide told (rules_fact now.now)) }
-    ensures told { IfOk result (λ told. IsTrue told ↔ TellsIn batch.now (rules_fact now.now)) }
+    ensures wide { OnOk result ((told : RulesFact) → IsOfRules batch.now told → AreAsWide told (rules_fact now.now)) }
+    ensures told { IfOk result (λ told. IsTrue told ↔ IsOfRules batch.now (rules_fact now.now)) }
     ensures refused { IfErr result (RefuseBeside batch.now (rules_fact now.now)) }
 {
     let told = told_rules(alloc, batch)?;
     compare(alloc, &told, now)?;
     let same = are_spelled(alloc, &told, bytes)?;
     Ok(same)
+}
+
+/// The spelling of rules, where they may be told.
+pub fn spell_rules(alloc: Global, rules: &Rules<'_>) -> Result<Vec<u8>, StateFault>
+    ensures spelled { IfOk result (λ bytes. bytes.items ≡ rules_spelling (rules_fact rules.now)) }
+    ensures fit { OnOk result (RulesFit (rules_fact rules.now)) }
+    ensures few { IfOk result (λ bytes. length bytes.items < 2 ^ 32) }
+    ensures refused { IfErr result (IsUntold (rules_fact rules.now)) }
+{
+    let bytes = encode_rules(alloc, rules)?;
+    if bytes.len() > u32::MAX as usize {
+        return Err(StateFault::TooLong);
+    }
+    Ok(bytes)
 }
 
 /// The spelling of the registry's rules, which are as wide as those that the batches told last.
@@ -121,12 +120,13 @@ pub fn rules_behind(
 ) -> Result<Spelled, StateFault>
     ensures spelled { IfOk result (λ rules. rules.bytes.items ≡ rules_spelling (rules_of registry.now)) }
     ensures fit { OnOk result (RulesFit (rules_of registry.now)) }
+    ensures few { IfOk result (λ rules. length rules.bytes.items < 2 ^ 32) }
     ensures taken { OnOk result (TakesRules (lists batches.now) (rules_of registry.now)) }
     ensures told { IfOk result (λ rules. IsTrue rules.told ↔ Tell (lists batches.now) (rules_of registry.now)) }
     ensures refused { IfErr result (RefuseRules (lists batches.now) (rules_of registry.now)) }
 {
     let rules = registry_rules(alloc, registry)?;
-    let bytes = encode_rules(alloc, &rules)?;
+    let bytes = spell_rules(alloc, &rules)?;
     if !begin_with_rules(batches) {
         return Err(StateFault::NoRules);
     }

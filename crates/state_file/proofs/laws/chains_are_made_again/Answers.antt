@@ -2,4 +2,4 @@ use Rattle.state_file.specs.ReplayingLaws.{replays}
 use Rattle.state_file.proofs.laws.chains_are_made_again.Goals as goal
 
 pub returns : goal.returns
-returns c = λ history chain run front is. replays history chain run front is
+returns c = λ left history stands chain run. replays left history stands chain run

@@ -49,7 +49,7 @@ returns-clause-makes g c =
     let server = c.add_noted.new.server in
     let new = c.in_ok-frames.frames in
     let told = rules_of registry in
-    let leads : LeadOn hosting set.server server told (recovered bytes) new =
+    let leads : LeadOn set.server told (recovered bytes) new =
     record { told = c.in_ok-restored.field-0.frames; tell = c.in_ok-restored.ensures.told; more = c.add_noted.new.frames; added = c.in_ok-add_noted.ensures.added; in_for = c.in_ok-frames.ensures.stands } in
     let on = on_bytes bytes (outset_of registry c.args.host) (map hook_fact c.args.hooks.now) in
     record {
@@ -57,8 +57,9 @@ returns-clause-makes g c =
           makes_from hosting on (record { server = server; batches = new; moment = set.moment; torn = c.in_ok-restored.field-0.torn.items }) restored c.begin_noting.new.self set told history
           (c.in_ok-restored.ensures.answers history stands (right_now bytes history registry c.in_ok-restored.ensures.wider was) run) begins c.in_ok-set_hooks.ensures.set c.in_ok-set_hooks.ensures.moment
           c.add_noted.ensures.same c.in_ok-add_noted.ensures.unkept refl leads stands;
-      tell = lead_tell hosting set.server server told (recovered bytes) new leads;
-      kept = lead_until hosting set.server server told (recovered bytes) new leads;
+      listed = c.in_ok-restored.ensures.listed;
+      tell = lead_tell leads;
+      kept = lead_until leads;
       later = (let le = c.in_ok-restored.ensures.later in let same = c.in_ok-set_hooks.ensures.moment in omega (arith, le, same));
       moment_is = subst (λ (m : ℕ). IsMomentTold (recovered bytes) m) (sym c.in_ok-set_hooks.ensures.moment) c.in_ok-restored.ensures.moment;
       short = c.in_ok-frames.ensures.short;

@@ -1,5 +1,5 @@
 use Rattle.std.proofs.Common.{◌≡◌, map, take}
-use Rattle.image_codec.specs.Facts.{hook_fact}
+use Rattle.rules_codec.specs.Facts.{hook_fact}
 use Rattle.state_file.proofs.hooks.SetHooks.listed.Given as goal
 
 abbrev pub invariant-loop-hook : goal.invariant-loop-hook

@@ -1,0 +1,15 @@
+-- The list of dated changes that batches tell.
+use Rattle.std.specs.Prelude.{ℕ, List}
+use Rattle.state_file.specs.Names.{Event, StateFault, Spelling}
+use Rattle.state_file.specs.Standing.{AreTold}
+use Rattle.state_file.specs.declared.fault.StateFault.TheVariants.{Memory}
+
+-- the batches tell no list
+abbrev pub TellNone : List (List ℕ) → Type 0
+TellNone batches = (facts : List Event) → AreTold batches facts → ⊥
+
+-- why the list is not had: memory was refused, or they tell none
+abbrev pub IsUnlisted : List (List ℕ) → StateFault → Type 0
+IsUnlisted batches Memory = Unit {0}
+IsUnlisted batches (Spelling fault) = TellNone batches
+IsUnlisted batches _ = ⊥

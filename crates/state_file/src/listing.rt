@@ -1,0 +1,41 @@
+//! The list of dated changes that batches tell.
+
+ghost use Rattle.std.specs.Prelude.{◌∷◌, [], IfOk, IfErr};
+ghost use Rattle.batch_file.specs.Frames.{lists};
+ghost use Rattle.change_codec.specs.Spelling.{dated_facts};
+ghost use Rattle.state_file.specs.Listing.{IsUnlisted};
+ghost use Rattle.state_file.specs.Standing.{AreTold};
+
+use crate::fault::StateFault;
+use crate::horizons::horizon_in;
+use change_codec::{DatedChange, decode};
+use std::alloc::Global;
+use wire::Fault;
+
+/// The dated changes of a batch: rules and a horizon have none.
+pub(crate) fn changes_of(alloc: Global, batch: &[u8]) -> Result<Vec<DatedChange<'_>>, StateFault>
+    ensures told { IfOk result (λ list. AreTold (batch.now ∷ []) (dated_facts list.items)) }
+    ensures refused { IfErr result (IsUnlisted (batch.now ∷ [])) }
+{
+    match batch {
+        [0, ..] => Ok(Vec::new(alloc)),
+        [3, ..] => match horizon_in(batch) {
+            Some(_) => Ok(Vec::new(alloc)),
+            None => Err(StateFault::Spelling(Fault::Moment)),
+        },
+        _ => Ok(decode(alloc, batch)?),
+    }
+}
+
+/// The dated changes that batches tell, one after the other.
+pub fn changes_in(alloc: Global, batches: &[Vec<u8>]) -> Result<Vec<DatedChange<'_>>, StateFault>
+    ensures told { IfOk result (λ list. AreTold (lists batches.now) (dated_facts list.items)) }
+    ensures refused { IfErr result (IsUnlisted (lists batches.now)) }
+{
+    let mut list = Vec::new(alloc);
+    for batch in batches {
+        let changes = changes_of(alloc, batch)?;
+        list.extend_from_slice(&changes)?;
+    }
+    Ok(list)
+}
