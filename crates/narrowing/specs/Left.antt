@@ -3,13 +3,13 @@ use Rattle.std.specs.Prelude.{◌≡◌, ℕ, List, [], Bool, true, false, not, 
 use Rattle.clients.specs.Clients.{client_at}
 use Rattle.clients.specs.RegistryRecord.{RegistryRecord}
 use Rattle.consent.specs.Consents.{KeptConsents, FitsConsents}
-use Rattle.consent.specs.History.{Event, Change, Grant, Terms, event_at, is_within, code_terms, grant_at, grants, has_ended, is_good, is_unexpired, IsHistory}
+use Rattle.consent.specs.History.{Event, Change, Grant, Terms, event_at, is_within, code_terms, grant_at, grants, is_good, is_unexpired, IsHistory}
 use Rattle.consent.specs.History.Change.{CodeGiven, Issued, FamilyEnded}
 use Rattle.consent.specs.declared.grant.TokenKind.{TokenKind}
 use Rattle.consent.specs.declared.change.NewToken.{NewToken}
 use Rattle.endpoints.specs.Bounded.{AllRight, allowed_to, token_life_limit}
-use Rattle.token_store.specs.Fits.{FitsHistory}
-use Rattle.token_store.specs.Kept.{Kept}
+use Rattle.shortening.specs.Left.{KeepsFamily}
+use Rattle.shortening.specs.Standing.{IsLeftOf}
 
 -- the client may not be allowed all of the scope
 abbrev pub goes_beyond : RegistryRecord → ℕ → ℕ → Bool
@@ -78,15 +78,10 @@ LeavesRight old new =
 abbrev pub KeepsConsents : List Event → List Event → Type 0
 KeepsConsents history left = (kept : KeptConsents) → FitsConsents kept history → FitsConsents kept left
 
--- the family has its terms, and has ended where it had
-pub record KeepsFamily (history left : List Event) (family : ℕ) : Type 0 where
-  pub terms : code_terms left family ≡ code_terms history family
-  pub ended : has_ended left family ≡ has_ended history family
-
--- so it is of each that is not beyond the rules
+-- each family that is not beyond the rules has its terms, and has ended where it had
 abbrev pub KeepsFamilies : RegistryRecord → List Event → List Event → Type 0
 KeepsFamilies rules history left = (family : ℕ) → is_beyond_rules rules history family ≡ false → KeepsFamily history left family
 
--- those that are left of what is kept of a history are kept of what is left of it
-abbrev pub FitsLeft : RegistryRecord → ℕ → List Kept → List Kept → Type 0
-FitsLeft rules moment kept left = (history : List Event) → FitsHistory kept history moment → FitsHistory left (left_under rules history) moment
+-- the list is left of what happened when both are left under the rules, as it was before
+abbrev pub IsLeftStill : RegistryRecord → List Event → List Event → ℕ → Type 0
+IsLeftStill rules list history m = IsLeftOf list history m → IsLeftOf (left_under rules list) (left_under rules history) m

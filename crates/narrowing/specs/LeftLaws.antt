@@ -6,7 +6,7 @@ use Rattle.std.proofs.lemmas.Bool.Decides.{nat_tests}
 use Rattle.std.proofs.lemmas.List.Folds.{list_all-map}
 use Rattle.clients.specs.RegistryRecord.{RegistryRecord}
 use Rattle.consent.specs.ListLaws.{find-uncounted, count_by-narrower, count_by-cons}
-use Rattle.consent.specs.History.{Event, Change, Grant, Terms, grant_of, grants, grant_at, is_named, is_unexpired, unexpired_count, is_code_of, last_consent, consented_scope, consents_kept, opener, code_terms, terms_of, lowers, ends, is_lowered, has_ended, spends, is_spent, family_of, greatest_family, are_kin, all_kin, IsHistory}
+use Rattle.consent.specs.History.{Event, Change, Grant, Terms, grant_of, grants, grant_at, is_named, is_unexpired, unexpired_count, is_code_of, last_consent, consented_scope, consents_kept, opener, code_terms, terms_of, lowers, ends, is_lowered, has_ended, spends, is_spent, family_of, greatest_family, are_kin, all_kin, last_moment, IsHistory}
 use Rattle.consent.specs.History.Change.{CodeGiven, Issued, FamilyEnded}
 use Rattle.consent.specs.Consents.{KeptConsents, FitsConsents, unless_empty}
 use Rattle.consent.specs.declared.grant.Kind.{Kind}
@@ -28,7 +28,7 @@ module _ (rules : RegistryRecord) (beyond : ℕ → Bool) where
   pub consented_left : (es : List Event) (owner client : ℕ) → consented_scope (left_events es) owner client ≡ consented_scope es owner client
   consented_left es owner client = ap (λ o. unwrap_or o 0) (last_consent_left es owner client)
 
-  consents_kept_left : (es : List Event) → consents_kept (left_events es) ≡ consents_kept es
+  pub consents_kept_left : (es : List Event) → consents_kept (left_events es) ≡ consents_kept es
   consents_kept_left [] = refl
   consents_kept_left (e ∷ es) = let last = last_consent_left es in let more = consents_kept_left es in grind (arith, last, more)
 
@@ -56,7 +56,7 @@ module _ (rules : RegistryRecord) (beyond : ℕ → Bool) where
   pub unexpired_left : (t : ℕ) (g : Grant) → is_unexpired t (left_grant rules g) ≡ true → is_unexpired t g ≡ true
   unexpired_left t g is = grind (arith, nat_tests, is)
 
-  named_left : (digest : List ℕ) (t : ℕ) (g : Grant) → passes (is_named digest t) (grant_left g) ≡ true → is_named digest t g ≡ true
+  pub named_left : (digest : List ℕ) (t : ℕ) (g : Grant) → passes (is_named digest t) (grant_left g) ≡ true → is_named digest t g ≡ true
   named_left digest t g is = let was = unexpired_left t g in grind (arith, was, is)
 
   -- what a digest names is what is left of what it named
@@ -181,3 +181,8 @@ module _ (rules : RegistryRecord) (beyond : ℕ → Bool) where
     one_code = λ family. (let a = fewer (is_code_of family) es (λ g here. grind (arith, here)) in let b = is.one_code family in omega (arith, a, b));
     kin = all_kin_left es is.kin;
   }
+
+  -- nothing happened at another moment
+  pub last_left : (m : ℕ) (es : List Event) → last_moment m (left_events es) ≡ last_moment m es
+  last_left m [] = refl
+  last_left m (e ∷ es) = last_left e.moment es

@@ -53,6 +53,12 @@ module _ {X Y : Type 0} (left : X → Option Y) where
       let here = wide x in
       let more = find-left p q xs wide in grind (arith, c, same, fewer, none, here, more, le)
 
+  -- where nothing passes the wider test nothing is found
+  pub find_left-none : (p : X → Bool) (q : Y → Bool) → ((x : X) → passes q (left x) ≡ true → p x ≡ true) → (xs : List X) → find p xs ≡ None →
+      find q (filter_map left xs) ≡ None
+  find_left-none p q wide [] none = refl
+  find_left-none p q wide (x ∷ xs) none = let here = wide x in let more = find_left-none p q wide xs in grind (arith, here, more, none)
+
 -- The same, where all that passes the test is left.
 module _ {X : Type 0} (left : X → Option X) (kept : X → X) (p : X → Bool) (stays : (x : X) → p x ≡ true → left x ≡ Some (kept x))
     (same : (x y : X) → left x ≡ Some y → p y ≡ p x) where

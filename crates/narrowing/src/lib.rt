@@ -2,8 +2,11 @@
 //! beyond the rules have ended, tokens live no longer than they may, and all else stays.
 #![tactic(auto)]
 
+mod changes;
 mod laws;
 mod records;
+mod rules;
 
-pub use laws::what_is_left_is_right;
-pub use records::{ended_count, records_left};
+pub use changes::changes_left;
+pub use laws::{what_is_left_is_right, what_is_left_of_a_list_is_left};
+pub use records::ended_count;

@@ -1,15 +1,20 @@
 -- What is told of a state file, where no server is started on it.
-use Rattle.std.specs.Prelude.{◌≡◌, ◌≤◌, ◌⊎◌, ℕ, List, [], length}
+use Rattle.std.specs.Prelude.{◌≡◌, ◌≤◌, ◌⊎◌, ℕ, List, [], length, map}
 use Rattle.batch_file.specs.Frames.{RefusesFile, recovered, torn_of}
 use Rattle.clients.specs.RegistryRecord.{RegistryRecord}
+use Rattle.consent.specs.Consents.{FitsConsents, kept_consents}
+use Rattle.consent.specs.History.{Event, greatest_family}
 use Rattle.endpoints.specs.Widening.{IsWider}
 use Rattle.endpoints.specs.Server.{outset_of}
 use Rattle.hook_host.specs.declared.host.HookHost.{Ghosts as Hosting}
 use Rattle.change_codec.specs.Rules.{RulesFact}
-use Rattle.image_codec.specs.Facts.{ImageFact}
+use Rattle.rules_codec.specs.Facts.{StandingFact}
 use Rattle.state_file.specs.Resuming.{AnswersFor, OfEachHistory}
-use Rattle.state_file.specs.Standing.{IsImageOf, IsMomentTold, until_of}
+use Rattle.state_file.specs.Hooks.{hooks_set_in}
+use Rattle.state_file.specs.Standing.{IsMomentTold, until_of}
 use Rattle.state_file.specs.Telling.{IsOfRules, TellsRules, rules_of}
+use Rattle.token_store.specs.Fits.{FitsHistory}
+use Rattle.token_store.specs.Image.{kept_told}
 use Rattle.state_account.specs.declared.account.Account.{Account}
 use Rattle.state_account.specs.declared.account.AccountFault.{AccountFault}
 use Rattle.state_account.specs.declared.account.AccountFault.TheVariants as accounts
@@ -32,15 +37,25 @@ pub record IsAccountOf {H : Type 0} (hosting : Hosting H) (left : List ℕ) (fir
   pub moment_is : IsMomentTold (recovered left) account.restored.moment
   pub later : until_of (recovered left) ≤ account.restored.moment
 
--- the image is one of each history that the bytes stand for, under the rules that they tell
-pub record IsImageIn {H : Type 0} (hosting : Hosting H) (left : List ℕ) (first : H) (image : ImageFact) : Type 0 where
-  pub each : OfEachHistory hosting first left (λ history. IsImageOf image history)
-  pub told : TellIfAny left image.rules
+-- The standing is one of the history, from its moment on: its records answer as the history does, its consents are the owners'
+-- last ones, its last number is the greatest of a family, and its hooks are those that the history sets. Nothing in the history
+-- is later.
+pub record IsStandingOf (standing : StandingFact) (history : List Event) : Type 0 where
+  pub records : FitsHistory (map kept_told standing.records) history standing.greatest
+  pub consents : FitsConsents (kept_consents standing.consents) history
+  pub last : standing.last ≡ greatest_family history
+  pub hooks : standing.hooks ≡ hooks_set_in history
+
+-- the standing is one of each history that the bytes stand for, at the moment and under the rules that they tell
+pub record IsStandingIn {H : Type 0} (hosting : Hosting H) (left : List ℕ) (first : H) (standing : StandingFact) : Type 0 where
+  pub each : OfEachHistory hosting first left (λ history. IsStandingOf standing history)
+  pub moment_is : IsMomentTold (recovered left) standing.greatest
+  pub told : TellIfAny left standing.rules
 
 -- it is one of all bytes that the account is one of
-abbrev pub IsImageOfAccount : {H : Type 0} → Hosting H → Account H → ImageFact → Type 0
-IsImageOfAccount {H = H} hosting account image =
-    (left : List ℕ) (first : H) → IsAccountOf hosting left first account → IsImageIn hosting left first image
+abbrev pub IsStandingOfAccount : {H : Type 0} → Hosting H → Account H → StandingFact → Type 0
+IsStandingOfAccount {H = H} hosting account standing =
+    (left : List ℕ) (first : H) → IsAccountOf hosting left first account → IsStandingIn hosting left first standing
 
 -- FAULTS
 
@@ -60,8 +75,6 @@ abbrev pub IsOfBatch : StateFault → Type 0
 IsOfBatch state.NoRules = Unit {0}
 IsOfBatch (state.Spelling fault) = Unit {0}
 IsOfBatch (state.Follows fault) = Unit {0}
-IsOfBatch (state.Image fault) = Unit {0}
-IsOfBatch (state.Hook name fault) = Unit {0}
 IsOfBatch _ = ⊥
 
 -- memory was refused, or a batch is at fault

@@ -3,8 +3,8 @@
 ghost use Rattle.std.specs.Prelude.{◌≡◌, ◌≤◌, IfOk, IfErr};
 ghost use Rattle.batch_file.specs.Frames.{lists, recovered, torn_of};
 ghost use Rattle.endpoints.specs.Server.{outset_of};
-ghost use Rattle.image_codec.specs.Facts.{image_fact};
-ghost use Rattle.state_account.specs.Accounts.{IsAccountOf, IsImageOfAccount, IsOfBatches, RefusesAccount, fault_in};
+ghost use Rattle.rules_codec.specs.Facts.{standing_fact};
+ghost use Rattle.state_account.specs.Accounts.{IsAccountOf, IsStandingOfAccount, IsOfBatches, RefusesAccount, fault_in};
 ghost use Rattle.state_file.specs.Resuming.{AnswersForBatches};
 ghost use Rattle.state_file.specs.Standing.{IsMomentTold, until_of};
 ghost use Rattle.state_account.specs.declared.account.AccountFault.TheVariants.{Memory};
@@ -13,8 +13,8 @@ use crate::file_rules::file_rules;
 use batch_file::framing::{Batches, ReadFault, read_batches};
 use clients::Registry;
 use hook_host::HookHost;
-use image_codec::{Image, decode_rules};
-use state_file::{Beginning, Restored, StateFault, begin, redo_all, tells_rules, until_of};
+use rules_codec::{Standing, decode_rules};
+use state_file::{Restored, StateFault, remake, tells_rules};
 use std::alloc::{AllocError, Global};
 
 /// Why it is not told what a file stands for.
@@ -70,7 +70,7 @@ fn rules_number(batches: &[Vec<u8>]) -> usize {
 }
 
 /// A server of what the batches tell.
-#[tactic(auto, using(crate::proofs::Accounted::of_image, crate::proofs::Accounted::of_changes))]
+#[tactic(auto, using(crate::proofs::Accounted::of_list))]
 fn restored_of<H: HookHost>(
     alloc: Global,
     registry: Registry,
@@ -82,22 +82,10 @@ fn restored_of<H: HookHost>(
     ensures later { IfOk result (λ restored. until_of (lists batches.now) ≤ restored.moment) }
     ensures refused { IfErr result IsOfBatches }
 {
-    let begun = match begin(alloc, registry, host, batches) {
-        Ok(begun) => begun,
-        Err(fault) => return Err(fault_in(1, fault)),
-    };
-    let Beginning {
-        mut restored,
-        later,
-        image: _,
-    } = begun;
-    let before = batches.len().saturating_sub(later.len());
-    if let Err((behind, fault)) = redo_all(alloc, &mut restored, later) {
-        let number = before.saturating_add(behind).saturating_add(1);
-        return Err(fault_in(number, fault));
+    match remake(alloc, registry, host, batches) {
+        Ok(restored) => Ok(restored),
+        Err((before, fault)) => Err(fault_in(before.saturating_add(1), fault)),
     }
-    restored.reach(until_of(batches));
-    Ok(restored)
 }
 
 /// Reads the batches of a file.
@@ -140,9 +128,9 @@ pub fn account_of<H: HookHost>(
 }
 
 impl<H: HookHost> Account<H> {
-    /// The image of what the file stands for.
-    pub fn image(&self, alloc: Global) -> Result<Image<'_>, AllocError>
-        ensures { IfOk result (λ image. IsImageOfAccount H.HookHost self.now (image_fact image)) }
+    /// What a server of the file has.
+    pub fn standing(&self, alloc: Global) -> Result<Standing<'_>, AllocError>
+        ensures { IfOk result (λ standing. IsStandingOfAccount H.HookHost self.now (standing_fact standing)) }
     {
         let Ok(rules) = decode_rules(alloc, self.rules.as_slice()) else {
             return Err(AllocError);
@@ -150,7 +138,7 @@ impl<H: HookHost> Account<H> {
         let records = self.restored.server.records(alloc)?;
         let consents = self.restored.server.consents(alloc)?;
         let hooks = self.restored.hooks.listed(alloc)?;
-        Ok(Image {
+        Ok(Standing {
             rules,
             greatest: self.restored.moment,
             last: self.restored.server.last_family(),

@@ -8,8 +8,8 @@ ghost use Rattle.state_file.specs.Telling.{IsOfRules, Tell, rules_of};
 
 use clients::{ConfigFault, Registry};
 use consent::ScopeSet;
-use image_codec::Rules;
 use json::Writer;
+use rules_codec::Rules;
 use state_file::{StateFault, last_rules, rules_behind, told_rules};
 use std::alloc::{AllocError, Global};
 

@@ -7,7 +7,7 @@ use Rattle.consent.specs.declared.kept_consent.KeptConsent.{KeptConsent}
 use Rattle.hex.specs.Hex.{encode_lower}
 use Rattle.change_codec.specs.Rules.{ClientFact, RulesFact}
 use Rattle.consent.specs.RecordFacts.{Code, KindFact, RecordFact, Token as TokenFact}
-use Rattle.image_codec.specs.Facts.{HookFact, ImageFact}
+use Rattle.rules_codec.specs.Facts.{HookFact, StandingFact}
 use Rattle.json.specs.Print.{print}
 use Rattle.json.specs.Token.{Token, begin_array, begin_object, boolean, end_array, end_object, key, number, string}
 use Rattle.params.specs.Scope.{names_in_mask}
@@ -126,9 +126,9 @@ firsts seen [] = []
 firsts seen (r ∷ rs) =
     if list_any (λ f. f == r.family) seen then firsts seen rs else r ∷ firsts (r.family ∷ seen) rs
 
-abbrev pub listing_text : ImageFact → FileFacts → List ℕ
-listing_text image file =
-    flat_map (consent_line image.rules) image.consents
-    ++ (flat_map (family_line image.rules) (firsts [] image.records)
-    ++ (flat_map (token_line image.rules) image.records
-    ++ (flat_map hook_line image.hooks ++ file_line image.greatest file)))
+abbrev pub listing_text : StandingFact → FileFacts → List ℕ
+listing_text standing file =
+    flat_map (consent_line standing.rules) standing.consents
+    ++ (flat_map (family_line standing.rules) (firsts [] standing.records)
+    ++ (flat_map (token_line standing.rules) standing.records
+    ++ (flat_map hook_line standing.hooks ++ file_line standing.greatest file)))

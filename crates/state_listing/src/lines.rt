@@ -2,13 +2,13 @@
 
 ghost use Rattle.std.specs.Prelude.{◌≡◌, ◌++◌, [], ◌∷◌, IfOk, OnOk, flat_map, map};
 ghost use Rattle.consent.specs.RecordFacts.{record_fact};
-ghost use Rattle.image_codec.specs.Facts.{hook_fact, image_fact, rules_fact};
+ghost use Rattle.rules_codec.specs.Facts.{hook_fact, standing_fact, rules_fact};
 ghost use Rattle.state_listing.specs.Lines.{consent_line, family_line, firsts, hook_line, listing_text, token_line};
 
 use crate::facts::FileFacts;
 use crate::rows::{push_consent, push_family, push_file, push_hook, push_token};
 use consent::{KeptConsent, KeptRecord};
-use image_codec::{Image, KeptHook, Rules};
+use rules_codec::{KeptHook, Rules, Standing};
 use std::alloc::{AllocError, Global};
 use std::collections::BTreeSet;
 
@@ -74,15 +74,19 @@ fn push_hooks(alloc: Global, lines: &mut Vec<u8>, hooks: &[KeptHook<'_>]) -> Res
     Ok(())
 }
 
-/// A line for each consent, family, code or token, and hook of the image of a file, and one for the file.
-pub fn listing(alloc: Global, image: &Image<'_>, file: &FileFacts) -> Result<Vec<u8>, AllocError>
-    ensures { IfOk result (λ text. text.items ≡ listing_text (image_fact image.now) file.now) }
+/// A line for each consent, family, code or token, and hook, and one for the file.
+pub fn listing(
+    alloc: Global,
+    standing: &Standing<'_>,
+    file: &FileFacts,
+) -> Result<Vec<u8>, AllocError>
+    ensures { IfOk result (λ text. text.items ≡ listing_text (standing_fact standing.now) file.now) }
 {
     let mut lines = Vec::new(alloc);
-    push_consents(alloc, &mut lines, &image.rules, image.consents.as_slice())?;
-    push_families(alloc, &mut lines, &image.rules, image.records.as_slice())?;
-    push_tokens(alloc, &mut lines, &image.rules, image.records.as_slice())?;
-    push_hooks(alloc, &mut lines, image.hooks.as_slice())?;
-    push_file(alloc, &mut lines, image.greatest, file)?;
+    push_consents(alloc, &mut lines, &standing.rules, &standing.consents)?;
+    push_families(alloc, &mut lines, &standing.rules, &standing.records)?;
+    push_tokens(alloc, &mut lines, &standing.rules, &standing.records)?;
+    push_hooks(alloc, &mut lines, &standing.hooks)?;
+    push_file(alloc, &mut lines, standing.greatest, file)?;
     Ok(lines)
 }

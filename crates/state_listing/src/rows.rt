@@ -1,9 +1,9 @@
-//! A line for each thing that an image has.
+//! A line for each thing that a server has.
 
 ghost use Rattle.std.specs.Prelude.{◌≡◌, ◌<◌, ◌^◌, ◌++◌, ◌∷◌, [], OnOk, IfOk, map, option_copied};
 ghost use Rattle.consent.specs.declared.kept_consent.KeptConsent.{KeptConsent};
 ghost use Rattle.consent.specs.RecordFacts.{kind_fact, record_fact};
-ghost use Rattle.image_codec.specs.Facts.{hook_fact, rules_fact};
+ghost use Rattle.rules_codec.specs.Facts.{hook_fact, rules_fact};
 ghost use Rattle.params.specs.Scope.{names_in_mask};
 ghost use Rattle.json.specs.Token.{key};
 ghost use Rattle.state_listing.specs.Lines.{age_ahead, client_members, code_scope_members, consent_line, family_line, file_line, hook_line, kind_name, client_name, owner_members, age_members, scope_members, token_line};
@@ -11,8 +11,8 @@ ghost use Rattle.state_listing.specs.Lines.{age_ahead, client_members, code_scop
 use crate::facts::FileFacts;
 use crate::line::{begin_line, end_line};
 use consent::{ClientNo, KeptConsent, KeptKind, KeptRecord, Moment, ScopeSet, TokenKind};
-use image_codec::{KeptHook, Rules};
 use messages::Object;
+use rules_codec::{KeptHook, Rules};
 use std::alloc::{AllocError, Global};
 
 // The name of the client, if the rules have one.

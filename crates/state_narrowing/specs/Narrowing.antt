@@ -1,20 +1,21 @@
 -- When a state file is narrowed to a registry, and what it stands for then.
-use Rattle.std.specs.Prelude.{◌≡◌, ◌⊎◌, ℕ, List, Option, None, Some}
+use Rattle.std.specs.Prelude.{◌≡◌, ◌⊎◌, ℕ, List, Option, None, Some, max}
 use Rattle.batch_file.specs.Frames.{RefusesFile, recovered}
 use Rattle.batch_file.specs.declared.framing.ReadFault.TheVariants as reading
 use Rattle.clients.specs.RegistryRecord.{RegistryRecord}
-use Rattle.consent.specs.History.{Event}
+use Rattle.consent.specs.History.{Event, last_moment}
 use Rattle.endpoints.specs.Hosts.{HostRun}
 use Rattle.hook_host.specs.declared.host.HookHost.{Ghosts as Hosting}
 use Rattle.change_codec.specs.Rules.{RulesFact}
-use Rattle.image_codec.specs.Facts.{ImageFact}
 use Rattle.narrowing.specs.Left.{ended_count, left_under}
+use Rattle.shortening.specs.Standing.{IsLeftOf}
 use Rattle.state_file.specs.Comparing.{AreAsWide, IsUntold, KeepClients}
+use Rattle.state_file.specs.Renewing.{left_numbered}
 use Rattle.state_file.specs.Resuming.{OfEachHistory, WasRight}
-use Rattle.state_file.specs.Standing.{BeginWithImage, StandsFor, horizons, until_of}
+use Rattle.state_file.specs.Standing.{AreTold, StandsFor, until_of}
 use Rattle.state_file.specs.Telling.{Tell}
 use Rattle.state_file.specs.declared.fault.StateFault.{StateFault}
-use Rattle.state_file.specs.declared.fault.StateFault.TheVariants.{Memory, NotState, Version, Damaged, TooLong, NoRules, Spelling, Follows, Image, Hook}
+use Rattle.state_file.specs.declared.fault.StateFault.TheVariants.{Memory, NotState, Version, Damaged, Full, TooLong, NoRules, Spelling, Follows}
 use Rattle.state_narrowing.specs.declared.narrowed.Narrowed.{Narrowed}
 
 -- the rules keep the names of those told, and are not as wide
@@ -38,13 +39,15 @@ pub record GoesOn {H : Type 0} (hosting : Hosting H) (first : H) (left : List �
   pub host : H
   pub ran : HostRun hosting first history host
 
--- The file stands for what is left of the history, and has an image and no more than a horizon behind it. So many codes and tokens
--- ended as the history had good ones at the image's moment of which nothing is left.
+-- The file stands for what is left of the history. It tells no more than what is left, under the rules, of a list that is left of
+-- the history, and the greatest number of a family. So many codes and tokens ended as the history had good ones of which nothing is
+-- left, at the moment of its last change or a later one that the file tells.
 pub record HasLeft {H : Type 0} (hosting : Hosting H) (first : H) (rules : RegistryRecord) (file : Narrowed) (history : List Event) : Type 0 where
   pub goes_on : GoesOn hosting first file.bytes.items (left_under rules history)
-  pub image : ImageFact
-  pub begins : BeginWithImage (recovered file.bytes.items) image (horizons (until_of (recovered file.bytes.items)))
-  pub ended : file.ended ≡ ended_count rules history image.greatest
+  pub list : List Event
+  pub of : IsLeftOf list history (last_moment 0 history)
+  pub told : AreTold (recovered file.bytes.items) (left_numbered (left_under rules list))
+  pub ended : file.ended ≡ ended_count rules history (max (last_moment 0 history) (until_of (recovered file.bytes.items)))
 
 -- so it is of each history that the bytes stood for
 abbrev pub HasLeftOfEach : {H : Type 0} → Hosting H → H → List ℕ → RegistryRecord → Narrowed → Type 0
@@ -62,16 +65,15 @@ IsUnreadable left (Version version) = RefusesFile left (reading.Version version)
 IsUnreadable left (Damaged number) = RefusesFile left (reading.Damaged number)
 IsUnreadable left _ = ⊥
 
--- Why a file is not narrowed, though the registry is narrower: memory was refused, what is left is too long to be told, or a batch
--- is at fault.
+-- Why a file is not narrowed, though the registry is narrower: memory was refused, what is left or the registry's rules are too long
+-- to be told, or a batch is at fault.
 abbrev pub RefusesNarrowing : StateFault → Type 0
 RefusesNarrowing Memory = Unit {0}
+RefusesNarrowing Full = Unit {0}
 RefusesNarrowing TooLong = Unit {0}
 RefusesNarrowing NoRules = Unit {0}
 RefusesNarrowing (Spelling fault) = Unit {0}
 RefusesNarrowing (Follows fault) = Unit {0}
-RefusesNarrowing (Image fault) = Unit {0}
-RefusesNarrowing (Hook name fault) = Unit {0}
 RefusesNarrowing _ = ⊥
 
 -- why it is not known whether the rules are narrower, or why it is not narrowed, though they are

@@ -2,9 +2,8 @@
 
 ghost use Rattle.std.specs.Prelude.{◌≡◌, ◌⊎◌, ◌↔◌, IsTrue, IsSome, IfSome, IfOk, IfErr};
 ghost use Rattle.batch_file.specs.Frames.{lists, recovered};
-ghost use Rattle.image_codec.specs.Facts.{rules_fact};
+ghost use Rattle.rules_codec.specs.Facts.{rules_fact};
 ghost use Rattle.state_file.specs.Comparing.{IsUntold};
-ghost use Rattle.state_file.specs.Standing.{until_of};
 ghost use Rattle.state_file.specs.Telling.{rules_of};
 ghost use Rattle.state_file.specs.declared.fault.StateFault.TheVariants.{Memory};
 ghost use Rattle.state_narrowing.specs.Narrowing.{AreLess, AreNarrower, IsNarrower, IsUnreadable};
@@ -12,9 +11,8 @@ ghost use Rattle.state_narrowing.specs.NarrowingParts.{less_by};
 
 use batch_file::framing::read_batches;
 use clients::Registry;
-use consent::Moment;
-use image_codec::Rules;
-use state_file::{StateFault, compare, last_rules, registry_rules, told_rules, until_of};
+use rules_codec::Rules;
+use state_file::{StateFault, compare, last_rules, registry_rules, told_rules};
 use std::alloc::Global;
 
 // Whether rules that are not taken are less than those told, by the fault. What spells no rules tells none.
@@ -56,20 +54,19 @@ fn is_narrower(alloc: Global, batches: &[Vec<u8>], registry: &Registry) -> Resul
     are_less(alloc, &told, &now)
 }
 
-/// The greatest moment of a state file's horizons, where the registry keeps the names that the file tells, and is narrower than the
-/// file's rules.
-pub(crate) fn until_where_narrower(
+/// The batches of a state file, where the registry keeps the names that these tell, and is narrower than their rules.
+pub(crate) fn batches_where_narrower(
     alloc: Global,
     bytes: &[u8],
     registry: &Registry,
-) -> Result<Option<Moment>, StateFault>
-    ensures exact { IfOk result (λ until. IsSome until ↔ IsNarrower bytes.now (rules_of registry.now)) }
-    ensures until { IfOk result (λ until. IfSome until (λ moment. moment ≡ until_of (recovered bytes.now))) }
+) -> Result<Option<Vec<Vec<u8>>>, StateFault>
+    ensures exact { IfOk result (λ batches. IsSome batches ↔ IsNarrower bytes.now (rules_of registry.now)) }
+    ensures read { IfOk result (λ batches. IfSome batches (λ read. lists read.items ≡ recovered bytes.now)) }
     ensures refused { IfErr result (λ fault. IsUnreadable bytes.now fault ⊎ IsUntold (rules_of registry.now) fault) }
 {
     let found = read_batches(alloc, bytes)?;
     if !is_narrower(alloc, &found.batches, registry)? {
         return Ok(None);
     }
-    Ok(Some(until_of(&found.batches)))
+    Ok(Some(found.batches))
 }

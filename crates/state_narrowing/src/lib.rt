@@ -3,7 +3,8 @@
 #![tactic(auto)]
 
 mod comparing;
-mod imaging;
+mod ending;
 mod narrowed;
+mod telling;
 
 pub use narrowed::{Narrowed, narrow};

@@ -6,11 +6,12 @@ ghost use Rattle.state_file.specs.Standing.{until_of};
 ghost use Rattle.state_file.specs.Telling.{rules_of};
 ghost use Rattle.state_narrowing.specs.Narrowing.{HasLeftOfEach, IsNarrower, IsUnnarrowed};
 
-use crate::comparing::until_where_narrower;
-use crate::imaging::{LeftImage, image_left};
+use crate::comparing::batches_where_narrower;
+use crate::ending::ended_in;
+use crate::telling::frames_left;
 use clients::Registry;
 use hook_host::HookHost;
-use state_file::{StateFault, image_frames};
+use state_file::StateFault;
 use std::alloc::Global;
 
 /// What is left of a state file under a registry.
@@ -23,8 +24,8 @@ pub struct Narrowed {
 }
 
 /// Where the registry is narrower than the rules that a state file tells, what is left when all ends that goes beyond the
-/// registry: a file of its image, which tells the registry's rules, and of a horizon. Of any other file nothing. The host is one
-/// without hooks.
+/// registry: a file that tells the registry's rules, what is left of the list, and the moment of the horizons. Of any other file
+/// nothing. The host is one without hooks.
 pub fn narrow<H: HookHost>(
     alloc: Global,
     bytes: &[u8],
@@ -39,13 +40,13 @@ pub fn narrow<H: HookHost>(
         until_of (recovered file.bytes.items) ≡ until_of (recovered bytes.now))) }
     ensures refused { IfErr result (IsUnnarrowed bytes.now (rules_of registry.now)) }
 {
-    let Some(until) = until_where_narrower(alloc, bytes, registry)? else {
+    let Some(batches) = batches_where_narrower(alloc, bytes, registry)? else {
         return Ok(None);
     };
-    let left = image_left(alloc, bytes, registry, host)?;
-    let frames = image_frames(alloc, &left.bytes, until)?;
+    let ended = ended_in(alloc, bytes, registry, host)?;
+    let frames = frames_left(alloc, &batches, registry)?;
     Ok(Some(Narrowed {
         bytes: frames.into_bytes(),
-        ended: left.ended,
+        ended,
     }))
 }

@@ -1,6 +1,6 @@
 use Rattle.std.proofs.Common.{◌≡◌, ◌++◌, take}
 use Rattle.std.specs.List.{flat_map}
-use Rattle.image_codec.specs.Facts.{rules_fact}
+use Rattle.rules_codec.specs.Facts.{rules_fact}
 use Rattle.state_listing.specs.Lines.{consent_line}
 use Rattle.state_listing.proofs.lines.push_consents.Given as goal
 

@@ -4,7 +4,7 @@ use Rattle.std.proofs.lemmas.Grind.{common_steps}
 use Rattle.std.specs.BTreeSet.{contains}
 use Rattle.std.specs.Ordering.{nat_cmp}
 use Rattle.consent.specs.RecordFacts.{record_fact}
-use Rattle.image_codec.specs.Facts.{rules_fact}
+use Rattle.rules_codec.specs.Facts.{rules_fact}
 use Rattle.state_listing.specs.Lines.{family_line}
 use Rattle.state_listing.proofs.Families.{is_seen, or_flip, seen_again, told_again, told_first}
 use Rattle.state_listing.proofs.lines.push_families.Goals as goal

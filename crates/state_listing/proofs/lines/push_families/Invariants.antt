@@ -3,7 +3,7 @@ use Rattle.std.specs.List.{flat_map, list_any}
 use Rattle.std.specs.BTreeSet.{contains}
 use Rattle.std.specs.Ordering.{nat_cmp}
 use Rattle.consent.specs.RecordFacts.{record_fact}
-use Rattle.image_codec.specs.Facts.{rules_fact}
+use Rattle.rules_codec.specs.Facts.{rules_fact}
 use Rattle.state_listing.specs.Lines.{family_line, firsts}
 use Rattle.state_listing.proofs.lines.push_families.Given as goal
 

@@ -1,6 +1,6 @@
 use Rattle.std.proofs.Common.{◌≡◌, ◌++◌, map, take}
 use Rattle.std.specs.List.{flat_map}
-use Rattle.image_codec.specs.Facts.{hook_fact}
+use Rattle.rules_codec.specs.Facts.{hook_fact}
 use Rattle.state_listing.specs.Lines.{hook_line}
 use Rattle.state_listing.proofs.lines.push_hooks.Given as goal
 

@@ -1,7 +1,7 @@
 use Rattle.std.proofs.Common.{◌≡◌, ◌++◌, map, take}
 use Rattle.std.specs.List.{flat_map}
 use Rattle.consent.specs.RecordFacts.{record_fact}
-use Rattle.image_codec.specs.Facts.{rules_fact}
+use Rattle.rules_codec.specs.Facts.{rules_fact}
 use Rattle.state_listing.specs.Lines.{token_line}
 use Rattle.state_listing.proofs.lines.push_tokens.Given as goal
 

@@ -1,5 +1,5 @@
 use Rattle.std.proofs.Common.{◌≡◌, ◌++◌, length, map}
-use Rattle.image_codec.specs.Facts.{rules_fact}
+use Rattle.rules_codec.specs.Facts.{rules_fact}
 use Rattle.params.specs.Scope.{names_in_mask}
 use Rattle.state_listing.proofs.rows.names_of.Given as goal
 

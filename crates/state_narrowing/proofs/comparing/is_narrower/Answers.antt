@@ -1,18 +1,18 @@
 use Rattle.std.proofs.Common.{◌≡◌, ◌↔◌, ℕ, List, Bool, Result, Ok, Err, Some, sym, subst, ◌∙◌}
-use Rattle.state_narrowing.proofs.Names.{IfOk, IsTrue, RulesFact, rules_fact, StateFault, lists, TellsIn, last_rules, rules_of, AreLess, AreNarrower}
+use Rattle.state_narrowing.proofs.Names.{IfOk, IsTrue, RulesFact, rules_fact, StateFault, lists, IsOfRules, last_rules, rules_of, AreLess, AreNarrower}
 use Rattle.state_narrowing.proofs.Less.{unread}
 use Rattle.state_narrowing.proofs.comparing.is_narrower.Goals as goal
 
 -- the batch tells the rules and no others
-beside : (batches : List (List ℕ)) (batch : List ℕ) (told now : RulesFact) (r : Result Bool StateFault) → last_rules batches ≡ Some batch → TellsIn batch told →
-    ((others : RulesFact) → TellsIn batch others → others ≡ told) → IfOk r (λ less. IsTrue less ↔ AreLess told now) → IfOk r (λ narrower. IsTrue narrower ↔ AreNarrower batches now)
+beside : (batches : List (List ℕ)) (batch : List ℕ) (told now : RulesFact) (r : Result Bool StateFault) → last_rules batches ≡ Some batch → IsOfRules batch told →
+    ((others : RulesFact) → IsOfRules batch others → others ≡ told) → IfOk r (λ less. IsTrue less ↔ AreLess told now) → IfOk r (λ narrower. IsTrue narrower ↔ AreNarrower batches now)
 beside batches batch told now (Err fault) at tells one exact = tt
 beside batches batch told now (Ok less) at tells one exact = (
   λ yes. record { told = told; tells = (batch, at, tells); less = exact.0 yes },
   λ narrower.
       let same : Some narrower.tells.0 ≡ Some batch = sym narrower.tells.1 ∙ at in
       let here : narrower.tells.0 ≡ batch = cc in
-      exact.1 (subst (λ (r : RulesFact). AreLess r now) (one narrower.told (subst (λ (b : List ℕ). TellsIn b narrower.told) here narrower.tells.2)) narrower.less),
+      exact.1 (subst (λ (r : RulesFact). AreLess r now) (one narrower.told (subst (λ (b : List ℕ). IsOfRules b narrower.told) here narrower.tells.2)) narrower.less),
 )
 
 pub returns-clause-exact : goal.returns-clause-exact
