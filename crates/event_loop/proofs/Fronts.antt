@@ -3,7 +3,7 @@ use Rattle.std.proofs.Common.{◌≡◌, ◌≢◌, ◌⊎◌, inl, inr, ℕ, su
 use Rattle.event_loop.proofs.Names.{Event, IsFrontOf, Holds, Keeps, KeepsBasis, Leaves, TellsBasis, Place, Closes, leaves, same_Some, World, IsServerStill, moment_after, PieceComes, PiecePasses}
 use Rattle.event_loop.proofs.Names.{TakesOutput, TakesNothing, AnsweredPiece, Piece, piece_of, Journey, Progress, IsReached, led, GivesPieces, nothing, gives, Message, Outset, Promises, LoopState}
 use Rattle.event_loop.proofs.Names.{IsAllKept, IsUnkept, with_call, Ready, Call, Transfer, Wrote, waits_done, opens, denies, finds_nobody, asks, LoopStep, Served, Shuts, TellsLast, tells_nothing}
-use Rattle.event_loop.proofs.Names.{comes, reads, writes, closes, keeps, puts_image, begins, goes, stops, shuts, reports_last, LoopFault, Carries, Onward, stays, onward, KeeperHolds, StandsBetween}
+use Rattle.event_loop.proofs.Names.{comes, reads, writes, closes, keeps, puts_image, no_image, begins, goes, stops, shuts, reports_last, LoopFault, Carries, Onward, stays, onward, KeeperHolds, StandsBetween}
 use Rattle.event_loop.proofs.Names.{IsWriteKept, MomentIsHeld, CannotGoOn, no_wait, no_time, too_far, no_moment, not_kept, not_imaged, no_more, Queue, LastTold, Noted, ReadsPlace, WritesPlace, Hosting}
 use Rattle.event_loop.specs.Coming.{fails}
 use Rattle.event_loop.specs.Served.{waits}
@@ -168,6 +168,11 @@ module _ {N C J K H : Type 0} (p : Promises N C J K H) where
   step_does s s' (writes j place s'' here writable unwritten all may writing) = writes_does j place s s'' all writing
   step_does s s' (closes j place s'' here taken cause closing) = closes_does j place s s'' closing
   step_does s s' (puts_image keeper all kept basis short) = record {
+    moves = keeps_still (λ last is. subst (λ (h : List Event). Keeps p.keeping.crashes h h s.keeper keeper) (sym (all last is)) kept) refl basis (inl (refl, refl));
+    did = λ first before. before;
+    kept = λ k room took is. absurd (not_longer s.calls _ is);
+  }
+  step_does s s' (no_image keeper journal all long ago kept basis told) = record {
     moves = keeps_still (λ last is. subst (λ (h : List Event). Keeps p.keeping.crashes h h s.keeper keeper) (sym (all last is)) kept) refl basis (inl (refl, refl));
     did = λ first before. before;
     kept = λ k room took is. absurd (not_longer s.calls _ is);

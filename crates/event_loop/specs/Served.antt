@@ -103,10 +103,11 @@ pub data LoopStep {N C J K H : Type 0} (p : Promises N C J K H) (s : LoopState N
   puts_image : (keeper : K) → IsAllKept s.progress.journey.world →
       Keeps p.keeping.crashes s.progress.journey.world.history s.progress.journey.world.history s.keeper keeper → KeepsBasis p.keeping.crashes s.keeper keeper →
       ¬ (p.keeping.is_long keeper) → LoopStep p s (record s { keeper = keeper; refused = None })
-  -- an image is refused, where it keeps more than that; it is tried again after a minute
-  no_image : (journal : J) → IsAllKept s.progress.journey.world → p.keeping.is_long s.keeper → is_long_ago s.refused s.times.steady 60 ≡ true →
+  -- an image is refused, where it keeps more than that: it holds the same; it is tried again after a minute
+  no_image : (keeper : K) → (journal : J) → IsAllKept s.progress.journey.world → p.keeping.is_long s.keeper → is_long_ago s.refused s.times.steady 60 ≡ true →
+      Keeps p.keeping.crashes s.progress.journey.world.history s.progress.journey.world.history s.keeper keeper → KeepsBasis p.keeping.crashes s.keeper keeper →
       TellsRefusal p.journal s.refused s.noted.journal journal →
-      LoopStep p s (record s { refused = Some s.times.steady; noted = record s.noted { journal = journal } })
+      LoopStep p s (record s { keeper = keeper; refused = Some s.times.steady; noted = record s.noted { journal = journal } })
 
 -- At first no connection is there, none is known to wait, and nothing was done, and the edge is reached.
 pub record IsFirst {N C J K H : Type 0} (p : Promises N C J K H) (s : LoopState N C J K H) : Type 0 where

@@ -4,6 +4,7 @@ use Rattle.lifetime.proofs.Names.{recovered, HoldsBasis, IsFrontOf, Rules, Tells
 use Rattle.lifetime.proofs.Names.{front_then, same_front, served_on, served_onward, HasServed, LoopState, Served, begins, Tools, Named, SeenEdge, Journey, Reached, SeenKeeper, StandFor, StandsFor}
 use Rattle.lifetime.proofs.Names.{IsPutOn, Tell, TellsRules, rules_of, Given, LifePromises, in_loop, HasLived, IsWhole, Leaves, LeavesKept, LosesNothing, loop_of, Begun, Ending}
 use Rattle.change_codec.specs.Keeping as keeping
+use Rattle.state_file.specs.Knowing.{MayBe}
 use Rattle.hook_chain.specs.contracts.chain.ChainHookHost.TheImpl as chain
 use Rattle.lifetime.proofs.Losing.{Bears, leaves_then, more_loses, old_or_loses, whole_by}
 use Rattle.event_loop.proofs.Fronts.{served_front}
@@ -28,10 +29,8 @@ module _ {D N C J : Type 0} (p : LifePromises D N C J) (only_now : (d : D) (c : 
     first_kept : served.first.progress.journey.world.kept ≡ Some before
     first_kept = ap (λ (j : Journey (List Named)). j.world.kept) served.journey_is
 
-    first_left : (c : List ℕ) → p.device.may_leave served.first.keeper.file.device c ⊎ (c ≡ p.device.seen served.first.keeper.file.device) →
-        recovered c ≡ begun.outlook.plan.prepared.batches
-    first_left c left =
-        put_left c (subst (λ (k : SeenKeeper D). p.device.may_leave k.file.device c ⊎ (c ≡ p.device.seen k.file.device)) first_keeper left)
+    first_left : (c : List ℕ) → MayBe p.device served.first.keeper c → recovered c ≡ begun.outlook.plan.prepared.batches
+    first_left c left = put_left c (⊎_elim (λ may. inl may) (λ same. inr same.1) (subst (λ (k : SeenKeeper D). MayBe p.device k c) first_keeper left))
 
     first_holds : KeeperHolds (in_loop p) served.first
     first_holds kept is c left =

@@ -4,7 +4,7 @@ use Rattle.lifetime.proofs.Names.{recovered, IsFrontOf, RegistryRecord, Event, A
 use Rattle.lifetime.proofs.Names.{IsWhole, Leaves, LosesNothing, front_then, same_front}
 use Rattle.state_file.specs.ReplayingLaws.{front_run}
 use Rattle.state_file.proofs.Put.{leaves_weaker}
-use Rattle.state_file.proofs.Redone.{right_before}
+use Rattle.state_file.specs.ResumingLaws.{right_before}
 use Rattle.hook_chain.specs.contracts.chain.ChainHookHost.TheImpl as chain
 
 -- FRONTS

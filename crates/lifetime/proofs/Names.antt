@@ -9,7 +9,7 @@ pub use Rattle.event_loop.specs.Durable.{Carries, KeeperHolds, StandsBetween}
 pub use Rattle.event_loop.specs.DurableLaws.{front_then, same_front, served_onward, served_on}
 pub use Rattle.event_loop.specs.Served.{begins}
 pub use Rattle.event_loop.specs.declared.tools.Tools.{Tools}
-pub use Rattle.image_codec.specs.Facts.{hook_fact}
+pub use Rattle.rules_codec.specs.Facts.{hook_fact}
 pub use Rattle.lifetime.specs.Found.{ComesOf, IsHeir, MayBeFound, at_first, ever, grows, is_it, narrows, once_settled, settled_at}
 pub use Rattle.lifetime.specs.Given.{Given, LifePromises, in_loop, life_promises, given}
 pub use Rattle.lifetime.specs.Lives.{HasLived, HasNotLived, IsLife, IsWhole, LosesNothing, is_ahead, is_refused, is_unopened, is_unsettled, Leaves, LeavesKept, loop_of}

@@ -11,7 +11,7 @@ use Rattle.lifetime.specs.declared.going_on.Ending.{Ending}
 
 -- nothing is kept
 abbrev pub keeping_nothing : Keeping NoKeeper
-keeping_nothing = keeping no_keeper.ghosts (record { is_long = no_imaging.ghosts.is_long })
+keeping_nothing = keeping no_keeper.ghosts no_imaging.ghosts
 
 -- It begins with these rules and this host, and gives back what it was handed, as that is left.
 pub data IsLifeAnew {N C J : Type 0} (p : Promises N C J NoKeeper (List Named)) (outset : Outset (List Named)) (means : Means N C J) :

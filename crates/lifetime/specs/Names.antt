@@ -14,7 +14,7 @@ pub use Rattle.event_loop.specs.declared.journal.Journal.{Ghosts as Journal}
 pub use Rattle.hook_chain.specs.Chains.{Named}
 pub use Rattle.http_edge.specs.Edges.{SeenEdge}
 pub use Rattle.http_edge.specs.Reached.{new_journey, Reached, resumed_journey, Journey}
-pub use Rattle.image_codec.specs.Facts.{HookFact}
+pub use Rattle.rules_codec.specs.Facts.{HookFact}
 pub use Rattle.lifetime.specs.declared.life.LifeEnd.{LifeEnd}
 pub use Rattle.lifetime.specs.declared.life.LifeEnd.TheVariants.{Refused, Stopped, Unopened}
 pub use Rattle.state_file.specs.Knowing.{SeenKeeper, IsLongFile, file_crashes}

@@ -1,10 +1,11 @@
 -- What a start makes of the bytes of a state file, before anything is written.
 use Rattle.std.specs.Prelude.{◌≡◌, ◌≤◌, ◌⊎◌, ◌↔◌, ℕ, List, [], Option, None, Some, IsSome, IfSome, option_map}
 use Rattle.lifetime.specs.Names.{RegistryRecord, Event, outset_of, Named, HookFact, OfEachRun, IsMomentTold, until_of, Tell, rules_of, StateFault}
-use Rattle.batch_file.specs.Frames.{recovered, torn_of}
+use Rattle.batch_file.specs.Frames.{IsReadable, recovered, torn_of}
 use Rattle.hook_chain.specs.contracts.chain.ChainHookHost.TheImpl as chain
 use Rattle.state_file.specs.Hooks.{with_hooks}
 use Rattle.state_file.specs.Making.{MakesFrom, OnBytes, RefusesMaking, on_bytes}
+use Rattle.state_file.specs.Resuming.{ListsItself}
 use Rattle.state_file.specs.declared.fault.StateFault.TheVariants as state
 use Rattle.state_narrowing.specs.Narrowing.{HasLeft, IsNarrower, IsUnnarrowed, history_under}
 use Rattle.state_narrowing.specs.declared.narrowed.Narrowed.{Narrowed}
@@ -19,14 +20,22 @@ bytes_under bytes (Some narrowed) = narrowed.bytes.items
 abbrev pub start_of : RegistryRecord → List HookFact → List ℕ → OnBytes (List Named)
 start_of rules hooks bytes = on_bytes bytes (outset_of rules []) hooks
 
+-- Where the rules are narrower than those that the bytes tell, and only there, the bytes are narrowed, to a file that can be read:
+-- it stands for what is left of each history that they stand for, and tells the moment that they told.
+pub record AreUnder (rules : RegistryRecord) (bytes : List ℕ) (narrowed : Option Narrowed) : Type 0 where
+  pub narrower : IsSome narrowed ↔ IsNarrower bytes (rules_of rules)
+  pub left : IfSome narrowed (λ left. OfEachRun bytes (HasLeft chain.ghosts [] rules left))
+  pub readable : IfSome narrowed (λ left. IsReadable left.bytes.items)
+  pub until : IfSome narrowed (λ left. until_of (recovered left.bytes.items) ≡ until_of (recovered bytes))
+
 -- The plan is one of the bytes. Whatever history they stand for: with those of the hooks that it lacks, the server goes on from
--- that history under these rules, and the batches of the new file stand for it. Where the rules are narrower than those that
--- the bytes tell, and only there, it is what is left of the history from which it goes on.
+-- that history under these rules, or from what is left of it under them, and the batches of the new file stand for that. The list
+-- that the bytes tell, or what is left of them, is itself one that is right under the rules.
 pub record IsPlanOf (rules : RegistryRecord) (hooks : List HookFact) (bytes : List ℕ) (plan : Plan) : Type 0 where
   pub narrowed : Option Narrowed
   pub ended : plan.ended ≡ option_map (λ left. left.ended) narrowed
-  pub narrower : IsSome narrowed ↔ IsNarrower bytes (rules_of rules)
-  pub left : IfSome narrowed (λ left. OfEachRun bytes (HasLeft chain.ghosts [] rules left))
+  pub under : AreUnder rules bytes narrowed
+  pub listed : ListsItself rules (recovered (bytes_under bytes narrowed))
   pub makes : OfEachRun bytes (λ history. MakesFrom chain.ghosts (start_of rules hooks bytes) plan.prepared (history_under rules narrowed history))
   -- the new file tells the rules, and no earlier moment than the bytes did
   pub tell : Tell plan.prepared.batches (rules_of rules)
@@ -44,4 +53,4 @@ begun_from {rules} {hooks} {bytes} {plan} is history = with_hooks plan.prepared.
 abbrev pub RefusesPlan : RegistryRecord → List HookFact → List ℕ → StateFault → Type 0
 RefusesPlan rules hooks bytes fault =
     (fault ≡ state.Memory) ⊎ IsUnnarrowed bytes (rules_of rules) fault
-    ⊎ ((narrowed : Option Narrowed) × RefusesMaking chain.ghosts (start_of rules hooks (bytes_under bytes narrowed)) fault)
+    ⊎ ((narrowed : Option Narrowed) × AreUnder rules bytes narrowed × RefusesMaking chain.ghosts (start_of rules hooks (bytes_under bytes narrowed)) fault)

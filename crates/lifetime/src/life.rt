@@ -1,7 +1,7 @@
 //! A server's life on the file of its state.
 
 ghost use Rattle.std.specs.Prelude.{◌≡◌, map};
-ghost use Rattle.image_codec.specs.Facts.{hook_fact};
+ghost use Rattle.rules_codec.specs.Facts.{hook_fact};
 ghost use Rattle.lifetime.specs.Given.{given, life_promises};
 ghost use Rattle.lifetime.specs.Lives.{IsLife, LivesBy};
 ghost use Rattle.lifetime.specs.Openings.{IsOpenedBy};
@@ -17,7 +17,7 @@ use batch_file::device::Device;
 use clients::Registry;
 use event_loop::{Clocks, Journal, LoopFault, Sockets};
 use http_edge::Edge;
-use image_codec::KeptHook;
+use rules_codec::KeptHook;
 use state_file::{NotStarted, Started, StateFault};
 use std::alloc::Global;
 

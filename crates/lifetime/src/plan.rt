@@ -1,7 +1,7 @@
 //! What a start makes of the bytes of a state file, before anything is written.
 
 ghost use Rattle.std.specs.Prelude.{◌≡◌, IfOk, IfErr, map};
-ghost use Rattle.image_codec.specs.Facts.{hook_fact};
+ghost use Rattle.rules_codec.specs.Facts.{hook_fact};
 ghost use Rattle.batch_file.specs.Frames.{torn_of};
 ghost use Rattle.state_file.specs.declared.fault.StateFault.TheVariants.{Memory};
 ghost use Rattle.lifetime.specs.Plans.{IsPlanOf, RefusesPlan};
@@ -9,7 +9,7 @@ ghost use Rattle.lifetime.specs.Plans.{IsPlanOf, RefusesPlan};
 use batch_file::framing::read_batches;
 use clients::Registry;
 use hook_chain::Chain;
-use image_codec::KeptHook;
+use rules_codec::KeptHook;
 use state_file::{Prepared, StateFault, prepare};
 use state_narrowing::narrow;
 use std::alloc::Global;

@@ -29,9 +29,10 @@ returns-in_default-fault-clause-put g c = λ first found past h reached.
     let all = c.in_default.ensures.none past.journey reached in
     let ago : is_long_ago c.args.service.now.refused c.args.service.now.times.steady 60 ≡ true = sym c.is_long_ago.ensures ∙ c.if-not-is_long_ago.false in
     let long = c.in-Err.ensures.refused c.in_default-fault.not-Failed in
-    let same = c.in-Err.ensures.same c.in_default-fault.not-Failed in
-    let S : Service → g.row.K.Denot → Type 0 = λ service keeper. Served p first (state_of (running service (record c.args.self.now { journal = c.note_refusal.new.journal; keeper = keeper })) found past) in
-    let gone : S (record c.args.service.now { refused = Some c.args.service.now.times.steady }) c.args.self.now.keeper = goes h (no_image c.note_refusal.new.journal all long ago c.note_refusal.ensures.told) in (
-      subst (λ service. S service c.put_image.new.self) (sym c.note_refusal.ensures.refused) (subst (S (record c.args.service.now { refused = Some c.args.service.now.times.steady })) (sym same) gone),
+    let still = c.in-Err.ensures.still c.in_default-fault.not-Failed past.journey.outset past.journey.world.history past.journey.world.greatest (rw c.server.ensures reached.server) in
+    let S : Service → Type 0 = λ service. Served p first (state_of (running service (record c.args.self.now { journal = c.note_refusal.new.journal; keeper = c.put_image.new.self })) found past) in
+    let gone : S (record c.args.service.now { refused = Some c.args.service.now.times.steady }) =
+    goes h (no_image c.put_image.new.self c.note_refusal.new.journal all long ago still (c.in-Err.ensures.told c.in_default-fault.not-Failed) c.note_refusal.ensures.told) in (
+      subst S (sym c.note_refusal.ensures.refused) gone,
       λ still long. subst (λ (service : Service). is_long_ago service.refused service.times.steady 60 ≡ false) (sym c.note_refusal.ensures.refused) (just_now c.args.service.now.times.steady),
     )
