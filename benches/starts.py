@@ -1,5 +1,5 @@
 #!/usr/bin/env python3
-"""How long a start takes on a state file of 65,536 records and 100,000 changes, and on the image that the first start makes of it:
+"""How long a start takes on a state file of 65,536 records and 100,000 changes, and on what that start leaves of it:
 from the call of the program to the line that it listens. Words: a folder on the disk that is to be measured (the current one),
 and how many rounds (5). The variable OAUTHD names another program than crates/oauthd/out/oauthd."""
 
@@ -63,7 +63,7 @@ def main():
         batches = [rules_of(json.load(text))] + [changes_of(dated[at:at + 20]) for at in range(0, len(dated), 20)]
         with open(f"{room}/made", "wb", opener=lambda name, flags: os.open(name, flags, 0o600)) as to:
             to.write(file_of(batches))
-        told = {"changes": [], "image": []}
+        told = {"changes": [], "left": []}
         for _ in range(rounds):
             shutil.copy(f"{room}/made", f"{room}/state")
             sizes = []

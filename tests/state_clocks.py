@@ -97,10 +97,10 @@ def tries_a_jump(trials):
         begun.end()
 
 
-def tries_moved_before_an_image(trials):
-    """No image takes the place of a file that was moved: where one was refused, and a minute later the file is away, the server ends
-    by that name. Until then its clock goes back, so that no moment is to be kept."""
-    path, ahead, steady = trials.make(f"{trials.room}/imaged"), f"{trials.room}/behind", f"{trials.room}/steady"
+def tries_moved_before_it_is_shortened(trials):
+    """No shorter file takes the place of one that was moved: where one was refused, and a minute later the file is away, the server
+    ends by that name. Until then its clock goes back, so that no moment is to be kept."""
+    path, ahead, steady = trials.make(f"{trials.room}/long"), f"{trials.room}/behind", f"{trials.room}/steady"
     begun, client = trials.served("a file that grows", path, env=dict(clock(trials, ahead), STEADY=steady))
     token = client.own_token()
     os.mkdir(f"{path}.next")
@@ -115,13 +115,13 @@ def tries_moved_before_an_image(trials):
         to.write("70")
     status, told = gone(begun, client, lambda it: it.is_active(token))
     if (status, told) != (2, f"{LONG}\noauthd: stopped: State: Displaced\n"):
-        trials.wrong("an image of a moved file", f"status {status}, {told!r}")
+        trials.wrong("a moved file that is long", f"status {status}, {told!r}")
     if os.path.lexists(path) or bytes_of(f"{path}.away") != kept:
-        trials.wrong("an image of a moved file", f"it was written to: {sorted(os.listdir(trials.room))}")
+        trials.wrong("a moved file that is long", f"it was written to: {sorted(os.listdir(trials.room))}")
 
 
 def all_trials():
     if not shutil.which("gcc"):
         print("clocks were not tried: there is no gcc")
         return []
-    return [tries_told_by_the_clock, tries_far_ahead, tries_a_jump, tries_moved_before_an_image]
+    return [tries_told_by_the_clock, tries_far_ahead, tries_a_jump, tries_moved_before_it_is_shortened]

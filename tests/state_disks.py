@@ -1,5 +1,5 @@
 """Trials of state files in use: a long round, copies that are taken meanwhile, and disks that refuse something: no room to append, no
-room for an image, a file that is mounted by itself. Those want root, and mount what they need."""
+room for a shorter file, a file that is mounted by itself. Those want root, and mount what they need."""
 
 import contextlib
 import os
@@ -16,7 +16,7 @@ from state_trials import bytes_of, is_named
 # It is told once that the file cannot be shortened.
 LONG = "oauthd: state: the file cannot be shortened; it grows until that works"
 
-# A hook that is as long as one may be: it takes 32,768 bytes in the file, and in an image.
+# A hook that is as long as one may be: it takes 32,768 bytes in the file.
 LONGEST_HOOK = bytes.fromhex("b700000001000000") * 4095 + bytes.fromhex("9500000000000000")
 
 
@@ -151,11 +151,11 @@ def tries_a_full_disk(trials, _):
         asks_again(trials, "a disk that was full", path, client)
 
 
-def tries_no_room_for_an_image(trials, _):
-    """Where there is no room for an image, the server says so once and goes on appending; the next start has room, and shortens."""
+def tries_no_room_to_shorten(trials, _):
+    """Where there is no room for a shorter file, the server says so once and goes on appending; the next start has room, and shortens."""
     with disk_of(trials, "1200k") as disk:
         path = trials.make(f"{disk}/state")
-        begun, client = trials.served("a disk for an image", path)
+        begun, client = trials.served("a disk for a shorter file", path)
         consents(client, "read")
         for number in range(7):
             installs(client, f"kept-{number}")
@@ -163,17 +163,17 @@ def tries_no_room_for_an_image(trials, _):
         begun_at = os.path.getsize(path)
         status, told = until_it_stops(begun, client)
         if status != 2 or len(told) != 2 or told[0] != LONG or not told[1].startswith("oauthd: stopped: State"):
-            trials.wrong("no room for an image", f"status {status}, {told}")
+            trials.wrong("no room to shorten", f"status {status}, {told}")
         if os.path.getsize(path) < begun_at + 50000 or os.path.exists(f"{path}.next"):
-            trials.wrong("no room for an image", f"{begun_at} bytes, then {os.path.getsize(path)}; {os.listdir(disk)}")
+            trials.wrong("no room to shorten", f"{begun_at} bytes, then {os.path.getsize(path)}; {os.listdir(disk)}")
         resize(disk, "4m")
-        asks_again(trials, "no room for an image, and then room", path, client)
+        asks_again(trials, "no room to shorten, and then room", path, client)
         if os.path.getsize(path) > 500000:
-            trials.wrong("room for an image", f"still {os.path.getsize(path)} bytes")
+            trials.wrong("room to shorten", f"still {os.path.getsize(path)} bytes")
 
 
 def tries_a_file_mounted_by_itself(trials, content):
-    """No start where the file cannot be renamed over; a server that runs goes on, without images."""
+    """No start where the file cannot be renamed over; a server that runs goes on, and does not shorten."""
     with disk_of(trials, "8m") as disk:
         path = trials.file_of(content, f"{disk}/state")
         subprocess.run(["mount", "--bind", path, path], check=True)
@@ -201,4 +201,4 @@ def all_trials():
     if os.geteuid() != 0:
         print("full disks and mounts were not tried: that wants root")
         return [tries_a_long_round, tries_copies]
-    return [tries_a_long_round, tries_copies, tries_a_full_disk, tries_no_room_for_an_image, tries_a_file_mounted_by_itself]
+    return [tries_a_long_round, tries_copies, tries_a_full_disk, tries_no_room_to_shorten, tries_a_file_mounted_by_itself]

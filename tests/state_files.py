@@ -12,12 +12,13 @@ import secrets
 import shutil
 import sys
 import tempfile
+import time
 
 import state_clocks
 import state_disks
 import state_paths
 from crashes import consents
-from state_format import HEADER, batches_of, changes_of, consented, file_of, first_kind_of, mark_of, next_body, rules_of
+from state_format import HEADER, batches_of, changes_of, consented, file_of, first_kind_of, mark_of, next_body, numbered, rules_of, token_issued
 from state_trials import LIFE, NotServed, Trials, bytes_of, is_named, without_marks
 
 # The line that tells how much ended beyond the registry, behind how many that were.
@@ -163,8 +164,23 @@ def tries_moments(trials, content, registry):
     rules = rules_of(registry)
     trials.taken("a file of rules", file_of([rules]), [rules])
     trials.refused("a mark that is too long", file_of([rules, mark_of(last) + b"\0"]), "Spelling")
-    trials.refused("a batch of another version", file_of([rules, b"\7"]), "Spelling")
+    for kind in (2, 7):
+        trials.refused("a batch of another version", file_of([rules, bytes([kind])]), "Spelling")
     trials.refused("changes without rules", file_of([changes_of([(last, consented(1, 1, 1))])]), "NoRules")
+
+
+def tries_what_is_left(trials, registry):
+    """What is left of a list says up to which number families were: the next one has a greater number. A token may stand in it of
+    a family of which nothing is unexpired then."""
+    now = int(time.time())
+    issued = [(now + at, token_issued(7, 1, 0, "access", bytes([digest]) * 32, 1, life)) for at, digest, life in [(-20, 1, 10), (0, 2, 300)]]
+    path = trials.file_of(file_of([rules_of(registry), changes_of([*issued, (now, numbered(900))])]))
+    begun, client = trials.served("what is left of a list", path)
+    client.own_token()
+    begun.end()
+    families = [(thing["family"], thing["client"]) for thing in trials.listed("what is left of a list", path) if thing["kind"] == "family"]
+    if sorted(families) != [(7, "app"), (901, "bot")]:
+        trials.wrong("what is left of a list", f"families {families}")
 
 
 def grants(things):
@@ -260,6 +276,7 @@ def main():
         content = worked_on(trials)
         all_trials = [
             (tries_narrower_registries, content, registry), (tries_the_first_kind, content), (tries_moments, content, registry),
+            (tries_what_is_left, registry),
             (state_paths.tries_new_files,), (state_paths.tries_other_files,), (state_paths.tries_what_is_no_file, content),
             (state_paths.tries_two_names,), (state_paths.tries_moved_away,), (state_paths.tries_owners, content), (state_paths.tries_order,),
             *((it,) for it in state_clocks.all_trials()), *((it, content) for it in state_disks.all_trials()),

@@ -9,7 +9,7 @@ HEADER = b"oauthd state v3\n"
 CLOSED, OPEN = b"\0", b"\xff"
 
 # The first byte of a batch tells what it is.
-RULES, CHANGES, IMAGE, MARK = range(4)
+RULES, CHANGES, MARK = 0, 1, 3
 
 
 def body(before, batch):
@@ -103,6 +103,11 @@ def code_given(family, client, owner, scope, redirect, challenge, digest):
 def spent(digest):
     """A change: a code or a refresh token is used up."""
     return b"\4" + digest
+
+
+def numbered(last):
+    """A change: numbers up to this one were families'. It stands in a list that was shortened."""
+    return b"\x08" + last.to_bytes(8, "big")
 
 
 def consented(owner, client, mask):

@@ -17,7 +17,7 @@ pub use Rattle.daemon.specs.Listening.{Announces, IsToldBy}
 pub use Rattle.daemon.specs.declared.fault.ListenFault.{ListenFault}
 pub use Rattle.hook_chain.specs.Chains.{IsInstalled, Named, RefusesInstall}
 pub use Rattle.hook_commands.specs.HexText.{IsHexOf, IsNoHex}
-pub use Rattle.image_codec.specs.Facts.{HookFact, hook_fact}
+pub use Rattle.rules_codec.specs.Facts.{HookFact, hook_fact}
 pub use Rattle.lifetime.specs.declared.life.LifeEnd.{LifeEnd}
 pub use Rattle.start_words.specs.Options.{HookSaid, hook_said, Said, wrong, clock_limit}
 pub use Rattle.start_words.specs.declared.words.StartWords.{StartWords}

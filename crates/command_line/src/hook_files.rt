@@ -2,7 +2,7 @@
 
 ghost use Rattle.std.specs.Prelude.{◌≡◌, [], Some, OnOk, IfOk, IfErr, map};
 ghost use Rattle.endpoints.specs.Layouts.{version_of};
-ghost use Rattle.image_codec.specs.Facts.{hook_fact};
+ghost use Rattle.rules_codec.specs.Facts.{hook_fact};
 ghost use Rattle.start_words.specs.Options.{hook_said};
 ghost use Rattle.command_line.specs.Hooks.{AreFactsOf, hook_fact_of, HoldsCode, in_file, IsFactOf, RefusesHook, RefusesHooks, said_of, TakesHook, TakesHooks};
 ghost use Rattle.commands.specs.declared.fault.CommandFault.TheVariants.{OutOfMemory};
@@ -12,8 +12,8 @@ use consent::RecordVersion;
 use hook_chain::Chain;
 use hook_commands::bytes_of_hex;
 use hook_host::{HookFault, HookHost};
-use image_codec::KeptHook;
 use insn::layout::Layout;
+use rules_codec::KeptHook;
 use start_words::HookFile;
 use std::alloc::{AllocError, Global};
 use std::rt::Files;

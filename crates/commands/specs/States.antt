@@ -3,10 +3,9 @@ use Rattle.std.specs.Prelude.{◌≡◌, ◌⊎◌, ⊤, ℕ, List, length, Opti
 use Rattle.batch_file.specs.Frames.{IsRightFront, RefusesFile, RefusesHeader, recovered, torn_of}
 use Rattle.batch_file.specs.declared.framing.ReadFault.{ReadFault}
 use Rattle.hook_commands.specs.File.{File}
-use Rattle.image_codec.specs.Facts.{ImageFact}
-use Rattle.state_account.specs.Accounts.{IsOfBatch, TellIfAny}
+use Rattle.rules_codec.specs.Facts.{StandingFact}
+use Rattle.state_account.specs.Accounts.{IsOfBatch, IsStandingOf, TellIfAny}
 use Rattle.state_file.specs.Faults.{of_reading}
-use Rattle.state_file.specs.Standing.{IsImageOf}
 use Rattle.state_listing.specs.Lines.{listing_text}
 use Rattle.state_listing.specs.declared.facts.FileFacts.{FileFacts}
 use Rattle.commands.specs.declared.answer.Answer.{Answer}
@@ -19,12 +18,12 @@ use Rattle.state_file.specs.Runs.{OfEachRun}
 abbrev pub facts_of : List ℕ → Option ℕ → FileFacts
 facts_of bytes now = record { bytes = length bytes; batches = length (recovered bytes); torn = length (torn_of bytes); looked_at = now }
 
--- the text lists an image of each history that the bytes stand for, under the rules that they tell, and what the file is
+-- the text lists what stands after each history that the bytes stand for, under the rules that they tell, and what the file is
 pub record IsStateText (bytes : List ℕ) (now : Option ℕ) (text : List ℕ) : Type 0 where
-  pub image : ImageFact
-  pub each : OfEachRun bytes (λ history. IsImageOf image history)
-  pub told : TellIfAny bytes image.rules
-  pub text_is : text ≡ listing_text image (facts_of bytes now)
+  pub standing : StandingFact
+  pub each : OfEachRun bytes (λ history. IsStandingOf standing history)
+  pub told : TellIfAny bytes standing.rules
+  pub text_is : text ≡ listing_text standing (facts_of bytes now)
 
 -- why it is not told what the bytes in the file of a path stand for: they are no state file, for such a cause, or a batch of it is
 -- at fault

@@ -27,14 +27,14 @@ fn lines_of(
     requires of { IsAccountOf chain.ghosts bytes.now [] account.now }
     ensures { IfOk result (λ text. IsStateText bytes.now now text.items) }
 {
-    let image = account.image(alloc)?;
+    let standing = account.standing(alloc)?;
     let file = FileFacts {
         bytes: bytes.len() as u64,
         batches: account.batches as u64,
         torn: account.torn as u64,
         looked_at: now,
     };
-    let text = listing(alloc, &image, &file)?;
+    let text = listing(alloc, &standing, &file)?;
     Ok(text)
 }
 

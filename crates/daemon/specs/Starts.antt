@@ -15,7 +15,7 @@ use Rattle.event_loop.specs.declared.limits.Limits.{Limits}
 use Rattle.event_loop.specs.declared.sockets.Sockets.{Ghosts as Sockets}
 use Rattle.hook_chain.specs.Chains.{Named}
 use Rattle.hook_chain.specs.contracts.chain.ChainHookHost.TheImpl as chain
-use Rattle.image_codec.specs.Facts.{HookFact}
+use Rattle.rules_codec.specs.Facts.{HookFact}
 use Rattle.lifetime.specs.Anew.{IsLifeAnew, keeping_nothing}
 use Rattle.lifetime.specs.Given.{given, life_promises}
 use Rattle.lifetime.specs.Lives.{IsLife}

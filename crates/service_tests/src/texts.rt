@@ -7,7 +7,7 @@ use batch_file::system::SystemFault;
 use commands::CommandFault;
 use consent::ConsentFault;
 use daemon::SocketFault;
-use endpoints::{RedoFault, RestoreFault};
+use endpoints::RedoFault;
 use event_loop::LoopFault;
 use hook_commands::HookCommandFault;
 use insn::fault::InsnFault;
@@ -158,16 +158,6 @@ fn state_files_that_are_refused(rt: HostRuntime) -> Result<(), Fail> {
         (RedoFault::NotRight, "Follows NotRight"),
     ] {
         assert_told_as(&rt, StateFault::Follows(fault), text)?;
-    }
-    for (fault, text) in [
-        (RestoreFault::Full, "Image Full"),
-        (RestoreFault::DigestTwice, "Image DigestTwice"),
-        (RestoreFault::FamilyDiffers, "Image FamilyDiffers"),
-        (RestoreFault::ConsentsFull, "Image ConsentsFull"),
-        (RestoreFault::ConsentTwice, "Image ConsentTwice"),
-        (RestoreFault::NotRight, "Image NotRight"),
-    ] {
-        assert_told_as(&rt, StateFault::Image(fault), text)?;
     }
     for (fault, text) in [
         (Fault::Version, "Spelling Version"),

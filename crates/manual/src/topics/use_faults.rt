@@ -83,7 +83,7 @@ oauthd help has each of the first fourteen:
   InUse, Open: WHY, Device: WHY     another server has it, or the system refuses it
   ClockAhead N                      the clock is far ahead of the file
   Exists, Make: WHY                 no file can be made there
-  NoRules, Spelling .., Image ..    the file is not what a server wrote
+  NoRules, Spelling ..              the file is not what a server wrote
   Follows ..                        a change in the file can't have happened after those before it
   ScopeMoved NAME, OwnerMoved, ClientMoved NAME    the registry has left out or moved what the file has
   HookDiffers NAME                  the file has another hook of that name; remove it by a request, or leave out the option

@@ -14,11 +14,11 @@ use std::process::Abort;
 use std::rt::Files;
 use std::test::Fail;
 
-/// The calls that were made, a row each, and how many syncs are to succeed before one is refused.
+/// The calls that were made, a row each, and how many syncs and reads are to succeed before one is refused.
 #[derive(Drop)]
 struct Calls {
     rows: RefCell<String>,
-    syncs: Cell<usize>,
+    successes: Cell<usize>,
 }
 
 /// A machine on whose disk there is an empty file at each path.
@@ -41,12 +41,12 @@ impl Machine<'_> {
         Ok(())
     }
 
-    /// Notes a sync, and refuses it where it is that one's turn.
-    fn sync(&self, call: &str, path: &str) -> io::Result<()> {
+    /// Notes a sync or a read, and refuses it where it is that one's turn.
+    fn try_call(&self, call: &str, path: &str) -> io::Result<()> {
         self.note(call, path, b"")?;
-        let syncs = self.calls.syncs.get();
-        self.calls.syncs.set(syncs.saturating_sub(1));
-        if syncs == 0 {
+        let successes = self.calls.successes.get();
+        self.calls.successes.set(successes.saturating_sub(1));
+        if successes == 0 {
             return Err(io::Error::from_raw_os_error(5));
         }
         Ok(())
@@ -60,6 +60,9 @@ impl Alloc for Machine<'_> {
         self.alloc
     }
 }
+
+/// What a file has for one who reads at a place.
+const THERE: [u8; 3] = *b"abc";
 
 /// An open file or folder. It goes by the name under which it was opened, also once it was renamed.
 #[derive(Drop)]
@@ -93,7 +96,7 @@ impl Seek for Open<'_> {
 
 impl OpenFile for Open<'_> {
     fn metadata(&self) -> io::Result<Metadata> {
-        Ok(Metadata::of_file(0))
+        Ok(Metadata::of_file(THERE.len() as u64))
     }
 
     fn set_len(&self, _size: u64) -> io::Result<()> {
@@ -101,11 +104,11 @@ impl OpenFile for Open<'_> {
     }
 
     fn sync_all(&self) -> io::Result<()> {
-        self.machine.sync("sync_all", &self.path)
+        self.machine.try_call("sync_all", &self.path)
     }
 
     fn sync_data(&self) -> io::Result<()> {
-        self.machine.sync("sync_data", &self.path)
+        self.machine.try_call("sync_data", &self.path)
     }
 
     fn set_permissions(&self, _perm: Permissions) -> io::Result<()> {
@@ -114,8 +117,12 @@ impl OpenFile for Open<'_> {
 }
 
 impl FileExt for Open<'_> {
-    fn read_at(&self, _buf: &mut [u8], _offset: u64) -> io::Result<usize> {
-        Ok(0)
+    fn read_at(&self, buf: &mut [u8], offset: u64) -> io::Result<usize> {
+        let call = format!(in self.machine.alloc; "read at {offset}")?;
+        self.machine.try_call(&call, &self.path)?;
+        let size = buf.len().min(THERE.len());
+        buf[..size].copy_from_slice(&THERE[..size]);
+        Ok(size)
     }
 
     fn write_at(&self, buf: &[u8], offset: u64) -> io::Result<usize> {
@@ -196,6 +203,7 @@ impl<'c> Files for Machine<'c> {
 enum Call {
     Open,
     Append,
+    Read,
     Replace,
     SetAside,
     Make,
@@ -209,9 +217,20 @@ fn told<E: Debug + Drop>(alloc: Global, answer: Result<(), E>) -> Result<String,
     }
 }
 
+/// What was read, or why nothing was.
+fn told_bytes<E: Debug + Drop>(
+    alloc: Global,
+    answer: Result<Vec<u8>, E>,
+) -> Result<String, AllocError> {
+    match answer {
+        Ok(bytes) => hex::encode(alloc, &bytes),
+        Err(fault) => format!(in alloc; "{fault:?}"),
+    }
+}
+
 /// Opens a file. For another call it then puts one of no batch in its place, and does that, over a disk that refuses a sync
-/// once so many have succeeded. It gives how the call ended.
-fn ended(machine: Machine<'_>, call: Call, syncs: usize) -> Result<String, Fail> {
+/// or a read once so many have succeeded. It gives how the call ended.
+fn ended(machine: Machine<'_>, call: Call, successes: usize) -> Result<String, Fail> {
     let Machine { alloc, calls } = machine;
     let opened = DiskFile::open(&machine, "state")?;
     if let Call::Open = call {
@@ -223,10 +242,11 @@ fn ended(machine: Machine<'_>, call: Call, syncs: usize) -> Result<String, Fail>
     if let Ok(mut rows) = calls.rows.try_borrow_mut() {
         rows.clear();
     }
-    calls.syncs.set(syncs);
+    calls.successes.set(successes);
     Ok(match call {
         Call::Open => String::new(alloc),
         Call::Append => told(alloc, file.append(b"abc"))?,
+        Call::Read => told_bytes(alloc, file.read(alloc))?,
         Call::Replace => told(alloc, file.replace(Frames::new(alloc)?))?,
         Call::SetAside => told(alloc, file.device.set_aside(b"abc"))?,
         Call::Make => told(alloc, make(&machine, "other", b"abc"))?,
@@ -246,6 +266,8 @@ const APPENDED: [&str; 6] = [
     "write at 16 state.next ff",
     "sync_data state.next",
 ];
+
+const READ: [&str; 1] = ["read at 0 state.next"];
 
 /// The next file is on the disk before it has the name, and the name before it is acknowledged.
 const REPLACED: [&str; 7] = [
@@ -285,11 +307,13 @@ const UNMADE: &str = "remove other\nMake(InputOutput)";
 #[test]
 fn what_is_acknowledged_is_on_the_disk(rt: HostRuntime) -> Result<(), Fail> {
     let alloc = rt.alloc();
-    let cases: [(Call, usize, &[&str], &str); 13] = [
+    let cases: [(Call, usize, &[&str], &str); 15] = [
         (Call::Open, 9, &OPENED, "done"),
         (Call::Append, 9, &APPENDED, "done"),
         (Call::Append, 0, &APPENDED[..4], FAILED),
         (Call::Append, 1, &APPENDED, FAILED),
+        (Call::Read, 9, &READ, "616263"),
+        (Call::Read, 0, &READ, FAILED),
         (Call::Replace, 9, &REPLACED, "done"),
         (Call::Replace, 0, &REPLACED[..5], UNPLACED),
         (Call::Replace, 1, &REPLACED, FAILED),
@@ -300,22 +324,22 @@ fn what_is_acknowledged_is_on_the_disk(rt: HostRuntime) -> Result<(), Fail> {
         (Call::Make, 0, &MADE[..4], UNMADE),
         (Call::Make, 1, &MADE, UNMADE),
     ];
-    for (call, syncs, rows, end) in cases {
+    for (call, successes, rows, end) in cases {
         let calls = Calls {
             rows: RefCell::new(String::new(alloc)),
-            syncs: Cell::new(9),
+            successes: Cell::new(9),
         };
         let machine = Machine {
             alloc,
             calls: &calls,
         };
-        let ended = ended(machine, call, syncs)?;
+        let ended = ended(machine, call, successes)?;
         let made = calls.rows.into_inner();
         let mut wanted = rows.join(alloc, "\n")?;
         wanted.push('\n')?;
         wanted.push_str(end)?;
         let found = format!(in alloc; "{made}{ended}")?;
-        assert_eq!(rt; found.as_str(), wanted.as_str(), "{call:?} {syncs}");
+        assert_eq!(rt; found.as_str(), wanted.as_str(), "{call:?} {successes}");
     }
     Ok(())
 }

@@ -156,9 +156,11 @@ impl Keeper for Patient<'_> {
 }
 
 impl ImageKeeper for Patient<'_> {
-    ghost use Rattle.std.specs.Prelude.{◌≡◌, true};
+    ghost use Rattle.std.specs.Prelude.{◌≡◌, ⊤, true};
 
     ghost is_long = { λ keeper. keeper.is_long ≡ true };
+
+    ghost shortens = { λ _ _. ⊤ };
 
     fn put_image<H: HookHost>(&mut self, server: &Server<H>) -> Result<(), ImageFault> {
         if self.has_failed {

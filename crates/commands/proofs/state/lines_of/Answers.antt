@@ -1,5 +1,5 @@
 use Rattle.std.proofs.Common.{[]}
-use Rattle.image_codec.specs.Facts.{image_fact}
+use Rattle.rules_codec.specs.Facts.{standing_fact}
 use Rattle.state_file.specs.RunLaws.{was_run}
 use Rattle.commands.proofs.state.lines_of.Goals as goal
 
@@ -7,10 +7,10 @@ pub returns : goal.returns
 returns c =
     let bytes = c.args.bytes.now in
     let of = c.requires.of in
-    let image = image_fact c.in_ok-image.image in
-    let is = c.in_ok-image.ensures bytes [] of in
+    let standing = standing_fact c.in_ok-standing.standing in
+    let is = c.in_ok-standing.ensures bytes [] of in
     record {
-      image = image;
+      standing = standing;
       each = λ history lived. is.each history lived.stands lived.right (was_run bytes history lived);
       told = is.told;
       text_is = rw (of.batches, of.torn) at c.in_ok-text.ensures;
