@@ -1,6 +1,6 @@
 -- The tables without the families that have no records.
 use Rattle.std.proofs.Common.{◌≡◌, ◌≤◌, ℕ, List, [], ◌∷◌, Option, Some, None, Bool, true, eqb, refl, ap, sym, arith}
-use Rattle.token_store.proofs.Names.{family_numbered, is_at, list_any, is_some, count_by-cons, values_of, Record, Shared, shared_at, all_kept, member_count, has_owner, owner_cmp, where_peopled}
+use Rattle.token_store.proofs.Names.{family_numbered, is_at, list_any, is_some, count_by-cons, values_of, Record, Shared, shared_at, all_kept, member_count, has_owner, OwnerKey, owner_cmp, where_peopled}
 use Rattle.token_store.proofs.Names.{nat_tests}
 use Rattle.std.specs.Prelude.{◌&&◌, filter, nat_lt}
 use Rattle.std.specs.Option.{option_and_then}
@@ -17,11 +17,11 @@ any_left p left b [] same = refl
 any_left p left b (x ∷ xs) same = let more = any_left p left b xs same in let here = same x in grind (arith, more, here)
 
 -- the index, without the families that are not there
-pub known_owners : (families : List (ℕ × Shared)) (owners : List ((ℕ × ℕ) × ℕ)) (q : (ℕ × ℕ) × ℕ) →
-    has_owner (filter (λ k. is_some (family_numbered families k.1)) owners) q ≡ (has_owner owners q && is_some (family_numbered families q.1))
+pub known_owners : (families : List (ℕ × Shared)) (owners : List OwnerKey) (q : OwnerKey) →
+    has_owner (filter (λ k. is_some (family_numbered families k.1.1)) owners) q ≡ (has_owner owners q && is_some (family_numbered families q.1.1))
 known_owners families owners q =
-    any_left (is_at (owner_cmp q)) (λ (k : (ℕ × ℕ) × ℕ). is_some (family_numbered families k.1)) (is_some (family_numbered families q.1)) owners
-    (λ k at. ap (λ n. is_some (family_numbered families n)) (sym (owner_at q k at).1.1))
+    any_left (is_at (owner_cmp q)) (λ (k : OwnerKey). is_some (family_numbered families k.1.1)) (is_some (family_numbered families q.1.1)) owners
+    (λ k at. ap (λ n. is_some (family_numbered families n)) (sym (owner_at q k at).1.1.1))
 
 -- all records are seen as before
 pub seen_peopled : (old new : List (ℕ × Shared)) (es : List (List ℕ × Record)) → ((k : ℕ) → member_count es k ≤ (shared_at old k).count) →

@@ -1,29 +1,35 @@
 -- Families that are ended, opened or let go of.
 use Rattle.std.proofs.Common.{◌≡◌, ◌≢◌, ◌≤◌, ℕ, List, [], ◌∷◌, Option, Some, None, Bool, true, false, eqb, refl, ap, ◌∙◌, sym, arith}
-use Rattle.token_store.proofs.Names.{family_numbered, nat_le, if◌then◌else◌, values_of, count_by-cons, Record, Shared, Agenda, shared_at, all_kept, member_count, is_coded, Tied, IsOwned, RecordChange}
-use Rattle.token_store.proofs.Names.{told, may_end, altered, HasAltered, changed, HasEnded, HasLowered, IsNextOwned, lowered_by, lowered_shared, nat_tests, Tables, IsTied, kept_of, is_some}
-use Rattle.token_store.specs.RecordsParts.{HasClosed, HasIndexed, OthersStay}
-use Rattle.token_store.proofs.Tying.{owner_at, owner_here}
+use Rattle.token_store.proofs.Names.{family_numbered, values_of, count_by-cons, Record, Shared, Agenda, shared_at, all_kept, member_count, is_coded, Tied, IsOwned, RecordChange}
+use Rattle.token_store.proofs.Names.{told, may_end, altered, HasAltered, changed, HasEnded, HasLowered, HasIndexed, HasStruck, is_past, IsNextOwned, key_of, has_owner, owner_cmp, is_at, OwnerKey, lowered_shared, nat_tests, Tables, IsTied, kept_of, nat_eq}
+use Rattle.token_store.specs.RecordsParts.{HasClosed, OthersStay}
+use Rattle.token_store.proofs.Tying.{owner_at, owner_here, keyless, coded_at, key_number, owned_without}
+use Rattle.consent.specs.History.{is_within}
 use Rattle.std.specs.Prelude.{map, option_map}
 
 -- ENDING
 
--- what tells the tables apart from others does not look at the change
-pub tied_changed : (old new : List (ℕ × Shared)) (es : List (List ℕ × Record)) (agenda : Agenda) (owners : List ((ℕ × ℕ) × ℕ)) (last : ℕ) → ((k : ℕ) → (shared_at new k).count ≡ (shared_at old k).count) →
-    ((owner client k : ℕ) → is_coded owner client (family_numbered new k) ≡ is_coded owner client (family_numbered old k)) → Tied old es agenda owners last → Tied new es agenda owners last
-tied_changed old new es agenda owners last counts coded tied = record {
+-- what tells the tables apart from others does not look at the change, and the index is as they are
+pub tied_anew : (old new : List (ℕ × Shared)) (es : List (List ℕ × Record)) (agenda : Agenda) (owners owners' : List OwnerKey) (last : ℕ) → ((k : ℕ) → (shared_at new k).count ≡ (shared_at old k).count) →
+    IsOwned new owners' → Tied old es agenda owners last → Tied new es agenda owners' last
+tied_anew old new es agenda owners owners' last counts owned tied = record {
   once = tied.once;
   listed = tied.listed;
   exact = tied.exact;
   counted = λ k. counts k ∙ tied.counted k;
-  owned = λ q. tied.owned q ∙ sym (coded q.0.0 q.0.1 q.1);
+  owned = owned;
   below = tied.below;
 }
 
-pub tied_ended : (old new : List (ℕ × Shared)) (n : ℕ) (es : List (List ℕ × Record)) (agenda : Agenda) (owners : List ((ℕ × ℕ) × ℕ)) (last : ℕ) → HasEnded old new n →
-    Tied old es agenda owners last → Tied new es agenda owners last
-tied_ended old new n es agenda owners last ended =
-    tied_changed old new es agenda owners last (λ k. (let other = ended.others k in grind (arith, other))) (λ owner client k. (let other = ended.others k in grind (arith, other)))
+pub tied_changed : (old new : List (ℕ × Shared)) (es : List (List ℕ × Record)) (agenda : Agenda) (owners : List OwnerKey) (last : ℕ) → ((k : ℕ) → (shared_at new k).count ≡ (shared_at old k).count) →
+    ((key : OwnerKey) → is_coded key (family_numbered new key.1.1) ≡ is_coded key (family_numbered old key.1.1)) → Tied old es agenda owners last → Tied new es agenda owners last
+tied_changed old new es agenda owners last counts coded tied =
+    tied_anew old new es agenda owners owners last counts (λ key. tied.owned key ∙ sym (coded key)) tied
+
+pub tied_ended : (old new : List (ℕ × Shared)) (n : ℕ) (es : List (List ℕ × Record)) (agenda : Agenda) (owners owners' : List OwnerKey) (last : ℕ) → HasEnded old new n →
+    IsOwned new owners' → Tied old es agenda owners last → Tied new es agenda owners' last
+tied_ended old new n es agenda owners owners' last ended owned =
+    tied_anew old new es agenda owners owners' last (λ k. (let other = ended.others k in grind (arith, other))) owned
 
 -- the change of a family is seen on all its records, and no visit to them is needed
 pub view_ended : (old new : List (ℕ × Shared)) (n : ℕ) (es : List (List ℕ × Record)) → HasEnded old new n → ((k : ℕ) → member_count es k ≤ (shared_at old k).count) →
@@ -39,47 +45,116 @@ view_ended old new n (e ∷ es) ended counted =
 
 -- LOWERING
 
-uncoded_same : (owner client mask : ℕ) (o : Option Shared) → is_coded owner client o ≡ false → o ≡ option_map (lowered_shared owner client mask) o
-uncoded_same owner client mask o h = grind (arith, nat_tests)
+-- a family has ended in the index, which has it no more
+pub owned_ended : (old new : List (ℕ × Shared)) (owners owners' : List OwnerKey) (n : ℕ) (s : Shared) (key : Option OwnerKey) → key_of s n ≡ key → family_numbered old n ≡ Some s →
+    HasStruck owners owners' key → HasEnded old new n → IsOwned old owners → IsOwned new owners'
+owned_ended old new owners owners' n s key is found struck ended owned =
+    owned_without old new owners owners' n s key is found owned struck (λ q. (let here = ended.here in grind (arith, here, found))) ended.others
 
-coded_same : (owner client mask : ℕ) (o : Option Shared) → is_coded owner client o ≡ true → option_map (lowered_by mask) o ≡ option_map (lowered_shared owner client mask) o
-coded_same owner client mask o h = grind (arith, nat_tests)
+-- of one family the index has one key
+one_key : (o : Option Shared) (key q : OwnerKey) → is_coded key o ≡ true → q.1.1 ≡ key.1.1 → is_coded q o ≡ true → is_at (owner_cmp key) q ≡ true
+one_key None key q coded here also = grind (arith, coded)
+one_key (Some s) key q coded here also = by s.code_scope refl
+  where
+    by : (c : Option ℕ) → s.code_scope ≡ c → is_at (owner_cmp key) q ≡ true
+    by None is = grind (arith, is, coded)
+    by (Some x) is =
+        let mine : (key.0.0 ≡ s.owner) × ((key.0.1 ≡ s.client) × (key.1.0 ≡ x)) = grind (arith, nat_tests, is, coded) in
+        let its : (q.0.0 ≡ s.owner) × ((q.0.1 ≡ s.client) × (q.1.0 ≡ x)) = grind (arith, nat_tests, is, also) in
+        owner_here key q (mine.0 ∙ sym its.0) (mine.1.0 ∙ sym its.1.0) (mine.1.1 ∙ sym its.1.1) (sym here)
 
--- the number does not come after this one
-abbrev pub is_past : Option ℕ → ℕ → Bool
-is_past None k = false
-is_past (Some n) k = nat_le k n
+-- a family that the index tells of, which has it no more
+pub owned_marked : (old new : List (ℕ × Shared)) (owners owners' : List OwnerKey) (key : OwnerKey) → HasStruck owners owners' (Some key) → has_owner owners key ≡ true →
+    HasEnded old new key.1.1 → IsOwned old owners → IsOwned new owners'
+owned_marked old new owners owners' key struck there ended owned q = by (nat_eq q.1.1 key.1.1) refl
+  where
+    by : (b : Bool) → nat_eq q.1.1 key.1.1 ≡ b → has_owner owners' q ≡ is_coded q (family_numbered new q.1.1)
+    by true is =
+        let same : q.1.1 ≡ key.1.1 = grind (arith, nat_tests, is) in
+        let none : is_coded q (option_map (λ (s : Shared). record s { ended = true }) (family_numbered old key.1.1)) ≡ false = unmarked (family_numbered old key.1.1) in
+        let left = struck q in
+        let was = owned q in
+        let one = one_key (family_numbered old key.1.1) key q (sym (owned key) ∙ there) same in
+        let gone : has_owner owners' q ≡ false = (let was' : has_owner owners q ≡ is_coded q (family_numbered old key.1.1) = was ∙ ap (λ n. is_coded q (family_numbered old n)) same in grind (arith, left, was', one)) in
+        gone ∙ sym none ∙ ap (is_coded q) (sym ended.here) ∙ ap (λ n. is_coded q (family_numbered new n)) (sym same)
+      where
+        unmarked : (o : Option Shared) → is_coded q (option_map (λ (s : Shared). record s { ended = true }) o) ≡ false
+        unmarked None = refl
+        unmarked (Some s) = grind arith
+    by false is =
+        let far = owner_at key q in
+        let left = struck q in
+        let was = owned q in
+        let other = ended.others q.1.1 in
+        grind (arith, nat_tests, far, left, was, other, is)
 
--- up to a number all families are as they are to be, and after it as they were
-abbrev pub LoweredTo : (old new : List (ℕ × Shared)) → (owner client mask : ℕ) → (after : Option ℕ) → Type 0
-LoweredTo old new owner client mask after =
-    (k : ℕ) → family_numbered new k ≡ (if is_past after k then option_map (lowered_shared owner client mask) (family_numbered old k) else family_numbered old k)
+-- up to this scope those of the two that are in the index lie within the mask
+abbrev pub AreWithin : List OwnerKey → ℕ × ℕ → ℕ → Option ℕ → Type 0
+AreWithin owners parties mask after = (scope n : ℕ) → is_past after scope ≡ true → has_owner owners (parties, (scope, n)) ≡ true → is_within scope mask ≡ true
 
-pub lowered_more : (old new new' : List (ℕ × Shared)) (owners : List ((ℕ × ℕ) × ℕ)) (owner client mask : ℕ) (after : Option ℕ) (n : ℕ) → IsOwned old owners → LoweredTo old new owner client mask after →
-    IsNextOwned owners owner client after (Some n) →
-    family_numbered new' n ≡ option_map (lowered_by mask) (family_numbered new n) → ((k : ℕ) → k ≢ n → family_numbered new' k ≡ family_numbered new k) →
-    LoweredTo old new' owner client mask (Some n)
-lowered_more old new new' owners owner client mask after n owned below next here others k =
-    let was = below k in
-    let was_n = below n in
-    let other = others k in
-    let coded = coded_same owner client mask (family_numbered old n) in
-    let uncoded = uncoded_same owner client mask (family_numbered old k) in
-    let own = owned ((owner, client), n) in
-    let own_k = owned ((owner, client), k) in
-    let first = next.0 in
-    let there = next.1 in
-    let none = next.2 k in
-    grind (arith, nat_tests, was, was_n, here, other, coded, uncoded, own, own_k, first, there, none)
+-- all that have been lowered so far are as they are to be, and no other
+pub record LowersOn (old new : List (ℕ × Shared)) (owners : List OwnerKey) (parties : ℕ × ℕ) (mask : ℕ) (after : Option ℕ) : Type 0 where
+  pub owned : IsOwned new owners
+  pub same : (k : ℕ) → option_map (lowered_shared parties.0 parties.1 mask) (family_numbered new k) ≡ option_map (lowered_shared parties.0 parties.1 mask) (family_numbered old k)
+  pub within : AreWithin owners parties mask after
 
-pub lowered_all : (old new : List (ℕ × Shared)) (owners : List ((ℕ × ℕ) × ℕ)) (owner client mask : ℕ) (after : Option ℕ) → IsOwned old owners → LoweredTo old new owner client mask after →
-    IsNextOwned owners owner client after None → HasLowered old new owner client mask
-lowered_all old new owners owner client mask after owned below none k =
-    let was = below k in
-    let uncoded = uncoded_same owner client mask (family_numbered old k) in
-    let own = owned ((owner, client), k) in
-    let absent = none k in
-    grind (arith, nat_tests, was, uncoded, own, absent)
+-- one that goes beyond the mask is ended
+marked_same : (o : Option Shared) (parties : ℕ × ℕ) (mask scope n : ℕ) → is_coded (parties, (scope, n)) o ≡ true → is_within scope mask ≡ false →
+    option_map (lowered_shared parties.0 parties.1 mask) (option_map (λ (s : Shared). record s { ended = true }) o) ≡ option_map (lowered_shared parties.0 parties.1 mask) o
+marked_same None parties mask scope n coded beyond = refl
+marked_same (Some s) parties mask scope n coded beyond = by s.code_scope refl
+  where
+    by : (c : Option ℕ) → s.code_scope ≡ c → option_map (lowered_shared parties.0 parties.1 mask) (Some (record s { ended = true })) ≡ option_map (lowered_shared parties.0 parties.1 mask) (Some s)
+    by None is = grind (arith, nat_tests, is, coded)
+    by (Some x) is = grind (arith, nat_tests, is, coded, beyond)
+
+pub lowered_more : (old new new' : List (ℕ × Shared)) (owners owners' : List OwnerKey) (parties : ℕ × ℕ) (mask : ℕ) (after : Option ℕ) (found : ℕ × ℕ) → LowersOn old new owners parties mask after →
+    has_owner owners (parties, found) ≡ true → is_within found.0 mask ≡ false → HasStruck owners owners' (Some (parties, found)) → HasEnded new new' found.1 →
+    LowersOn old new' owners' parties mask after
+lowered_more old new new' owners owners' parties mask after found so_far there beyond struck ended = record {
+  owned = owned_marked new new' owners owners' (parties, found) struck there ended so_far.owned;
+  same = λ k.
+      let other = ended.others k in
+      let here = ended.here in
+      let was = so_far.same k in
+      let marked = marked_same (family_numbered new found.1) parties mask found.0 found.1 (sym (so_far.owned (parties, found)) ∙ there) beyond in
+      grind (arith, nat_tests, other, here, was, marked);
+  within = λ scope n past kept. so_far.within scope n past (let left = struck (parties, (scope, n)) in grind (arith, left, kept));
+}
+
+pub within_more : (old new : List (ℕ × Shared)) (owners : List OwnerKey) (parties : ℕ × ℕ) (mask : ℕ) (after : Option ℕ) (found : ℕ × ℕ) → LowersOn old new owners parties mask after →
+    IsNextOwned owners parties after (Some found) → is_within found.0 mask ≡ true → LowersOn old new owners parties mask (Some found.0)
+within_more old new owners parties mask after found so_far next within = record {
+  owned = so_far.owned;
+  same = so_far.same;
+  within = λ scope n past kept.
+      let was = so_far.within scope n in
+      let none = next.2 scope n in
+      grind (arith, nat_tests, was, none, past, kept, within);
+}
+
+-- one whose code's scope lies within the mask, or that is in no index, is as it is to be
+settled : (o : Option Shared) (parties : ℕ × ℕ) (mask n : ℕ) → ((scope : ℕ) → is_coded (parties, (scope, n)) o ≡ true → is_within scope mask ≡ true) →
+    option_map (lowered_shared parties.0 parties.1 mask) o ≡ o
+settled None parties mask n within = refl
+settled (Some s) parties mask n within = by s.ended s.code_scope refl refl
+  where
+    by : (e : Bool) (c : Option ℕ) → s.ended ≡ e → s.code_scope ≡ c → option_map (lowered_shared parties.0 parties.1 mask) (Some s) ≡ Some s
+    by true c ended is = let same : record s { ended = true } ≡ s = (λ i. record s { ended = sym ended i }) in grind (arith, same)
+    by false None ended is = grind (arith, is)
+    by false (Some x) ended is = let low = within x in grind (arith, nat_tests, is, ended, low)
+
+pub lowered_all : (old new : List (ℕ × Shared)) (owners : List OwnerKey) (parties : ℕ × ℕ) (mask : ℕ) (after : Option ℕ) → LowersOn old new owners parties mask after →
+    IsNextOwned owners parties after None → HasLowered old new parties.0 parties.1 mask
+lowered_all old new owners parties mask after so_far all k =
+    sym (settled (family_numbered new k) parties mask k within) ∙ so_far.same k
+  where
+    within : (scope : ℕ) → is_coded (parties, (scope, k)) (family_numbered new k) ≡ true → is_within scope mask ≡ true
+    within scope coded =
+        let there = so_far.owned (parties, (scope, k)) ∙ coded in
+        let low = so_far.within scope k in
+        let none = all scope k in
+        grind (arith, there, low, none)
 
 -- a change on a family's state is seen on each of its records
 pub view_lowered : (old new : List (ℕ × Shared)) (es : List (List ℕ × Record)) (owner client mask : ℕ) → HasLowered old new owner client mask →
@@ -90,10 +165,10 @@ view_lowered old new (e ∷ es) owner client mask lowered =
     let here = lowered e.1.family in
     grind (arith, tail, here)
 
-pub tied_lowered : (old new : List (ℕ × Shared)) (owner client mask : ℕ) (es : List (List ℕ × Record)) (agenda : Agenda) (owners : List ((ℕ × ℕ) × ℕ)) (last : ℕ) →
-    HasLowered old new owner client mask → Tied old es agenda owners last → Tied new es agenda owners last
-tied_lowered old new owner client mask es agenda owners last lowered =
-    tied_changed old new es agenda owners last (λ k. (let is = lowered k in grind (arith, is))) (λ o c k. (let is = lowered k in grind (arith, is)))
+pub tied_lowered : (old new : List (ℕ × Shared)) (owner client mask : ℕ) (es : List (List ℕ × Record)) (agenda : Agenda) (owners owners' : List OwnerKey) (last : ℕ) →
+    HasLowered old new owner client mask → IsOwned new owners' → Tied old es agenda owners last → Tied new es agenda owners' last
+tied_lowered old new owner client mask es agenda owners owners' last lowered owned =
+    tied_anew old new es agenda owners owners' last (λ k. (let is = lowered k in grind (arith, is))) owned
 
 -- ALTERING
 
@@ -124,7 +199,7 @@ pub unseen_empty : (t : Tables) (new : List (ℕ × Shared)) (n : ℕ) → IsTie
 unseen_empty t new n tied empty others = let same = tied.counted n in unseen t.families.entries new n t.records.entries others (omega (arith, same, empty))
 
 -- what is seen once a family without records is let go of
-pub tied_closed : (old new : List (ℕ × Shared)) (n : ℕ) (es : List (List ℕ × Record)) (agenda : Agenda) (owners owners' : List ((ℕ × ℕ) × ℕ)) (last : ℕ) → (shared_at old n).count ≡ 0 →
+pub tied_closed : (old new : List (ℕ × Shared)) (n : ℕ) (es : List (List ℕ × Record)) (agenda : Agenda) (owners owners' : List OwnerKey) (last : ℕ) → (shared_at old n).count ≡ 0 →
     HasClosed old new n → (IsOwned old owners → IsOwned new owners') → Tied old es agenda owners last → Tied new es agenda owners' last
 tied_closed old new n es agenda owners owners' last bare closed owned tied = record {
   once = tied.once;
@@ -136,50 +211,49 @@ tied_closed old new n es agenda owners owners' last bare closed owned tied = rec
 }
 
 -- a family without records is let go of, and what the tables tell of stays
-pub record IsCleared (t : Tables) (new : List (ℕ × Shared)) (owners : List ((ℕ × ℕ) × ℕ)) (n : ℕ) : Type 0 where
+pub record IsCleared (t : Tables) (new : List (ℕ × Shared)) (owners : List OwnerKey) (n : ℕ) : Type 0 where
   pub tied : Tied new t.records.entries t.agenda owners t.last
   pub kept : all_kept new t.records.entries ≡ kept_of t
   pub closed : HasClosed t.families.entries new n
 
 -- so it is wherever the others lie
-pub cleared : (t : Tables) (mid new : List (ℕ × Shared)) (owners : List ((ℕ × ℕ) × ℕ)) (n : ℕ) → IsTied t → (shared_at t.families.entries n).count ≡ 0 →
+pub cleared : (t : Tables) (mid new : List (ℕ × Shared)) (owners : List OwnerKey) (n : ℕ) → IsTied t → (shared_at t.families.entries n).count ≡ 0 →
     HasClosed t.families.entries mid n → (IsOwned t.families.entries t.owners.keys → IsOwned mid owners) →
     ((k : ℕ) → family_numbered new k ≡ family_numbered mid k) → IsCleared t new owners n
 cleared t mid new owners n tied bare closed owned same =
     let moved : HasClosed t.families.entries new n = record { here = same n ∙ closed.here; others = λ k ne. same k ∙ closed.others k ne } in
     record {
       tied = tied_closed t.families.entries new n t.records.entries t.agenda t.owners.keys owners t.last bare moved
-          (λ was q. owned was q ∙ ap (is_coded q.0.0 q.0.1) (sym (same q.1))) tied;
+          (λ was key. owned was key ∙ ap (is_coded key) (sym (same key.1.1))) tied;
       kept = unseen_empty t new n tied bare moved.others;
       closed = moved;
     }
 
-owned_opened : (old new : List (ℕ × Shared)) (n : ℕ) (s : Shared) (owners owners' : List ((ℕ × ℕ) × ℕ)) → family_numbered old n ≡ None → family_numbered new n ≡ Some s →
-    OthersStay old new n → (is_some s.code_scope ≡ true → HasIndexed owners owners' ((s.owner, s.client), n)) → (is_some s.code_scope ≡ false → owners' ≡ owners) →
-    IsOwned old owners → (b : Bool) → is_some s.code_scope ≡ b → IsOwned new owners'
-owned_opened old new n s owners owners' none here others coded uncoded owned true is = λ q.
-    let at = owner_at ((s.owner, s.client), n) q in
-    let from = owner_here ((s.owner, s.client), n) q in
-    let indexed = coded is q in
+owned_opened : (old new : List (ℕ × Shared)) (n : ℕ) (s : Shared) (owners owners' : List OwnerKey) (key : Option OwnerKey) → family_numbered old n ≡ None → family_numbered new n ≡ Some s →
+    OthersStay old new n → key_of s n ≡ key → HasIndexed owners owners' key → IsOwned old owners → IsOwned new owners'
+owned_opened old new n s owners owners' None none here others is indexed owned q =
+    let quiet = keyless s n q is in
     let was = owned q in
-    let other = others q.1 in
-    grind (arith, nat_tests, at, from, indexed, was, other, here, none, is)
-owned_opened old new n s owners owners' none here others coded uncoded owned false is = λ q.
-    let same = uncoded is in
+    let other = others q.1.1 in
+    grind (arith, nat_tests, quiet, was, other, here, none, indexed)
+owned_opened old new n s owners owners' (Some key) none here others is indexed owned q =
+    let at = coded_at s n key q is in
+    let far = owner_at key q in
+    let number = key_number s n key is in
+    let now = indexed q in
     let was = owned q in
-    let other = others q.1 in
-    grind (arith, nat_tests, same, was, other, here, none, is)
+    let other = others q.1.1 in
+    grind (arith, nat_tests, at, far, number, now, was, other, here, none)
 
 -- and once one without records is opened
-pub tied_opened : (old new : List (ℕ × Shared)) (n : ℕ) (s : Shared) (es : List (List ℕ × Record)) (agenda : Agenda) (owners owners' : List ((ℕ × ℕ) × ℕ)) (last : ℕ) → s.count ≡ 0 →
+pub tied_opened : (old new : List (ℕ × Shared)) (n : ℕ) (s : Shared) (es : List (List ℕ × Record)) (agenda : Agenda) (owners owners' : List OwnerKey) (last : ℕ) → s.count ≡ 0 →
     family_numbered old n ≡ None → family_numbered new n ≡ Some s → OthersStay old new n →
-    (is_some s.code_scope ≡ true → HasIndexed owners owners' ((s.owner, s.client), n)) → (is_some s.code_scope ≡ false → owners' ≡ owners) →
-    Tied old es agenda owners last → Tied new es agenda owners' last
-tied_opened old new n s es agenda owners owners' last empty none here others coded uncoded tied = record {
+    HasIndexed owners owners' (key_of s n) → Tied old es agenda owners last → Tied new es agenda owners' last
+tied_opened old new n s es agenda owners owners' last empty none here others indexed tied = record {
   once = tied.once;
   listed = tied.listed;
   exact = tied.exact;
   counted = λ k. (let other = others k in let was = tied.counted k in let was_n = tied.counted n in grind (arith, nat_tests, here, none, other, was, was_n, empty));
-  owned = owned_opened old new n s owners owners' none here others coded uncoded tied.owned (is_some s.code_scope) refl;
+  owned = owned_opened old new n s owners owners' (key_of s n) none here others refl indexed tied.owned;
   below = tied.below;
 }

@@ -44,11 +44,11 @@ pub use Rattle.token_store.specs.Image.{as_kept, kept_record, kind_told, owner_t
 pub use Rattle.token_store.specs.Kept.{Kept, kept_at, kept_lives, kept_unexpired, Room, Held}
 pub use Rattle.token_store.specs.Records.{shared_at, all_kept, Tied, kept_of, IsTied, kept_in, kept_under, member_count, IsCounted, is_coded, IsOwned, home_shared, family_numbered, shared_seen}
 pub use Rattle.token_store.specs.Records.{fact_in, expiry}
-pub use Rattle.token_store.specs.Records.{expiry_of, AllListed, IsBelow, or_nothing, has_owner, owner_cmp, code_shared, texts_given}
-pub use Rattle.token_store.specs.RecordsParts.{code_kept, is_member_at, TellsSame, is_live_at, HasLeft, RecordChange, changed, HasEnded, HasLowered, IsNextOwned, lowered_by, lowered_shared}
+pub use Rattle.token_store.specs.Records.{expiry_of, AllListed, IsBelow, or_nothing, has_owner, OwnerKey, is_scope, owner_cmp, code_shared, texts_given}
+pub use Rattle.token_store.specs.RecordsParts.{code_kept, is_member_at, TellsSame, is_live_at, HasLeft, RecordChange, changed, HasEnded, HasLowered, HasIndexed, HasStruck, key_of, is_past, start_of, IsNextOwned, lowered_shared}
 pub use Rattle.token_store.specs.RecordsParts.{token_kept}
 pub use Rattle.token_store.specs.RecordsParts.{HasEntered, SharesSame, spent_in, HasTaken, IsNoneExpired, AllGone, shared_or, where_peopled, BecomesKnown, SeenSame, HasAltered, altered, Sheds}
-pub use Rattle.token_store.specs.RecordsParts.{AllLive, IsAfter, start_of}
+pub use Rattle.token_store.specs.RecordsParts.{AllLive}
 pub use Rattle.token_store.specs.Room.{Waits, HasRoomFor, IsExpected, IsPeopled, held_of, room_of, records_of}
 pub use Rattle.token_store.specs.declared.agenda.Agenda.{Agenda}
 pub use Rattle.token_store.specs.declared.agenda.Deadline.{Deadline}

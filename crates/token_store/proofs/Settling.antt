@@ -1,6 +1,6 @@
 -- The tables as a record that was about to come has come.
 use Rattle.std.proofs.Common.{◌≡◌, ◌<◌, ◌≤◌, ℕ, ◌+◌, List, [], ◌∷◌, ◌++◌, Option, Some, None, Bool, true, false, cond, length, refl, ap, ◌∙◌, sym, arith}
-use Rattle.token_store.proofs.Names.{◌==◌, is_some, unwrap_or, family_numbered, count_by, IsDistinct, list_any, IsPermutation, option_or, MatchOption, bytes_eq, lookup, set_value, sum_by-set_value}
+use Rattle.token_store.proofs.Names.{OwnerKey, ◌==◌, is_some, unwrap_or, family_numbered, count_by, IsDistinct, list_any, IsPermutation, option_or, MatchOption, bytes_eq, lookup, set_value, sum_by-set_value}
 use Rattle.token_store.proofs.Names.{values_of, keys_of, find-append, list_any-append, count_by-le-length, length-map, sum_by_values_permutation, bytes_eq-Decides, is_named, is_unexpired, Record}
 use Rattle.token_store.proofs.Names.{Shared, Agenda, Deadline, deadlines_of, is_deadline, IsExact, Kept, kept_at, shared_at, expiry, expiry_of, kept_under, all_kept, AllListed, IsCounted, IsOwned}
 use Rattle.token_store.proofs.Names.{member_count}
@@ -75,11 +75,11 @@ same_moved families families' es es' m shares once once' moved finds = record {
     shown_same d t (Some x) = ap (λ k. cond (is_live_at t x) (Some k) None) (shares x.family d x)
 
 -- A record has come into its family, in the place of what was under its digest.
-pub record Settled (families families' : List (ℕ × Shared)) (es es' : List (List ℕ × Record)) (agenda' : Agenda) (owners' : List ((ℕ × ℕ) × ℕ)) (last : ℕ) (digest : List ℕ) (r : Record) : Type 0 where
+pub record Settled (families families' : List (ℕ × Shared)) (es es' : List (List ℕ × Record)) (agenda' : Agenda) (owners' : List OwnerKey) (last : ℕ) (digest : List ℕ) (r : Record) : Type 0 where
   pub tied : Tied families' es' agenda' owners' last
   pub keeps : (m : ℕ) → kept_at (all_kept families es) digest m ≡ None → TellsSame (all_kept families es ++ kept_under (shared_at families r.family) digest r ∷ []) (all_kept families' es') m
 
-pub settled : (families f f' : List (ℕ × Shared)) (es es' : List (List ℕ × Record)) (agenda agenda' : Agenda) (owners owners' : List ((ℕ × ℕ) × ℕ)) (last : ℕ) (digest : List ℕ) (o : Option Record) (r : Record) →
+pub settled : (families f f' : List (ℕ × Shared)) (es es' : List (List ℕ × Record)) (agenda agenda' : Agenda) (owners owners' : List OwnerKey) (last : ℕ) (digest : List ℕ) (o : Option Record) (r : Record) →
     Tied families es agenda owners last → r.family ≤ last → is_some (family_numbered families r.family) ≡ true → HasEntered families f r.family 1 → HasLeftOf o f f' → (IsOwned f owners → IsOwned f' owners') →
     o ≡ lookup (bytes_eq digest) es → MatchOption o (IsPermutation ((digest, r) ∷ es) es') (λ _. es' ≡ set_value (bytes_eq digest) es r) → IsDistinct bytes_eq (keys_of es') →
     ((d : List ℕ) → lookup (bytes_eq d) es' ≡ cond (bytes_eq digest d) (Some r) (lookup (bytes_eq d) es)) → deadlines_of agenda' ≡ deadlines_of agenda ++ (record { digest = digest; moment = expiry r }) ∷ [] →
@@ -90,7 +90,7 @@ settled families f f' es es' agenda agenda' owners owners' last digest o r tied 
     listed = more_listed es es' (deadlines_of agenda) (deadlines_of agenda') digest r added finds tied.listed;
     exact = exact tied.exact;
     counted = counted';
-    owned = owned (λ q. (let other = entered.others q.1 in let was = tied.owned q in grind (arith, other, was)));
+    owned = owned (λ q. (let other = entered.others q.1.1 in let was = tied.owned q in grind (arith, other, was)));
     below = λ n lt. (let moved = count_put (λ x. x.family == n) digest o r es es' was puts in
         let before = tied.below n lt in
         let other : cond {A = ℕ} (r.family == n) 1 0 ≡ 0 = grind (arith, nat_tests, low, lt) in
@@ -160,7 +160,7 @@ count_few families es n counted =
     omega (arith, le, len, same)
 
 -- the records in another order, and the same deadlines in another agenda
-pub tied_moved : (families : List (ℕ × Shared)) (es es' : List (List ℕ × Record)) (agenda agenda' : Agenda) (owners : List ((ℕ × ℕ) × ℕ)) (last : ℕ) → IsDistinct bytes_eq (keys_of es') → IsPermutation es es' →
+pub tied_moved : (families : List (ℕ × Shared)) (es es' : List (List ℕ × Record)) (agenda agenda' : Agenda) (owners : List OwnerKey) (last : ℕ) → IsDistinct bytes_eq (keys_of es') → IsPermutation es es' →
     ((d : List ℕ) → lookup (bytes_eq d) es' ≡ lookup (bytes_eq d) es) → deadlines_of agenda' ≡ deadlines_of agenda → (IsExact agenda → IsExact agenda') →
     Tied families es agenda owners last → Tied families es' agenda' owners last
 tied_moved families es es' agenda agenda' owners last once' moved finds same exact tied = record {

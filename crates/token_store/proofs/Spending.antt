@@ -1,6 +1,6 @@
 -- The tables with a record that is spent.
 use Rattle.std.proofs.Common.{◌≡◌, ℕ, List, [], ◌∷◌, Option, Some, None, true, cond, refl, ap, ◌∙◌, sym, arith}
-use Rattle.token_store.proofs.Names.{◌==◌, is_some, IsDistinct, bytes_eq, lookup, set_value, keys_of, nat_list_eq_equiv, lookup-none, keys-set_value, none_past_head, sum_by-set_value}
+use Rattle.token_store.proofs.Names.{OwnerKey, ◌==◌, is_some, IsDistinct, bytes_eq, lookup, set_value, keys_of, nat_list_eq_equiv, lookup-none, keys-set_value, none_past_head, sum_by-set_value}
 use Rattle.token_store.proofs.Names.{IsDistinct-tail, Record, Shared, Kept, kept_at, Agenda, all_kept, member_count, expiry_of, Tied, RecordChange, changed, is_live_at, spent_in}
 use Rattle.std.specs.Prelude.{map}
 use Rattle.token_store.proofs.Looking.{shown, found}
@@ -16,7 +16,7 @@ spent_lookup (e ∷ es) digest d r at g same =
     grind (arith, more)
 
 -- ties
-pub tied_spent : (families : List (ℕ × Shared)) (es : List (List ℕ × Record)) (agenda : Agenda) (owners : List ((ℕ × ℕ) × ℕ)) (last : ℕ) (digest : List ℕ) →
+pub tied_spent : (families : List (ℕ × Shared)) (es : List (List ℕ × Record)) (agenda : Agenda) (owners : List OwnerKey) (last : ℕ) (digest : List ℕ) →
     Tied families es agenda owners last → Tied families (spent_in digest es (lookup (bytes_eq digest) es)) agenda owners last
 tied_spent families es agenda owners last digest tied = tied_cases (lookup (bytes_eq digest) es) refl
   where

@@ -1,6 +1,6 @@
 -- The tables as what has expired goes.
 use Rattle.std.proofs.Common.{◌≡◌, ◌<◌, ℕ, List, [], ◌∷◌, ◌++◌, Option, Some, None, false, Bool, true, cond, refl, ◌∙◌, arith}
-use Rattle.token_store.proofs.Names.{IsDistinct, IsPermutation, bytes_eq, lookup, keys_of, remove_entry, list_any-append, bytes_eq-Decides, Deadline, Record, Shared, least, is_deadline}
+use Rattle.token_store.proofs.Names.{OwnerKey, IsDistinct, IsPermutation, bytes_eq, lookup, keys_of, remove_entry, list_any-append, bytes_eq-Decides, Deadline, Record, Shared, least, is_deadline}
 use Rattle.token_store.proofs.Names.{SeenSame, all_kept, expiry_of, IsCounted, IsOwned, is_live_at, HasLeft, HasTaken, IsNoneExpired, AllGone, Sheds, nat_tests}
 use Rattle.token_store.proofs.Looking.{same_on}
 use Rattle.token_store.proofs.Dropping.{counted_without, dropped_one, fewer_members}
@@ -27,12 +27,12 @@ pub taken_out : (old without new : List (List ℕ × Record)) (digest : List ℕ
     new ≡ without → HasTaken old new digest r
 taken_out old without new digest r at once moved taken is = rw is (record { found = at; once = once; moved = moved; taken = taken })
 
-pub sheds_none : (families : List (ℕ × Shared)) (es : List (List ℕ × Record)) (owners : List ((ℕ × ℕ) × ℕ)) (xs : List Deadline) (m : ℕ) (keeps : Bool) → IsDistinct bytes_eq (keys_of es) → IsCounted families es →
+pub sheds_none : (families : List (ℕ × Shared)) (es : List (List ℕ × Record)) (owners : List OwnerKey) (xs : List Deadline) (m : ℕ) (keeps : Bool) → IsDistinct bytes_eq (keys_of es) → IsCounted families es →
     AllGone xs es m → Sheds families es owners families es owners xs m keeps
 sheds_none families es owners xs m keeps once counted gone =
     record { once = once; counted = counted; no_more = λ n. omega arith; owned = λ owned. owned; same = record { finds = λ d t le. refl; counts = λ t le. refl }; fewer = λ d t at. at; gone = gone; stay = λ is n. refl }
 
-pub sheds_on : (f g h : List (ℕ × Shared)) (es fs gs : List (List ℕ × Record)) (o p q : List ((ℕ × ℕ) × ℕ)) (xs ys : List Deadline) (m : ℕ) (keeps : Bool) →
+pub sheds_on : (f g h : List (ℕ × Shared)) (es fs gs : List (List ℕ × Record)) (o p q : List OwnerKey) (xs ys : List Deadline) (m : ℕ) (keeps : Bool) →
     Sheds f es o g fs p xs m keeps → Sheds g fs p h gs q ys m keeps → Sheds f es o h gs q (xs ++ ys) m keeps
 sheds_on f g h es fs gs o p q xs ys m keeps first more = record {
   once = more.once;
@@ -53,7 +53,7 @@ sheds_on f g h es fs gs o p q xs ys m keeps first more = record {
 left_seen : (families families' : List (ℕ × Shared)) (n : ℕ) (keeps : Bool) → HasLeft families families' n keeps → keeps ≡ true → SeenSame families families'
 left_seen families families' n keeps left is k = let other = left.others k in grind (arith, nat_tests, left.here, other, is)
 
-pub sheds_one : (families families' : List (ℕ × Shared)) (es es' : List (List ℕ × Record)) (owners owners' : List ((ℕ × ℕ) × ℕ)) (e : Deadline) (r : Record) (m : ℕ) (keeps : Bool) → IsDistinct bytes_eq (keys_of es) →
+pub sheds_one : (families families' : List (ℕ × Shared)) (es es' : List (List ℕ × Record)) (owners owners' : List OwnerKey) (e : Deadline) (r : Record) (m : ℕ) (keeps : Bool) → IsDistinct bytes_eq (keys_of es) →
     IsCounted families es → HasTaken es es' e.digest r → is_live_at m r ≡ false → HasLeft families families' r.family keeps → (IsOwned families owners → IsOwned families' owners') →
     Sheds families es owners families' es' owners' (e ∷ []) m keeps
 sheds_one families families' es es' owners owners' e r m keeps once counted has late left owned =

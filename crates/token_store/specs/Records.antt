@@ -1,5 +1,5 @@
 -- The store's tables, and what is seen of them.
-use Rattle.std.specs.Prelude.{◌≡◌, ◌+◌, ℕ, List, Bool, true, false, ◌==◌, ◌&&◌, Option, Some, None, is_some, unwrap_or, option_map, map, count_by, string_bytes, nat_eq, ◌<◌}
+use Rattle.std.specs.Prelude.{◌≡◌, ◌+◌, ℕ, List, Bool, true, false, ◌==◌, ◌&&◌, Option, Some, None, is_some, not, unwrap_or, option_map, map, count_by, string_bytes, nat_eq, ◌<◌}
 use Rattle.std.specs.List.{list_any, IsDistinct}
 use Rattle.std.specs.declared.boxed.Box.{Box}
 use Rattle.std.specs.declared.alloc.Global.{Global}
@@ -104,22 +104,31 @@ AllListed deadlines records =
 abbrev pub member_count : List (List ℕ × Record) → ℕ → ℕ
 member_count records n = count_by (λ r. r.family == n) (values_of records)
 
--- the family's code is of this owner and this client
-abbrev pub is_coded : ℕ → ℕ → Option Shared → Bool
-is_coded owner client None = false
-is_coded owner client (Some s) = is_some s.code_scope && (s.owner == owner) && (s.client == client)
+-- what the index tells of a family: its owner and client, the scope of its code, and its number
+abbrev pub OwnerKey : Type 0
+OwnerKey = (ℕ × ℕ) × (ℕ × ℕ)
 
--- the order of the families of each owner and client
-abbrev pub owner_cmp : (ℕ × ℕ) × ℕ → (ℕ × ℕ) × ℕ → Ordering
-owner_cmp x y = ordering_then (ordering_then (nat_cmp x.0.0 y.0.0) (nat_cmp x.0.1 y.0.1)) (nat_cmp x.1 y.1)
+abbrev pub is_scope : ℕ → Option ℕ → Bool
+is_scope scope None = false
+is_scope scope (Some s) = s == scope
+
+-- the family has not ended, and its code is of this owner, this client and this scope
+abbrev pub is_coded : OwnerKey → Option Shared → Bool
+is_coded key None = false
+is_coded key (Some s) = not s.ended && is_scope key.1.0 s.code_scope && (s.owner == key.0.0) && (s.client == key.0.1)
+
+-- the order of the index
+abbrev pub owner_cmp : OwnerKey → OwnerKey → Ordering
+owner_cmp x y =
+    ordering_then (ordering_then (nat_cmp x.0.0 y.0.0) (nat_cmp x.0.1 y.0.1)) (ordering_then (nat_cmp x.1.0 y.1.0) (nat_cmp x.1.1 y.1.1))
 
 -- the family is in the index
-abbrev pub has_owner : List ((ℕ × ℕ) × ℕ) → (ℕ × ℕ) × ℕ → Bool
-has_owner owners q = list_any (is_at (owner_cmp q)) owners
+abbrev pub has_owner : List OwnerKey → OwnerKey → Bool
+has_owner owners key = list_any (is_at (owner_cmp key)) owners
 
--- the families of each owner and client are those whose code is theirs
-abbrev pub IsOwned : List (ℕ × Shared) → List ((ℕ × ℕ) × ℕ) → Type 0
-IsOwned families owners = (q : (ℕ × ℕ) × ℕ) → has_owner owners q ≡ is_coded q.0.0 q.0.1 (family_numbered families q.1)
+-- the index has those that have not ended and whose code is known
+abbrev pub IsOwned : List (ℕ × Shared) → List OwnerKey → Type 0
+IsOwned families owners = (key : OwnerKey) → has_owner owners key ≡ is_coded key (family_numbered families key.1.1)
 
 -- each family's count is that of its records
 abbrev pub IsCounted : List (ℕ × Shared) → List (List ℕ × Record) → Type 0
@@ -134,7 +143,7 @@ abbrev pub IsBelow : List (List ℕ × Record) → ℕ → Type 0
 IsBelow records last = (n : ℕ) → last < n → member_count records n ≡ 0
 
 -- The tables tell of the same records and families, and of no family of a greater number than the last.
-pub record Tied (families : List (ℕ × Shared)) (records : List (List ℕ × Record)) (agenda : Agenda) (owners : List ((ℕ × ℕ) × ℕ))
+pub record Tied (families : List (ℕ × Shared)) (records : List (List ℕ × Record)) (agenda : Agenda) (owners : List OwnerKey)
     (last : ℕ) : Type 0 where
   -- each digest is there once
   pub once : IsDistinct bytes_eq (keys_of records)

@@ -1,5 +1,5 @@
 -- Beside Records: only the contracts of this crate's own parts and their proofs cite this, no public clause.
-use Rattle.std.specs.Prelude.{◌≡◌, ◌≢◌, ◌+◌, ◌-◌, ◌<◌, ◌≤◌, ℕ, List, [], ◌∷◌, ◌++◌, Bool, true, false, not, nat_lt, ◌==◌, ◌&&◌, if◌then◌else◌, ◌||◌, Option, Some, None, option_map, unwrap_or}
+use Rattle.std.specs.Prelude.{◌≡◌, ◌≢◌, ◌+◌, ◌-◌, ◌<◌, ◌≤◌, ℕ, List, [], ◌∷◌, ◌++◌, Bool, true, false, not, nat_lt, nat_le, ◌==◌, ◌&&◌, if◌then◌else◌, ◌||◌, Option, Some, None, option_map, unwrap_or}
 use Rattle.std.specs.List.{list_any, IsDistinct}
 use Rattle.std.specs.Str.{bytes_eq}
 use Rattle.std.specs.declared.ops.Bound.{Bound}
@@ -9,7 +9,7 @@ use Rattle.std.specs.List.Sorted.{IsPermutation}
 use Rattle.std.specs.Map.{lookup, keys_of, remove_entry, set_value}
 use Rattle.consent.specs.RecordFacts as fact
 use Rattle.consent.specs.Limits.{code_life}
-use Rattle.consent.specs.History.{is_named, is_beyond, is_within, ends}
+use Rattle.consent.specs.History.{is_named, is_beyond, ends}
 use Rattle.consent.specs.History as told
 use Rattle.consent.specs.History.Change.{Consented}
 use Rattle.token_store.specs.declared.agenda.Deadline.{Deadline}
@@ -21,7 +21,7 @@ use Rattle.consent.specs.declared.change.NewToken.{NewToken}
 use Rattle.token_store.specs.Agenda.{is_deadline}
 use Rattle.token_store.specs.Kept.{Kept, kept_at, kept_unexpired}
 use Rattle.token_store.specs.Image.{terms_by, kept_told}
-use Rattle.token_store.specs.Records.{kept_under, kept_in, family_numbered, shared_at, kept_of, shared_seen, all_kept, expiry_of, owner_cmp, has_owner, code_shared, texts_given, member_count}
+use Rattle.token_store.specs.Records.{kept_under, kept_in, family_numbered, shared_at, kept_of, shared_seen, all_kept, expiry_of, OwnerKey, owner_cmp, has_owner, code_shared, texts_given, member_count}
 use Rattle.token_store.specs.Records.{IsCounted, IsOwned}
 use Rattle.std.specs.Option.{option_and_then}
 
@@ -79,8 +79,8 @@ abbrev pub SeenSame : (old new : List (ℕ × Shared)) → Type 0
 SeenSame old new = (n : ℕ) → option_map shared_seen (family_numbered new n) ≡ option_map shared_seen (family_numbered old n)
 
 -- Some records are gone that had expired, and their families with the last of them, unless those are kept; none that is left has one of these deadlines and has expired.
-pub record Sheds (families : List (ℕ × Shared)) (records : List (List ℕ × Record)) (owners : List ((ℕ × ℕ) × ℕ)) (families' : List (ℕ × Shared))
-    (records' : List (List ℕ × Record)) (owners' : List ((ℕ × ℕ) × ℕ)) (deadlines : List Deadline) (moment : ℕ) (keeps : Bool) : Type 0 where
+pub record Sheds (families : List (ℕ × Shared)) (records : List (List ℕ × Record)) (owners : List OwnerKey) (families' : List (ℕ × Shared))
+    (records' : List (List ℕ × Record)) (owners' : List OwnerKey) (deadlines : List Deadline) (moment : ℕ) (keeps : Bool) : Type 0 where
   pub once : IsDistinct bytes_eq (keys_of records')
   pub counted : IsCounted families' records'
   pub no_more : (n : ℕ) → member_count records' n ≤ member_count records n
@@ -140,14 +140,6 @@ abbrev pub spent_in : List ℕ → List (List ℕ × Record) → Option Record �
 spent_in digest es None = es
 spent_in digest es (Some r) = set_value (bytes_eq digest) es (record r { spent = true })
 
-abbrev pub is_beyond_mask : ℕ → Option ℕ → Bool
-is_beyond_mask mask None = false
-is_beyond_mask mask (Some scope) = not (is_within scope mask)
-
--- a code's scope beyond the mask ends the family
-abbrev pub lowered_by : ℕ → Shared → Shared
-lowered_by mask s = if is_beyond_mask mask s.code_scope then record s { ended = true } else s
-
 -- the family, ended if it is of the two and goes beyond the mask
 abbrev pub lowered_shared : ℕ → ℕ → ℕ → Shared → Shared
 lowered_shared owner client mask s =
@@ -179,27 +171,44 @@ abbrev pub HasLowered : List (ℕ × Shared) → List (ℕ × Shared) → ℕ �
 HasLowered old new owner client mask =
     (k : ℕ) → family_numbered new k ≡ option_map (lowered_shared owner client mask) (family_numbered old k)
 
--- the number comes after this one, if there is this one
-abbrev pub IsAfter : Option ℕ → ℕ → Type 0
-IsAfter None k = Unit {0}
-IsAfter (Some n) k = n < k
+-- the scope of the code of a family that has not ended
+abbrev pub open_scope : Bool → Option ℕ → Option ℕ
+open_scope ended code_scope = if ended then None else code_scope
 
--- the family is in the index too
-abbrev pub HasIndexed : (old new : List ((ℕ × ℕ) × ℕ)) → (ℕ × ℕ) × ℕ → Type 0
-HasIndexed old new family = (q : (ℕ × ℕ) × ℕ) → has_owner new q ≡ (if is_at (owner_cmp family) q then true else has_owner old q)
+-- the index's key of a family of the two, if it stands there under a scope
+abbrev pub key_under : Option ℕ → ℕ × ℕ → ℕ → Option OwnerKey
+key_under scope parties n = option_map (λ scope. (parties, (scope, n))) scope
 
--- where those that come after begin
-abbrev pub start_of : ℕ → ℕ → Option ℕ → Bound ((ℕ × ℕ) × ℕ)
-start_of owner client None = Included ((owner, client), 0)
-start_of owner client (Some n) = Excluded ((owner, client), n)
+-- the index's key of the family, unless it has ended or no code is known
+abbrev pub key_of : Shared → ℕ → Option OwnerKey
+key_of s n = key_under (open_scope s.ended s.code_scope) (s.owner, s.client) n
 
--- the number is in the index, and none between is; or none is after
-abbrev pub IsNextOwned : List ((ℕ × ℕ) × ℕ) → ℕ → ℕ → Option ℕ → Option ℕ → Type 0
-IsNextOwned owners owner client after None =
-    (k : ℕ) → IsAfter after k → has_owner owners ((owner, client), k) ≡ false
-IsNextOwned owners owner client after (Some n) =
-    IsAfter after n × (has_owner owners ((owner, client), n) ≡ true)
-    × ((k : ℕ) → IsAfter after k → k < n → has_owner owners ((owner, client), k) ≡ false)
+-- the index has the key too, if there is one
+abbrev pub HasIndexed : (old new : List OwnerKey) → Option OwnerKey → Type 0
+HasIndexed old new None = new ≡ old
+HasIndexed old new (Some key) = (q : OwnerKey) → has_owner new q ≡ (if is_at (owner_cmp key) q then true else has_owner old q)
+
+-- the index has the key no more, if there is one
+abbrev pub HasStruck : (old new : List OwnerKey) → Option OwnerKey → Type 0
+HasStruck old new None = new ≡ old
+HasStruck old new (Some key) = (q : OwnerKey) → has_owner new q ≡ (if is_at (owner_cmp key) q then false else has_owner old q)
+
+-- the scope does not come after this one, if there is this one
+abbrev pub is_past : Option ℕ → ℕ → Bool
+is_past None scope = false
+is_past (Some last) scope = nat_le scope last
+
+-- where those begin whose scope comes after
+abbrev pub start_of : ℕ × ℕ → Option ℕ → Bound OwnerKey
+start_of parties None = Included (parties, (0, 0))
+start_of parties (Some scope) = Excluded (parties, (scope, 18446744073709551615))
+
+-- the first family of the two in the index whose code's scope comes after; or there is none
+abbrev pub IsNextOwned : List OwnerKey → ℕ × ℕ → Option ℕ → Option (ℕ × ℕ) → Type 0
+IsNextOwned owners parties after None = (scope n : ℕ) → is_past after scope ≡ false → has_owner owners (parties, (scope, n)) ≡ false
+IsNextOwned owners parties after (Some found) =
+    (is_past after found.0 ≡ false) × (has_owner owners (parties, found) ≡ true)
+    × ((scope n : ℕ) → is_past after scope ≡ false → scope < found.0 → has_owner owners (parties, (scope, n)) ≡ false)
 
 -- what is kept of a new code, in the family with the number
 abbrev pub code_kept : ℕ → List ℕ → CodeFacts → ℕ → Kept

@@ -9,7 +9,7 @@ use Rattle.token_store.specs.declared.tables.Tables.{Tables}
 use Rattle.token_store.specs.Agenda.{agenda_room}
 use Rattle.consent.specs.RecordFacts.{KindFact}
 use Rattle.token_store.specs.Kept.{Room, Held}
-use Rattle.token_store.specs.Records.{kept_of, family_numbered, shared_at, is_coded, code_shared, home_shared, texts_seen, texts_given}
+use Rattle.token_store.specs.Records.{kept_of, family_numbered, shared_at, is_coded, OwnerKey, code_shared, home_shared, texts_seen, texts_given}
 
 -- how many codes and tokens the change gives
 abbrev pub records_by : Change → ℕ
@@ -29,7 +29,7 @@ HasSpare room n = n ≤ room.records
 pub record Waits (families : List (ℕ × Shared)) (n : ℕ) (s : Shared) : Type 0 where
   pub there : is_some (family_numbered families n) ≡ true
   pub empty : (shared_at families n).count ≡ 0
-  pub alike : (owner client : ℕ) → is_coded owner client (family_numbered families n) ≡ is_coded owner client (Some s)
+  pub alike : (key : OwnerKey) → is_coded key (family_numbered families n) ≡ is_coded key (Some s)
 
 -- such a one is expected, in the family, which has no records
 pub record IsExpected (room : Room) (family : ℕ) (s : Shared) (texts : Option KindFact) : Type 0 where

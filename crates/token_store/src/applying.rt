@@ -73,7 +73,7 @@ impl Tables {
     {
         let _ = moment;
         self.pass(family);
-        end_one(&mut self.families, family);
+        end_one(&mut self.families, &mut self.owners, family);
     }
 
     /// Makes a change that gives nothing.
@@ -92,9 +92,8 @@ impl Tables {
                 mask,
             } => lower_all(
                 &mut self.families,
-                &self.owners,
-                owner.get(),
-                client.get(),
+                &mut self.owners,
+                (owner.get(), client.get()),
                 *mask,
             ),
             Change::Spent { digest } => self.spend_at(digest, moment),

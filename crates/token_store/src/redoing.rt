@@ -7,7 +7,7 @@ ghost use Rattle.consent.specs.History.{with_change};
 ghost use Rattle.consent.specs.Changes.{change_of, parties_of};
 ghost use Rattle.token_store.specs.FitsParts.{kept_refusal};
 ghost use Rattle.token_store.specs.Lists.{is_open_to, refused_unless, standing_refusal, ForEachList, FitsList, RefusesAgain};
-ghost use Rattle.token_store.specs.Records.{family_numbered, has_owner, kept_of, kept_under, shared_seen, ArePeopled, IsTied};
+ghost use Rattle.token_store.specs.Records.{family_numbered, has_owner, OwnerKey, kept_of, kept_under, shared_seen, ArePeopled, IsTied};
 ghost use Rattle.token_store.specs.RecordsParts.{shared_or, where_peopled, AllLive, BecomesKnown, OthersStay, TellsSame};
 ghost use Rattle.token_store.specs.Room.{held_of};
 
@@ -58,12 +58,7 @@ impl Tables {
             Change::FamilyEnded { family } if !self.families.contains_key(family) => {
                 Some(AgainFault::Unknown)
             }
-            Change::Consented { .. }
-            | Change::Spent { .. }
-            | Change::FamilyEnded { .. }
-            | Change::HookSet { .. }
-            | Change::HookGone { .. }
-            | Change::Numbered { .. } => None,
+            _ => None,
         }
     }
 
@@ -188,7 +183,7 @@ fn keep_peopled(families: &mut Families)
 
 // Lets go of the families in the index that are not there.
 fn keep_known(owners: &mut Owners, families: &Families)
-    ensures { (q : (ℕ × ℕ) × ℕ) → has_owner owners.new.keys q ≡ has_owner owners.old.keys q && is_some (family_numbered families.now.entries q.1) }
+    ensures { (key : OwnerKey) → has_owner owners.new.keys key ≡ has_owner owners.old.keys key && is_some (family_numbered families.now.entries key.1.1) }
 {
-    owners.retain(|(_, number)| families.contains_key(number));
+    owners.retain(|(_, (_, number))| families.contains_key(number));
 }

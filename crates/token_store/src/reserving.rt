@@ -19,12 +19,7 @@ fn records_by(change: &Change<'_>) -> usize
 {
     match change {
         Change::CodeGiven { .. } | Change::Issued { .. } => 1,
-        Change::Consented { .. }
-        | Change::Spent { .. }
-        | Change::FamilyEnded { .. }
-        | Change::HookSet { .. }
-        | Change::HookGone { .. }
-        | Change::Numbered { .. } => 0,
+        _ => 0,
     }
 }
 
@@ -35,11 +30,7 @@ fn records_of(changes: &Changes<'_>) -> usize
     match changes {
         Changes::Nothing => 0,
         Changes::One(one) => records_by(one),
-        Changes::Used { refresh: None, .. } => 1,
-        Changes::Used {
-            refresh: Some(_),
-            ..
-        } => 2,
+        Changes::Used { refresh, .. } => 1 + usize::from(refresh.is_some()),
     }
 }
 
@@ -102,12 +93,7 @@ impl Tables {
                 self.expect(*family, Shared::of_code(facts), Some(texts))
             }
             Change::Issued { home, .. } => self.expect(home.family, Shared::of_home(home), None),
-            Change::Consented { .. }
-            | Change::Spent { .. }
-            | Change::FamilyEnded { .. }
-            | Change::HookSet { .. }
-            | Change::HookGone { .. }
-            | Change::Numbered { .. } => Ok(()),
+            _ => Ok(()),
         }
     }
 

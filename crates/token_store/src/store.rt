@@ -68,8 +68,7 @@ impl Store {
         if !self.tables.lives(number, moment) {
             return None;
         }
-        let shared = self.tables.families.get(&number)?;
-        Some(shared.family())
+        Some(self.tables.families.get(&number)?.family())
     }
 
     /// Whether the number is greater than that of each family so far.
@@ -149,8 +148,7 @@ impl Store {
     pub fn family_told(&self, number: u64) -> Option<Family>
         ensures { (list : List Event) (moment : ℕ) → FitsList self.now list moment → option_map family_seen result ≡ family_told list number }
     {
-        let shared = self.tables.families.get(&number)?;
-        Some(shared.family())
+        Some(self.tables.families.get(&number)?.family())
     }
 
     /// The list is at its end: families without codes and tokens go.

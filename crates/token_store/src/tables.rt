@@ -9,7 +9,7 @@ ghost use Rattle.token_store.specs.Kept.{kept_at, kept_lives, kept_unexpired};
 ghost use Rattle.token_store.specs.FitsParts.{are_kept, has_kept_room, kept_refusal};
 ghost use Rattle.token_store.specs.Room.{HasSpare, Waits, room_of};
 ghost use Rattle.token_store.specs.Records.{family_numbered, kept_under, kept_of, shared_at, IsOwned, IsTied};
-ghost use Rattle.token_store.specs.RecordsParts.{is_live_at, is_member_at, IsNextOwned, start_of, kept_found, HasEntered, HasLeft, HasClosed, HasEnded, HasIndexed, HasLowered, HasPut, lowered_by, AllLive, KeepsToo, OthersStay, TellsSame, spent_in};
+ghost use Rattle.token_store.specs.RecordsParts.{is_live_at, is_member_at, key_of, key_under, open_scope, start_of, IsNextOwned, kept_found, HasEntered, HasLeft, HasClosed, HasEnded, HasIndexed, HasLowered, HasPut, HasStruck, AllLive, KeepsToo, OthersStay, TellsSame, spent_in};
 
 use crate::agenda::Agenda;
 use crate::fault::StoreFault;
@@ -19,8 +19,11 @@ use std::alloc::{AllocError, Global};
 use std::collections::{BTreeSet, HashMap};
 use std::ops::Bound;
 
-/// Families that a code opened: the numbers of its owner and client, and the family's.
-pub(crate) type Owners = BTreeSet<((u32, u32), u64)>;
+/// Of a family: the numbers of its owner and client, its code's scope, and its own number.
+pub(crate) type OwnerKey = ((u32, u32), (u64, u64));
+
+/// Families that have not ended and whose code is known.
+pub(crate) type Owners = BTreeSet<OwnerKey>;
 
 /// What the families of these numbers share.
 pub(crate) type Families = HashMap<u64, Shared>;
@@ -39,7 +42,7 @@ pub(crate) struct Tables {
     /// When each of the records expires.
     pub(crate) agenda: Agenda,
     pub(crate) families: Families,
-    /// The families that a code opened, by its owner and client.
+    /// The families that have not ended, by owner, client and their code's scope.
     pub(crate) owners: Owners,
     /// What room was made for.
     pub(crate) coming: Option<Coming>,
@@ -115,10 +118,9 @@ impl Tables {
         requires { IsTied self.now }
         ensures { result ≡ not (has_kept_room (kept_of self.now) moment more) }
     {
-        if more > RECORD_LIMIT {
+        let Some(most) = RECORD_LIMIT.checked_sub(more) else {
             return true;
-        }
-        let most = RECORD_LIMIT - more;
+        };
         self.records.len() > most && self.count_unexpired(moment) > most
     }
 
@@ -130,10 +132,7 @@ impl Tables {
         let [digest, others @ ..] = digests else {
             return false;
         };
-        if self.record_at(digest, moment).is_some() {
-            return true;
-        }
-        if is_among(digest, others) {
+        if self.record_at(digest, moment).is_some() || is_among(digest, others) {
             return true;
         }
         self.is_taken(others, moment)
@@ -157,10 +156,9 @@ impl Tables {
     pub(crate) fn is_peopled(&self, number: u64) -> bool
         ensures { result ≡ nat_lt 0 (shared_at self.now.families.entries number).count }
     {
-        match self.families.get(&number) {
-            Some(shared) => shared.count > 0,
-            None => false,
-        }
+        self.families
+            .get(&number)
+            .is_some_and(|shared| shared.count > 0)
     }
 
     /// Whether one of the family's records is unexpired.
@@ -206,8 +204,9 @@ impl Tables {
     {
         close(&mut self.families, &mut self.owners, number);
         self.families.reserve(1)?;
+        let scope = open_scope(shared.ended, shared.code_scope);
         let parties = (shared.owner, shared.client.get());
-        add_owner(&mut self.owners, shared.code_scope, parties, number)?;
+        add_owner(&mut self.owners, scope, parties, number)?;
         let Ok(_) = self.families.insert(number, shared) else {
             unreachable!()
         };
@@ -261,22 +260,55 @@ impl Tables {
     }
 }
 
-// Puts the family of the two into the index, if a code of some scope opened it.
+// The scope under which a family stands in the index, if it stands there.
+fn open_scope(ended: bool, code_scope: Option<ScopeSet>) -> Option<ScopeSet>
+    ensures { result ≡ open_scope ended code_scope }
+{
+    if ended {
+        return None;
+    }
+    code_scope
+}
+
+// The index's key of a family of the two, if it stands there under a scope.
+fn key_under(scope: Option<ScopeSet>, parties: (u32, u32), number: u64) -> Option<OwnerKey>
+    ensures { result ≡ key_under scope parties number }
+{
+    Some((parties, (scope?.bits(), number)))
+}
+
+// The index's key of the family, if it stands there.
+fn key_of(shared: &Shared, number: u64) -> Option<OwnerKey>
+    ensures { result ≡ key_of shared.now number }
+{
+    let parties = (shared.owner, shared.client.get());
+    key_under(open_scope(shared.ended, shared.code_scope), parties, number)
+}
+
+// Puts a family of the two into the index, if it stands there under a scope.
 fn add_owner(
     owners: &mut Owners,
-    code_scope: Option<ScopeSet>,
+    scope: Option<ScopeSet>,
     parties: (u32, u32),
     number: u64,
 ) -> Result<(), AllocError>
-    ensures coded { OnOk result (is_some code_scope ≡ true → HasIndexed owners.old.keys owners.new.keys (parties, number)) }
-    ensures uncoded { OnOk result (is_some code_scope ≡ false → owners.new.keys ≡ owners.old.keys) }
+    ensures indexed { OnOk result (HasIndexed owners.old.keys owners.new.keys (key_under scope parties number)) }
     ensures err { OnErr result (owners.new.keys ≡ owners.old.keys) }
 {
-    if code_scope.is_none() {
+    let Some(key) = key_under(scope, parties, number) else {
         return Ok(());
-    }
-    owners.insert((parties, number))?;
+    };
+    owners.insert(key)?;
     Ok(())
+}
+
+// Takes the key out of the index, if there is one.
+fn strike_key(owners: &mut Owners, key: Option<OwnerKey>)
+    ensures { HasStruck owners.old.keys owners.new.keys key }
+{
+    if let Some(key) = key {
+        owners.remove(&key);
+    }
 }
 
 // The family, if it is there, is as it is given.
@@ -300,14 +332,26 @@ fn enter(families: &mut Families, number: u64, more: usize)
     }
 }
 
-// Ends the family, if there is one with the number.
-pub(crate) fn end_one(families: &mut Families, number: u64)
+// The family has ended, if there is one with the number.
+fn mark_ended(families: &mut Families, number: u64)
     ensures ended { HasEnded families.old.entries families.new.entries number }
 {
     if let Some(mut shared) = families.get(&number).copied() {
         shared.ended = true;
         share(families, number, shared);
     }
+}
+
+// Ends the family, if there is one with the number, and takes it out of the index.
+pub(crate) fn end_one(families: &mut Families, owners: &mut Owners, number: u64)
+    ensures owned { IsOwned families.old.entries owners.old.keys → IsOwned families.new.entries owners.new.keys }
+    ensures ended { HasEnded families.old.entries families.new.entries number }
+{
+    let Some(shared) = families.get(&number) else {
+        return;
+    };
+    strike_key(owners, key_of(shared, number));
+    mark_ended(families, number);
 }
 
 // The record of the digest is spent, if there is one.
@@ -319,56 +363,55 @@ pub(crate) fn spend_one(records: &mut HashMap<Digest, Record>, digest: &Digest)
     }
 }
 
-// Ends each family of the two whose code's scope is not within the mask.
+// Ends each family of the two whose code's scope is not within the mask: each once, and one look for
+// each scope that is.
 pub(crate) fn lower_all(
     families: &mut Families,
-    owners: &Owners,
-    owner: u32,
-    client: u32,
+    owners: &mut Owners,
+    parties: (u32, u32),
     mask: ScopeSet,
 )
-    requires owned { IsOwned families.old.entries owners.now.keys }
-    ensures lowered { HasLowered families.old.entries families.new.entries owner client mask }
+    requires owned { IsOwned families.old.entries owners.old.keys }
+    ensures owned { IsOwned families.new.entries owners.new.keys }
+    ensures lowered { HasLowered families.old.entries families.new.entries parties.0 parties.1 mask }
 {
     let mut after = None;
-    while let Some(number) = next_owned(owners, owner, client, after) {
-        lower_one(families, number, mask);
-        after = Some(number);
+    while let Some((scope, number)) = next_owned(owners, parties, after) {
+        if ScopeSet::new(scope).is_within(mask) {
+            after = Some(scope);
+        } else {
+            owners.remove(&(parties, (scope, number)));
+            mark_ended(families, number);
+        }
     }
 }
 
-// The first number after the one given of a family of the two that a code opened.
-fn next_owned(owners: &Owners, owner: u32, client: u32, after: Option<u64>) -> Option<u64>
-    ensures { IsNextOwned owners.now.keys owner client after result }
+// The first family of the two whose code's scope comes after the one given.
+fn next_owned(owners: &Owners, parties: (u32, u32), after: Option<u64>) -> Option<(u64, u64)>
+    ensures { IsNextOwned owners.now.keys parties after result }
 {
-    let start = start_of(owner, client, after);
+    let start = start_of(parties, after);
     let key = owners.range((start, Bound::Unbounded)).next()?;
-    if key.0 != (owner, client) {
+    if key.0 != parties {
         return None;
     }
-    Some(key.1)
+    Some(pair(key.1.0, key.1.1))
 }
 
-fn start_of(owner: u32, client: u32, after: Option<u64>) -> Bound<((u32, u32), u64)>
-    ensures { result ≡ start_of owner client after }
+// Both, of which the number has 64 bits.
+fn pair(scope: u64, number: u64) -> (u64, u64)
+    ensures same { result ≡ (scope, number) }
+    ensures fits { number < 2 ^ 64 }
+{
+    (scope, number)
+}
+
+fn start_of(parties: (u32, u32), after: Option<u64>) -> Bound<OwnerKey>
+    ensures { result ≡ start_of parties after }
 {
     match after {
-        Some(number) => Bound::Excluded(((owner, client), number)),
-        None => Bound::Included(((owner, client), 0)),
-    }
-}
-
-fn lower_one(families: &mut Families, number: u64, mask: ScopeSet)
-    ensures lowered { family_numbered families.new.entries number ≡ option_map (lowered_by mask) (family_numbered families.old.entries number) }
-    ensures others { OthersStay families.old.entries families.new.entries number }
-{
-    if let Some(mut shared) = families.get(&number).copied() {
-        if let Some(scope) = shared.code_scope {
-            if !scope.is_within(mask) {
-                shared.ended = true;
-                share(families, number, shared);
-            }
-        }
+        Some(scope) => Bound::Excluded((parties, (scope, u64::MAX))),
+        None => Bound::Included((parties, (0, 0))),
     }
 }
 
@@ -394,7 +437,7 @@ pub(crate) fn leave(families: &mut Families, owners: &mut Owners, number: u64, k
     close(families, owners, number);
 }
 
-// Lets go of the family, which the index has only if a code of some scope opened it.
+// Lets go of the family, in the index too.
 pub(crate) fn close(families: &mut Families, owners: &mut Owners, number: u64)
     ensures owned { IsOwned families.old.entries owners.old.keys → IsOwned families.new.entries owners.new.keys }
     ensures closed { HasClosed families.old.entries families.new.entries number }
@@ -402,7 +445,5 @@ pub(crate) fn close(families: &mut Families, owners: &mut Owners, number: u64)
     let Some(shared) = families.remove(&number) else {
         return;
     };
-    if shared.code_scope.is_some() {
-        owners.remove(&((shared.owner, shared.client.get()), number));
-    }
+    strike_key(owners, key_of(&shared, number));
 }

@@ -8,6 +8,6 @@ pub returns : goal.returns
 returns c = λ q.
     let owners = c.args.owners.now.keys in
     let families = c.args.families.now.entries in
-    let left : c.retain.new.self.keys ≡ filter (λ k. is_some (family_numbered families k.1)) owners =
-    filter_same _ (λ k. is_some (family_numbered families k.1)) _ (λ x b f' k. search rules) _ _ c.retain.ensures.filtered in
+    let left : c.retain.new.self.keys ≡ filter (λ k. is_some (family_numbered families k.1.1)) owners =
+    filter_same _ (λ k. is_some (family_numbered families k.1.1)) _ (λ x b f' k. search rules) _ _ c.retain.ensures.filtered in
     rw left (known_owners families owners q)

@@ -1,16 +1,16 @@
-use Rattle.std.proofs.Common.{subst}
+use Rattle.std.proofs.Common.{ℕ, ap, subst, sym, ◌∙◌}
 use Rattle.token_store.specs.RecordsParts.{IsNextOwned}
+use Rattle.consent.specs.History.{is_within}
 use Rattle.token_store.proofs.Families.{lowered_more, lowered_all}
 use Rattle.token_store.proofs.tables.lower_all.Goals as goal
 
-pub loop-number-preserved : goal.loop-number-preserved
-loop-number-preserved c =
-    lowered_more c.args.families.now.entries c.loop-number.families.entries c.lower_one.new.families.entries c.args.owners.now.keys
-    c.args.owner c.args.client c.args.mask c.loop-number.after c.in-Some.number c.requires.owned c.loop-number.invariant c.in-Some.ensures c.lower_one.ensures.lowered c.lower_one.ensures.others
+pub loop-scope-preserved : goal.loop-scope-preserved
+loop-scope-preserved c =
+    let found : ℕ × ℕ = (c.in-Some.scope, c.in-Some.number) in
+    lowered_more c.args.families.now.entries c.loop-scope.families.entries c.mark_ended.new.families.entries c.loop-scope.owners.keys c.remove.new.self.keys c.args.parties c.args.mask
+    c.loop-scope.after found c.loop-scope.invariant c.in-Some.ensures.1 (ap (λ scope. is_within scope c.args.mask) (sym c.new.ensures) ∙ sym c.is_within.ensures ∙ c.if-is_within.false) c.remove.ensures.updates.0 c.mark_ended.ensures.ended
 
-pub returns : goal.returns
-returns c = record {
-  lowered = lowered_all c.args.families.now.entries c.loop-number.families.entries c.args.owners.now.keys c.args.owner c.args.client c.args.mask c.loop-number.after
-      c.requires.owned c.loop-number.invariant
-      (subst (IsNextOwned c.args.owners.now.keys c.args.owner c.args.client c.loop-number.after) c.in_default.is c.next_owned.ensures);
-}
+pub returns-clause-lowered : goal.returns-clause-lowered
+returns-clause-lowered c =
+    lowered_all c.args.families.now.entries c.loop-scope.families.entries c.loop-scope.owners.keys c.args.parties c.args.mask c.loop-scope.after c.loop-scope.invariant
+    (subst (IsNextOwned c.loop-scope.owners.keys c.args.parties c.loop-scope.after) c.in_default.is c.next_owned.ensures)

@@ -11,8 +11,8 @@ returns c = rw (← c.self.view_is) (λ history fits.
     let t = c.self.inside.tables in
     let n = c.args.number in
     let got = c.get.ensures in
-    let was = ap option_copied c.in_ok-shared.was in
-    let there : c.in_ok-shared.shared.now ≡ shared_at t.families.entries n = grind (arith, got, was) in
+    let was = ap option_copied c.in_ok-get.was in
+    let there : c.in_ok-get.field-0.now ≡ shared_at t.families.entries n = grind (arith, got, was) in
     ap (λ x. Some x) (c.family.ensures ∙ ap shared_seen there)
     ∙ family_is t.families.entries t.records.entries history c.args.moment n c.self.invariant.once fits.kept (sym c.lives.ensures ∙ c.if-not-lives.false))
 
@@ -21,9 +21,9 @@ returns-then-not-lives c = rw (← c.self.view_is) (λ history fits.
     sym (ap (option_map (family_of_grant history))
     (none_lives (kept_of c.self.inside.tables) history c.args.moment c.args.number fits.kept (sym c.lives.ensures ∙ c.if-not-lives.true))))
 
-pub returns-in_err-shared : goal.returns-in_err-shared
-returns-in_err-shared c =
+pub returns-in_err-get : goal.returns-in_err-get
+returns-in_err-get c =
     let there = lives_there c.self.inside.tables c.args.moment c.args.number c.self.invariant (sym c.lives.ensures ∙ c.if-not-lives.false) in
-    let missing = ap option_copied c.in_err-shared.was in
+    let missing = ap option_copied c.in_err-get.was in
     let got = c.get.ensures in
     absurd (grind (arith, there, missing, got))

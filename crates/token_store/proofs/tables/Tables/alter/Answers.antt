@@ -14,9 +14,10 @@ returns-in-Consented c =
     let w = c.in-Consented in
     let m = c.args.moment in
     let lowered = rw (c.get.ensures.value, c.get-in-Consented.ensures.value) at c.lower_all.ensures.lowered in
+    let owned = c.lower_all.ensures.owned in
     let changed = view_lowered slots slots' es w.owner w.client w.mask lowered in
     record {
-      tied = tied_lowered slots slots' w.owner w.client w.mask es t.agenda t.owners.keys t.last lowered c.requires.tied;
+      tied = tied_lowered slots slots' w.owner w.client w.mask es t.agenda t.owners.keys c.lower_all.new.owners.keys t.last lowered owned c.requires.tied;
       alters = rw w.is (λ history fits. record {
         kept = rw changed (fits_consented (kept_of t) history m w.owner w.client w.mask fits.kept);
         last = last_pushed_none t.last history (event_at m (told.Consented w.owner w.client w.mask)) fits.last refl;

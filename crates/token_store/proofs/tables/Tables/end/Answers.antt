@@ -14,9 +14,10 @@ returns c =
     let n = c.args.family in
     let m = c.args.moment in
     let ended = rw c.pass.ensures.same at c.end_one.ensures.ended in
+    let owned = rw c.pass.ensures.same at c.end_one.ensures.owned c.requires.tied.owned in
     let changed = view_ended t.families.entries slots' n es ended (λ k. (let same = c.requires.tied.counted k in omega (arith, same))) in
     record {
-      tied = rw c.pass.ensures.same (tied_ended t.families.entries slots' n es t.agenda t.owners.keys _ ended (rw c.pass.ensures.same at c.pass.ensures.tied));
+      tied = rw c.pass.ensures.same (tied_ended t.families.entries slots' n es t.agenda t.owners.keys c.end_one.new.owners.keys _ ended owned (rw c.pass.ensures.same at c.pass.ensures.tied));
       alters = λ history fits. rw c.pass.ensures.same (record {
         kept = rw changed (fits_ended (all_kept t.families.entries es) history m n fits.kept);
         last = last_pushed t.last history (event_at m (told.FamilyEnded n)) fits.last;

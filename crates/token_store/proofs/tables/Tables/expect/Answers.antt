@@ -10,5 +10,5 @@ returns-clause-expected c =
       is = refl;
       number_is = refl;
       texts_are = refl;
-      waits = record { there = ap is_some here; empty = ap (λ o. (or_nothing o).count) here ∙ c.requires.empty; alike = λ owner client. ap (is_coded owner client) here };
+      waits = record { there = ap is_some here; empty = ap (λ o. (or_nothing o).count) here ∙ c.requires.empty; alike = λ key. ap (is_coded key) here };
     })

@@ -39,7 +39,7 @@ returns-clause-tied c =
     c.requires.tied c.requires.bare c.close.ensures.closed c.close.ensures.owned c.reserve.ensures.entries.2 in
     tied_opened c.reserve.new.self.entries c.insert.new.self.entries n c.args.shared t.records.entries t.agenda c.close.new.owners.keys c.add_owner.new.owners.keys t.last
     c.requires.empty cleared_is.closed.here put.updates.1 (λ k ne. put.updates.2 k (ne_eqb n k (λ e. ne (sym e))))
-    (rw c.get.ensures.value at c.in_ok-add_owner.ensures.coded) c.in_ok-add_owner.ensures.uncoded cleared_is.tied
+    (rw (c.open_scope-scope.ensures, c.get.ensures.value) at c.in_ok-add_owner.ensures.indexed) cleared_is.tied
 
 pub returns-clause-here : goal.returns-clause-here
 returns-clause-here c = c.in-Ok.ensures.updates.1

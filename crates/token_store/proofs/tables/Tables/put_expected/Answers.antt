@@ -14,7 +14,7 @@ put-requires-clause-tied c =
     let was = c.requires.waits.empty in
     let empty = c.requires.empty in
     tied_changed t.families.entries c.share.new.families.entries t.records.entries t.agenda t.owners.keys t.last (λ k. (let other = c.share.ensures.others k in grind (arith, here, other, empty, was)))
-    (λ owner client k. (let other = c.share.ensures.others k in let alike = c.requires.waits.alike owner client in grind (arith, here, other, alike))) c.requires.tied
+    (λ key. (let other = c.share.ensures.others key.1.1 in let alike = c.requires.waits.alike key in grind (arith, here, other, alike))) c.requires.tied
 
 pub returns-clause-keeps : goal.returns-clause-keeps
 returns-clause-keeps c = λ m none.
