@@ -22,8 +22,6 @@ pub mod Remaking
 pub mod Redo
 pub mod Steps
 pub mod Listing
-pub mod Imaging
-pub mod Keeping
 -- What only the contracts of this crate's own parts and their proofs cite.
 pub mod Parts
 pub mod HookAsking

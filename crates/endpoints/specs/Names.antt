@@ -12,7 +12,6 @@ pub use Rattle.answers.specs.declared.halt.Halt.{Halt}
 pub use Rattle.answers.specs.declared.halt.Halt.TheVariants.{Refuse, NoMemory}
 pub use Rattle.consent.specs.History.{Happened}
 pub use Rattle.change_codec.specs.Happened.{all_dated}
-pub use Rattle.change_codec.specs.Keeping.{Crashes, Keeps, KeepsNot}
 pub use Rattle.clients.specs.ClientRecord.{ClientRecord}
 pub use Rattle.clients.specs.Clients.{has_redirect, client_at}
 pub use Rattle.clients.specs.Grants.{has_grant}

@@ -7,7 +7,6 @@ mod beside;
 mod consenting;
 mod documents;
 mod hooks;
-mod image_keeper;
 mod introspect;
 mod laws;
 mod noting;
@@ -21,7 +20,6 @@ mod server;
 
 pub use answers::{Asked, Document, Endpoint, Replied, Tally, Wanted};
 pub use consent::Moment;
-pub use image_keeper::{ImageFault, ImageKeeper};
 pub use laws::{codes_and_tokens_keep_their_bounds, wider_rules_keep_what_is_right};
 pub use reading::Reading;
 pub use redo::{RedoFault, layout_of};
