@@ -1,3 +1,5 @@
+mod Following
+mod Picking
 mod Reading
 mod Steps
 mod Tearing

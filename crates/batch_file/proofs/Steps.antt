@@ -10,14 +10,14 @@ use Rattle.batch_file.proofs.Tearing.{torn_behind, length-torn, written_behind, 
 use Rattle.batch_file.proofs.Wholes.{front_of, front_is, length-front, one_more, head_is}
 
 -- it is a file of these batches, or of those
-abbrev Either : List (List ℕ) → List (List ℕ) → List ℕ → Type 0
+abbrev pub Either : List (List ℕ) → List (List ℕ) → List ℕ → Type 0
 Either old new c = IsFileOf old c ⊎ IsFileOf new c
 
-stands_for : (old new : List (List ℕ)) (c : List ℕ) → Either old new c → IsOldOrNew old new c
+pub stands_for : (old new : List (List ℕ)) (c : List ℕ) → Either old new c → IsOldOrNew old new c
 stands_for old new c (inl a) = inl (file_is old c a)
 stands_for old new c (inr b) = inr (file_is new c b)
 
-is_readable : (old new : List (List ℕ)) (c : List ℕ) → Either old new c → IsReadable c
+pub is_readable : (old new : List (List ℕ)) (c : List ℕ) → Either old new c → IsReadable c
 is_readable old new c (inl a) = readable_is old c a
 is_readable old new c (inr b) = readable_is new c b
 

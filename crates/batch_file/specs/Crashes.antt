@@ -55,6 +55,12 @@ abbrev pub IsUnplaced : ReplaceFault → Type 0
 IsUnplaced (replacing.Failed reason) = ⊥
 IsUnplaced fault = Unit {0}
 
+-- what was done beside a file left it as it was
+pub record IsBeside {D : Type 0} (seen : D → List ℕ) (may_leave : D → List ℕ → Type 0) (faults : D → ℕ) (old new : D) : Type 0 where
+  pub bytes : seen new ≡ seen old
+  pub crash : (c : List ℕ) → may_leave new c → may_leave old c
+  pub no_fault : faults new ≡ faults old
+
 -- a failure of the disk is told only where it has failed since, and it has not where the call succeeded
 pub record HasCause {T F : Type 0} (is_failure : F → Type 0) (before now : ℕ) (result : Result T F) : Type 0 where
   pub later : before ≤ now

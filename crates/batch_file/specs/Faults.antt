@@ -70,6 +70,11 @@ of_replacement replacing.Memory = renewing.Memory
 of_replacement (replacing.Unplaced reason) = renewing.Unplaced reason
 of_replacement (replacing.Failed reason) = renewing.Failed reason
 
+-- a device's fault on the next file: the old one stands
+abbrev pub of_next : DeviceFault → RenewFault
+of_next device.Memory = renewing.Memory
+of_next (device.Failed reason) = renewing.Unplaced reason
+
 -- why a file is not opened, by the error that the system gave; one that is not there has a name of its own
 abbrev pub of_kind : ErrorKind → SystemFault → OpenFault
 of_kind kinds.OutOfMemory reason = opening.Memory

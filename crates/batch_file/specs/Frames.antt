@@ -1,14 +1,15 @@
 -- What a file of frames stands for, and which files are refused.
-use Rattle.std.specs.Prelude.{◌≡◌, ◌≢◌, ◌⊎◌, ◌+◌, ◌^◌, ◌<◌, ◌≤◌, ℕ, zero, suc, List, [], ◌∷◌, ◌++◌, length, take, drop, map, codes}
+use Rattle.std.specs.Prelude.{◌≡◌, ◌≢◌, ◌⊎◌, ◌+◌, ◌^◌, ◌<◌, ◌≤◌, ℕ, zero, suc, List, [], ◌∷◌, ◌++◌, length, take, drop, map, codes, Option, Some}
 use Rattle.std.specs.Global.{Vec}
 use Rattle.std.specs.Int.{w32, to_be_bytes, from_be_bytes}
 use Rattle.sha2.specs.Sha256.{sha256}
-use Rattle.batch_file.specs.Crashes.{Only}
+use Rattle.batch_file.specs.Crashes.{LeavesOnly, Only}
 use Rattle.batch_file.specs.declared.appending.BatchFile.{BatchFile}
 use Rattle.batch_file.specs.declared.appending.BatchFault.{BatchFault}
 use Rattle.batch_file.specs.declared.appending.BatchFault.TheVariants as appending
 use Rattle.batch_file.specs.declared.appending.RenewFault.{RenewFault}
 use Rattle.batch_file.specs.declared.appending.RenewFault.TheVariants as renewing
+use Rattle.batch_file.specs.declared.next.Next.{Next}
 use Rattle.batch_file.specs.declared.framing.ReadFault.{ReadFault}
 use Rattle.batch_file.specs.declared.framing.ReadFault.TheVariants.{NotState, Version, Damaged}
 
@@ -181,6 +182,20 @@ pub record IsOnDisk {D : Type 0} (seen : D → List ℕ) (may_leave : D → List
   pub at_rest : IsAtRest file.end file.last (seen file.device)
   pub durable : Only (seen file.device) (may_leave file.device)
   pub faultless : faults file.device ≡ 0
+
+-- it is as it was, and a crash at any moment since leaves that
+pub record IsUndisturbed {D : Type 0} (seen : D → List ℕ) (moment : D → ℕ) (left_since : D → ℕ → List ℕ → Type 0) (old new : BatchFile D) : Type 0 where
+  pub end : new.end ≡ old.end
+  pub last : new.last ≡ old.last
+  pub bytes : seen new.device ≡ seen old.device
+  pub any_moment : LeavesOnly moment left_since old.device new.device (λ file. file ≡ seen old.device)
+
+-- what was written to the next file is the header and the frames of these batches, behind which the next frame goes
+pub record AreNext {D : Type 0} (next_of : D → Option (List ℕ)) (file : BatchFile D) (next : Next) (batches : List (List ℕ)) : Type 0 where
+  pub frames : List ℕ
+  pub is : next_of file.device ≡ Some (header ++ frames)
+  pub are : AreFrames header batches next.last frames
+  pub end : next.end ≡ 16 + frames_size batches
 
 -- the file stands for the batches, with one more or without it
 abbrev pub IsBeforeOrAfter : List (List ℕ) → List ℕ → List ℕ → Type 0

@@ -1,15 +1,18 @@
 -- Laws of what a file stands for: a reader may skip the proofs.
-use Rattle.std.proofs.Common.{◌≡◌, ◌≢◌, ◌⊎◌, inl, inr, ℕ, zero, suc, ◌+◌, ◌^◌, ◌<◌, ◌≤◌, List, [], ◌∷◌, ◌++◌, length, get_or, take, drop, refl, sym, ◌∙◌, ap, subst, arith, append_assoc, length-append, length-drop, length-take}
-use Rattle.std.proofs.lemmas.List.{take_at, drop_at, drop-drop, append-nil, append_cancel_left}
-use Rattle.std.specs.Prelude.{bytes_eq}
+use Rattle.std.proofs.Common.{◌≡◌, ◌≢◌, ◌⊎◌, inl, inr, ℕ, zero, suc, ◌+◌, ◌^◌, ◌<◌, ◌≤◌, List, [], ◌∷◌, ◌++◌, length, get_or, take, drop, refl, sym, ◌∙◌, ap, subst, arith, append_assoc, length-append, length-drop, length-take, take-take}
+use Rattle.std.proofs.lemmas.List.{take_at, drop_at, drop-drop, take-append-le, append-nil, append_cancel_left}
+use Rattle.std.specs.Prelude.{bytes_eq, Option}
 use Rattle.std.proofs.lemmas.Bool.{cases_Bool, cases_lt}
 use Rattle.std.proofs.lemmas.Slice.Eq.{bytes_eq-Decides}
 use Rattle.std.proofs.lemmas.Nat.{from_be_bytes-to_be_bytes_4}
+use Rattle.std.specs.Int.{w32, from_be_bytes}
 use Rattle.sha2.specs.Sha256.{sha256}
 use Rattle.sha2.proofs.Facts256.{length-sha256}
+use Rattle.batch_file.specs.declared.appending.BatchFile.{BatchFile}
+use Rattle.batch_file.specs.declared.next.Next.{Next}
 use Rattle.batch_file.specs.declared.framing.ReadFault.{ReadFault}
 use Rattle.batch_file.specs.declared.framing.ReadFault.TheVariants.{Memory, NotState, Version, Damaged}
-use Rattle.batch_file.specs.Frames.{header, body, seal, digest, sealed, size_at, batches_in, recovered, frames_size, IsSealed, IsFrame, AreFrames, HidesFrame, IsTorn, Spells, IsFileOf, IsReadable, IsVersion, IsNoFrame, IsRightFront, IsDamaged, RefusesFile, IsChance}
+use Rattle.batch_file.specs.Frames.{header, body, seal, digest, sealed, size_at, batches_in, recovered, frames_size, IsSealed, IsFrame, AreFrames, HidesFrame, IsTorn, Spells, IsFileOf, IsReadable, IsVersion, IsNoFrame, IsRightFront, IsDamaged, RefusesFile, IsChance, AreNext}
 
 pub length-seal : (bytes : List ℕ) → length (seal bytes) ≡ 16
 unfolding seal
@@ -41,7 +44,7 @@ abbrev pub parsed : List ℕ → List (List ℕ)
 parsed bytes = batches_in (length bytes) bytes
 
 -- the batch behind a latch is told by the bytes there, and what stands behind it
-parts : (before batch rest bytes : List ℕ) → IsSealed before batch rest bytes
+pub parts : (before batch rest bytes : List ℕ) → IsSealed before batch rest bytes
     → (take (size_at bytes) (drop 20 bytes) ≡ batch) × (drop (size_at bytes) (drop 20 bytes) ≡ rest)
 parts before batch rest bytes s =
     let says : size_at bytes ≡ length batch = ap size_at s.1 ∙ from_be_bytes-to_be_bytes_4 (length batch) s.0 in
@@ -106,6 +109,71 @@ length-frames [] before last frames are = ap length are.1
 length-frames (batch ∷ later) before last frames are =
     let f = are.1 in
     omega (arith, ap length f.is, length-append (sealed before batch) are.0, length-sealed before batch, length-frames later (digest before batch) last are.0 are.2)
+
+pub frames_size-append : (xs ys : List (List ℕ)) → frames_size (xs ++ ys) ≡ frames_size xs + frames_size ys
+frames_size-append [] ys = omega arith
+frames_size-append (x ∷ xs) ys = omega (arith, frames_size-append xs ys)
+
+-- WHAT STANDS BEFORE A BATCH
+
+-- where there is no byte, there is no batch
+none_there : (n : ℕ) (bytes : List ℕ) → bytes ≡ [] → batches_in n bytes ≡ []
+unfolding batches_in
+none_there zero bytes is = refl
+none_there (suc n) bytes is = ap (batches_in (suc n)) is
+
+-- the frame at the front, and these bytes in place of what stands behind it
+abbrev cut_behind : ℕ → List ℕ → List ℕ → List ℕ
+cut_behind latch bytes other = latch ∷ (take 20 bytes ++ (take (size_at bytes) (drop 20 bytes) ++ other))
+
+behind_front : (latch : ℕ) (bytes other : List ℕ) → 20 + size_at bytes ≤ length bytes
+    → parsed (cut_behind (suc latch) bytes other) ≡ take (size_at bytes) (drop 20 bytes) ∷ parsed other
+unfolding batches_in
+behind_front latch bytes other long =
+    let batch = take (size_at bytes) (drop 20 bytes) in
+    let tail = take 20 bytes ++ (batch ++ other) in
+    let head : length (take 20 bytes) ≡ 20 = omega (arith, length-take 20 bytes) in
+    let same : size_at tail ≡ size_at bytes =
+    ap (from_be_bytes w32) (take-append-le 4 (take 20 bytes) (batch ++ other) (omega arith) ∙ take-take 4 20 bytes (omega arith)) in
+    let body : drop 20 tail ≡ batch ++ other = drop_at (take 20 bytes) (batch ++ other) 20 head in
+    let size : length batch ≡ size_at bytes = omega (arith, length-take (size_at bytes) (drop 20 bytes), length-drop 20 bytes) in
+    let here : take (size_at tail) (drop 20 tail) ≡ batch = rw (same, body) (take_at batch other (size_at bytes) size) in
+    let there : drop (size_at tail) (drop 20 tail) ≡ other = rw (same, body) (drop_at batch other (size_at bytes) size) in
+    let fewer : length other ≤ length tail = omega (arith, length-append (take 20 bytes) (batch ++ other), length-append batch other) in
+    ap (λ (l : List ℕ). l ∷ batches_in (length tail) (drop (size_at tail) (drop 20 tail))) here
+    ∙ ap (λ (l : List ℕ). batch ∷ batches_in (length tail) l) there
+    ∙ ap (λ (l : List (List ℕ)). batch ∷ l) (enough (length tail) (length other) other fewer (omega arith))
+
+front_parsed : (n : ℕ) (bytes batch : List ℕ) (xs ys : List (List ℕ)) → batches_in n bytes ≡ xs ++ batch ∷ ys → (front : List ℕ) × (parsed front ≡ xs)
+unfolding batches_in
+front_parsed n bytes batch [] ys is = ([], refl)
+front_parsed zero bytes batch (x ∷ xs) ys is = absurd cc
+front_parsed (suc n) [] batch (x ∷ xs) ys is = absurd cc
+front_parsed (suc n) (zero ∷ bytes) batch (x ∷ xs) ys is = absurd cc
+front_parsed (suc n) (suc latch ∷ bytes) batch (x ∷ xs) ys is =
+    let rest = drop (size_at bytes) (drop 20 bytes) in
+    let first : take (size_at bytes) (drop 20 bytes) ≡ x = ap (λ (bs : List (List ℕ)). get_or bs 0 []) is in
+    let later : batches_in n rest ≡ xs ++ batch ∷ ys = ap (λ (bs : List (List ℕ)). drop 1 bs) is in
+    let more = front_parsed n rest batch xs ys later in
+    elim (cases_lt (length rest) 1) [
+      | inl none ↦
+          let empty : batches_in n rest ≡ [] = none_there n rest (nothing rest (omega arith)) in
+          absurd (omega (arith, ap length (sym empty ∙ later), length-append xs (batch ∷ ys)))
+      | inr some ↦
+          let long : 20 + size_at bytes ≤ length bytes = omega (arith, length-drop (size_at bytes) (drop 20 bytes), length-drop 20 bytes) in
+          (cut_behind (suc latch) bytes more.0, behind_front latch bytes more.0 long ∙ ap (λ (l : List ℕ). l ∷ parsed more.0) first ∙ ap (λ (bs : List (List ℕ)). x ∷ bs) more.1)
+    ]
+  where
+    nothing : (l : List ℕ) → length l ≤ 0 → l ≡ []
+    nothing [] le = refl
+    nothing (a ∷ l) le = absurd (omega arith)
+
+-- the batches before the last one of a file are those of some file
+pub front_file : (file batch : List ℕ) (xs : List (List ℕ)) → recovered file ≡ xs ++ batch ∷ [] → (front : List ℕ) × (recovered front ≡ xs)
+unfolding recovered
+front_file file batch xs is =
+    let front = front_parsed (length file) (drop 16 file) batch xs [] is in
+    (header ++ front.0, recovered-header front.0 ∙ front.1)
 
 -- WHAT IS REFUSED
 
@@ -290,3 +358,10 @@ chance_is_coincidence old last batch file chance =
         })
       ],
     )
+
+-- THE NEXT FILE
+
+-- what is done to the file itself leaves it as it was
+pub next_stays : {D : Type 0} (next_of : D → Option (List ℕ)) (old new : BatchFile D) (next : Next) (batches : List (List ℕ))
+    → next_of new.device ≡ next_of old.device → AreNext next_of old next batches → AreNext next_of new next batches
+next_stays next_of old new next batches same was = record { frames = was.frames; is = same ∙ was.is; are = was.are; end = was.end }

@@ -9,14 +9,13 @@ use crate::device::{Device, DeviceFault, ReplaceFault};
 use crate::frames::Frames;
 use crate::framing::head_of;
 use crate::system::SystemFault;
-use std::alloc::Global;
 use std::fmt::{self, Display, Formatter, Write};
 
 /// Behind this many bytes nothing is added.
-const MAX_END: usize = 1 << 60;
+pub(crate) const MAX_END: usize = 1 << 60;
 
 /// An append of as many bytes or more is refused.
-const LIMIT: usize = 1 << 23;
+pub(crate) const LIMIT: usize = 1 << 23;
 
 /// Why a batch was not added to a file.
 #[derive(Clone, Copy, Debug, PartialEq, Eq)]
@@ -152,6 +151,7 @@ impl<D: Device> BatchFile<D> {
         // It is added only where the file stands where it was opened.
         ensures in_place { OnOk result (D.tells_place self.old.device true) }
         ensures displaced { IsErrOf result BatchFault.Displaced → D.tells_place self.old.device false }
+        ensures next { D.next self.new.device ≡ D.next self.old.device }
     {
         if batch.len() >= LIMIT {
             return Err(BatchFault::TooLong);
@@ -168,23 +168,6 @@ impl<D: Device> BatchFile<D> {
         self.end += 21 + batch.len();
         self.last = head.digest;
         Ok(())
-    }
-
-    /// All bytes of the file, read again. It goes on, also where they are not given.
-    pub fn read(&mut self, alloc: Global) -> Result<Vec<u8>, DeviceFault>
-        requires { IsOnDisk D.seen D.may_leave D.faults self.old }
-        ensures settled { IsOnDisk D.seen D.may_leave D.faults self.new }
-        ensures read { IfOk result (λ bytes. D.reads_true self.new.device → bytes.items ≡ D.seen self.old.device) }
-        ensures end { self.new.end ≡ self.old.end }
-        ensures last { self.new.last ≡ self.old.last }
-        ensures seen { D.seen self.new.device ≡ D.seen self.old.device }
-        ensures untouched { IfErr result (λ _. self.new ≡ self.old) }
-        ensures any_moment { LeavesOnly D.moment D.left_since self.old.device self.new.device
-            (λ file. file ≡ D.seen self.old.device) }
-        ensures truth { D.reads_true self.new.device → D.reads_true self.old.device }
-        ensures true_before { LeavesOnly D.moment D.left_since self.old.device self.new.device (λ _. D.reads_true self.old.device) }
-    {
-        self.device.read(alloc)
     }
 
     /// Puts another file in the place of all that there is. At `Ok` each crash leaves it and nothing else. At `Memory`,
@@ -235,6 +218,7 @@ fn write_behind<D: Device>(
     ensures truth { D.reads_true device.new → D.reads_true device.old }
     ensures true_before { LeavesOnly D.moment D.left_since device.old device.new (λ _. D.reads_true device.old) }
     ensures cause { HasCause IsFailure (D.faults device.old) (D.faults device.new) result }
+    ensures next { D.next device.new ≡ D.next device.old }
 {
     device.write_at(at, head)?;
     let at = at + head.len();
@@ -256,6 +240,7 @@ fn write_down<D: Device>(device: &mut D, at: usize, bytes: &[u8]) -> Result<(), 
     ensures truth { D.reads_true device.new → D.reads_true device.old }
     ensures true_before { LeavesOnly D.moment D.left_since device.old device.new (λ _. D.reads_true device.old) }
     ensures cause { HasCause IsFailure (D.faults device.old) (D.faults device.new) result }
+    ensures next { D.next device.new ≡ D.next device.old }
 {
     device.write_at(at, bytes)?;
     device.sync()?;

@@ -22,8 +22,16 @@ pub enum DiskCall<'b> {
     Synced,
     /// Another file with these bytes was renamed over it, and the folder synced.
     Replaced(&'b [u8]),
-    /// The file was read, and told these bytes.
-    Read(&'b [u8]),
+    /// The file was read at this place, and told these bytes.
+    Read { at: u64, bytes: &'b [u8] },
+    /// The next file was made beside it, without a byte.
+    Began,
+    /// These bytes were written behind what was written to the next file.
+    Added(&'b [u8]),
+    /// What was written to the next file is on the disk (`fsync`).
+    NextSynced,
+    /// The next file was renamed over it, and the folder synced.
+    Placed,
 }
 
 /// The calls, the last one first.
@@ -68,7 +76,11 @@ impl CallLog {
             DiskCall::Wrote { at, bytes } => self.note(&[1, at, succeeded], bytes),
             DiskCall::Synced => self.note(&[2, 0, succeeded], &[]),
             DiskCall::Replaced(bytes) => self.note(&[3, 0, succeeded], bytes),
-            DiskCall::Read(bytes) => self.note(&[4, 0, succeeded], bytes),
+            DiskCall::Read { at, bytes } => self.note(&[4, at, succeeded], bytes),
+            DiskCall::Began => self.note(&[5, 0, succeeded], &[]),
+            DiskCall::Added(bytes) => self.note(&[6, 0, succeeded], bytes),
+            DiskCall::NextSynced => self.note(&[7, 0, succeeded], &[]),
+            DiskCall::Placed => self.note(&[8, 0, succeeded], &[]),
         }
         match answer {
             Ok(()) => Ok(()),

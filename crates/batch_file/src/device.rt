@@ -1,9 +1,9 @@
 //! A file as a `BatchFile` sees it: what a read would return, and what a crash may leave.
 
-ghost use Rattle.std.specs.Prelude.{◌≡◌, ◌≤◌, Bool, List, ℕ, length, IfOk, OnOk, IfErr};
+ghost use Rattle.std.specs.Prelude.{◌≡◌, ◌≤◌, ◌++◌, [], Bool, List, ℕ, length, take, drop, Option, Some, option_map, IfOk, OnOk, IfErr, IfSome};
 ghost use Rattle.batch_file.specs.declared.device.DeviceFault.TheVariants.{Memory};
 ghost use Rattle.batch_file.specs.declared.device.ReplaceFault.TheVariants as replacing;
-ghost use Rattle.batch_file.specs.Crashes.{Elapses, ComesOfStep, HasCause, IsFailure, IsUnplaced, IsReplaceFailure, IsWrittenAt, Only, Swapped, Torn};
+ghost use Rattle.batch_file.specs.Crashes.{Elapses, ComesOfStep, HasCause, IsBeside, IsFailure, IsUnplaced, IsReplaceFailure, IsWrittenAt, Only, Swapped, Torn};
 ghost use Rattle.batch_file.specs.Faults.{of_reading, of_replacing};
 
 use crate::system::SystemFault;
@@ -88,6 +88,12 @@ pub trait Device {
     /// What reads told is what was there, as far as there were any. Where it was not, nothing is promised of what a crash leaves.
     ghost reads_true: { Self → Type 0 };
 
+    /// What was written to the next file since it was begun, where no call on it was refused since.
+    ghost next: { Self → Option (List ℕ) };
+
+    /// What of it is known to be on the disk.
+    ghost next_on_disk: { Self → Option (List ℕ) };
+
     /// What it may tell of whether its file stands where it was opened.
     ghost tells_place: { Self → Bool → Type 0 };
 
@@ -102,6 +108,7 @@ pub trait Device {
         ensures crash { ComesOfStep (Torn at (length bytes.now)) (may_leave self.old) (may_leave self.new) }
         ensures time { Elapses (moment self.old) (moment self.new) (left_since self.old) (left_since self.new) (may_leave self.new) }
         ensures cause { HasCause IsFailure (faults self.old) (faults self.new) result }
+        ensures next { next self.new ≡ next self.old }
         ensures truth { reads_true self.new → reads_true self.old };
 
     /// Waits until the file is on the disk: after it a crash leaves what a read would return, unless the disk has failed before.
@@ -111,6 +118,7 @@ pub trait Device {
         ensures crash { (left : List ℕ) → may_leave self.new left → may_leave self.old left }
         ensures time { Elapses (moment self.old) (moment self.new) (left_since self.old) (left_since self.new) (may_leave self.new) }
         ensures cause { HasCause IsFailure (faults self.old) (faults self.new) result }
+        ensures next { next self.new ≡ next self.old }
         ensures truth { reads_true self.new → reads_true self.old };
 
     /// Puts another file in the place of this one. A crash leaves the one or the other.
@@ -123,14 +131,46 @@ pub trait Device {
         ensures cause { HasCause IsReplaceFailure (faults self.old) (faults self.new) result }
         ensures truth { reads_true self.new → reads_true self.old };
 
-    /// All its bytes. Where they are not given, nothing was done.
-    fn read(&mut self, alloc: Global) -> Result<Vec<u8>, DeviceFault>
-        ensures read { IfOk result (λ bytes. reads_true self.new → bytes.items ≡ seen self.new) }
+    /// So many of its bytes, from that place on. Where they are not given, nothing was done.
+    fn read_at(&mut self, alloc: Global, at: usize, size: usize) -> Result<Vec<u8>, DeviceFault>
+        ensures read { IfOk result (λ bytes. reads_true self.new → bytes.items ≡ take size (drop at (seen self.new))) }
+        ensures size { IfOk result (λ bytes. length bytes.items ≡ size) }
         ensures untouched { IfErr result (λ _. self.new ≡ self.old) }
-        ensures seen { seen self.new ≡ seen self.old }
-        ensures crash { (left : List ℕ) → may_leave self.new left → may_leave self.old left }
+        ensures beside { IsBeside seen may_leave faults self.old self.new }
         ensures time { Elapses (moment self.old) (moment self.new) (left_since self.old) (left_since self.new) (may_leave self.new) }
-        ensures faults { faults self.new ≡ faults self.old }
+        ensures next { next self.new ≡ next self.old }
+        ensures truth { reads_true self.new → reads_true self.old };
+
+    /// Begins another file beside this one: what is refused of it is no fault of this one.
+    fn begin_next(&mut self) -> Result<(), DeviceFault>
+        ensures begun { OnOk result (next self.new ≡ Some []) }
+        ensures beside { IsBeside seen may_leave faults self.old self.new }
+        ensures time { Elapses (moment self.old) (moment self.new) (left_since self.old) (left_since self.new) (may_leave self.new) }
+        ensures truth { reads_true self.new → reads_true self.old };
+
+    /// Writes behind what was written to it.
+    fn add_to_next(&mut self, bytes: &[u8]) -> Result<(), DeviceFault>
+        ensures added { OnOk result (next self.new ≡ option_map (λ written. written ++ bytes.now) (next self.old)) }
+        ensures beside { IsBeside seen may_leave faults self.old self.new }
+        ensures time { Elapses (moment self.old) (moment self.new) (left_since self.old) (left_since self.new) (may_leave self.new) }
+        ensures truth { reads_true self.new → reads_true self.old };
+
+    /// Waits until all of it is on the disk.
+    fn sync_next(&mut self) -> Result<(), DeviceFault>
+        ensures durable { OnOk result (next_on_disk self.new ≡ next self.old) }
+        ensures next { OnOk result (next self.new ≡ next self.old) }
+        ensures beside { IsBeside seen may_leave faults self.old self.new }
+        ensures time { Elapses (moment self.old) (moment self.new) (left_since self.old) (left_since self.new) (may_leave self.new) }
+        ensures truth { reads_true self.new → reads_true self.old };
+
+    /// Puts it in the place of this one. A crash leaves the one or the other, where the other is known to be on the disk.
+    fn place_next(&mut self) -> Result<(), ReplaceFault>
+        ensures replaced { OnOk result (IfSome (next_on_disk self.old) (λ bytes. seen self.new ≡ bytes)) }
+        ensures durable { OnOk result (IfSome (next_on_disk self.old) (λ bytes. Only bytes (may_leave self.new))) }
+        ensures unplaced { IfErr result (λ fault. IsUnplaced fault → IsBeside seen may_leave faults self.old self.new) }
+        ensures crash { IfSome (next_on_disk self.old) (λ bytes. ComesOfStep (Swapped bytes) (may_leave self.old) (may_leave self.new)) }
+        ensures time { Elapses (moment self.old) (moment self.new) (left_since self.old) (left_since self.new) (may_leave self.new) }
+        ensures cause { HasCause IsReplaceFailure (faults self.old) (faults self.new) result }
         ensures truth { reads_true self.new → reads_true self.old };
 
     /// Puts bytes aside, beside the file, which stays as it was.

@@ -4,14 +4,14 @@
 //! The lock is held on a file of its own beside it, since the file itself is another one after a replacement. All names of the
 //! file lead to that lock: links to the file are refused, and one that is mounted by itself can't be replaced.
 
-ghost use Rattle.std.specs.Prelude.{◌≡◌, ⊤, length, bit_and, IfOk, IfErr, OnOk, IfSome, IfNone, IsTrue, ◌↔◌, Some};
+ghost use Rattle.std.specs.Prelude.{◌≡◌, ◌∷◌, ⊤, length, bit_and, IfOk, IfErr, OnOk, IfSome, IfNone, IsTrue, ◌↔◌, Some};
 ghost use Rattle.std.specs.Fs.{file_type, metadata_mode, IsFile, IsSymlink};
 ghost use Rattle.std.specs.Io.KnownBytes.{IsAtEnd};
 ghost use Rattle.std.specs.Path.{path_bytes};
 ghost use Rattle.batch_file.specs.declared.disk_file.OpenFault.TheVariants as opening;
 ghost use Rattle.batch_file.specs.declared.disk_file.MakeFault.TheVariants as making;
-ghost use Rattle.batch_file.specs.Calls.{content, failures, only_opened, LeftSince, MayLeave, ReadsTrue};
-ghost use Rattle.batch_file.specs.CallsParts.{RenamesNothing};
+ghost use Rattle.batch_file.specs.Calls.{content, failures, next_content, next_on_disk, only_opened, LeftSince, MayLeave, ReadsTrue};
+ghost use Rattle.batch_file.specs.CallsParts.{logged, RenamesNothing};
 ghost use Rattle.batch_file.specs.Faults.{of_error, of_making, of_lock};
 ghost use Rattle.batch_file.specs.Folders.{folder_of};
 ghost use Rattle.batch_file.specs.Moments.{counts_now_of, only_now_of, only_true_of};
@@ -32,6 +32,9 @@ const OWNER_ONLY: u32 = 0o600;
 
 /// The bits by which a file's group and others may write it.
 const OTHERS_WRITE: u32 = 0o022;
+
+/// No next file was begun, or a call on it was refused since.
+const NOT_BEGUN: DeviceFault = DeviceFault::Failed(SystemFault::NotFound);
 
 /// Why a file is not opened.
 #[derive(Clone, Copy, Debug, PartialEq, Eq)]
@@ -157,6 +160,8 @@ pub struct DiskFile<'r, R, F = File> {
     lock_path: String,
     next_path: String,
     torn_path: String,
+    /// The next file, where one was begun and no call on it was refused since.
+    next: Option<F>,
     log: CallLog,
 }
 
@@ -184,11 +189,17 @@ fn read_whole<R: Read>(alloc: Global, from: &mut R) -> io::Result<Vec<u8>>
     Ok(bytes)
 }
 
-/// All bytes of an open file, from its beginning on.
-fn read_again<F: OpenFile + FileExt>(alloc: Global, file: &F) -> Result<Vec<u8>, DeviceFault> {
-    let size = file.metadata()?.len() as usize;
+/// So many bytes of an open file, from that place on.
+fn read_again<F: FileExt>(
+    alloc: Global,
+    file: &F,
+    at: u64,
+    size: usize,
+) -> Result<Vec<u8>, DeviceFault>
+    ensures { IfOk result (λ bytes. length bytes.items ≡ size) }
+{
     let mut bytes = vec![in alloc; 0; size]?;
-    file.read_exact_at(&mut bytes, 0)?;
+    file.read_exact_at(&mut bytes, at)?;
     Ok(bytes)
 }
 
@@ -318,25 +329,57 @@ impl<'r, F: SystemFile, R: Files<File = F> + AllocGlobal> DiskFile<'r, R, F> {
             lock_path,
             next_path,
             torn_path,
+            next: None,
             log,
         };
         Ok(Opened { device, bytes })
     }
 
-    /// Writes another file with these bytes beside this one, with its owner, group and mode.
-    fn write_next(&self, bytes: &[u8]) -> io::Result<F> {
+    /// Makes another file beside this one, with its owner, group and mode.
+    fn make_next(&self) -> io::Result<F> {
         let next_path = self.next_path.as_str();
         let _ = fs::remove_file(self.rt, next_path);
-        let mut next = options().create_new(true).open(self.rt, next_path)?;
+        let next = options().create_new(true).open(self.rt, next_path)?;
         let there = self.file.metadata()?;
         let made = next.metadata()?;
         if (made.uid(), made.gid()) != (there.uid(), there.gid()) {
             lchown(self.rt, next_path, Some(there.uid()), Some(there.gid()))?;
         }
         next.set_permissions(there.permissions())?;
+        Ok(next)
+    }
+
+    /// Writes another file with these bytes beside this one.
+    fn write_next(&self, bytes: &[u8]) -> io::Result<F> {
+        let mut next = self.make_next()?;
         next.write_all(bytes)?;
         next.sync_all()?;
         Ok(next)
+    }
+
+    /// Notes a call on the next file, which is kept where the system took it, and removed where not.
+    fn keep_next(
+        &mut self,
+        next: F,
+        call: DiskCall<'_>,
+        answer: io::Result<()>,
+    ) -> Result<(), DeviceFault>
+        ensures { self.new.log.calls ≡ logged call.entry result ∷ self.old.log.calls }
+    {
+        if answer.is_ok() {
+            self.next = Some(next);
+        } else {
+            self.drop_next();
+        }
+        self.log.told(call, answer)
+    }
+
+    /// Removes what there is of a next file.
+    fn drop_next(&mut self)
+        ensures { self.new.log ≡ self.old.log }
+    {
+        self.next = None;
+        let _ = fs::remove_file(self.rt, self.next_path.as_str());
     }
 
     /// Puts the file that was written beside this one in its place. The inner result tells whether it is there on the disk.
@@ -369,6 +412,10 @@ impl<'r, F: SystemFile, R: Files<File = F> + AllocGlobal> Device for DiskFile<'r
     ghost faults = { λ device. failures device.log.calls };
 
     ghost reads_true = { λ device. ReadsTrue device.log.calls };
+
+    ghost next = { λ device. next_content device.log.calls };
+
+    ghost next_on_disk = { λ device. next_on_disk device.log.calls };
 
     ghost counts_now = { λ device t left le now. counts_now_of device.log.calls t left le now };
 
@@ -411,10 +458,56 @@ impl<'r, F: SystemFile, R: Files<File = F> + AllocGlobal> Device for DiskFile<'r
         }
     }
 
-    fn read(&mut self, alloc: Global) -> Result<Vec<u8>, DeviceFault> {
-        let bytes = read_again(alloc, &self.file)?;
-        let _ = self.log.told(DiskCall::Read(&bytes), Ok(()));
+    fn read_at(&mut self, alloc: Global, at: usize, size: usize) -> Result<Vec<u8>, DeviceFault> {
+        let at = at as u64;
+        let bytes = read_again(alloc, &self.file, at, size)?;
+        let _ = self.log.told(DiskCall::Read { at, bytes: &bytes }, Ok(()));
         Ok(bytes)
+    }
+
+    fn begin_next(&mut self) -> Result<(), DeviceFault> {
+        self.next = None;
+        match self.make_next() {
+            Ok(next) => self.keep_next(next, DiskCall::Began, Ok(())),
+            Err(error) => {
+                self.drop_next();
+                self.log.told(DiskCall::Began, Err(error))
+            }
+        }
+    }
+
+    fn add_to_next(&mut self, bytes: &[u8]) -> Result<(), DeviceFault> {
+        let Some(mut next) = self.next.take() else {
+            return Err(NOT_BEGUN);
+        };
+        let answer = next.write_all(bytes);
+        self.keep_next(next, DiskCall::Added(bytes), answer)
+    }
+
+    fn sync_next(&mut self) -> Result<(), DeviceFault> {
+        let Some(next) = self.next.take() else {
+            return Err(NOT_BEGUN);
+        };
+        let answer = next.sync_all();
+        self.keep_next(next, DiskCall::NextSynced, answer)
+    }
+
+    fn place_next(&mut self) -> Result<(), ReplaceFault> {
+        let Some(next) = self.next.take() else {
+            return Err(ReplaceFault::Unplaced(SystemFault::NotFound));
+        };
+        // Another file may have that name by now.
+        let found = fs::symlink_metadata(self.rt, self.next_path.as_str());
+        if !is_same(found, &next) {
+            return Err(ReplaceFault::Unplaced(SystemFault::NotFound));
+        }
+        match self.put_next(next) {
+            Ok(answer) => Ok(self.log.told(DiskCall::Placed, answer)?),
+            Err(reason) => {
+                self.drop_next();
+                Err(ReplaceFault::Unplaced(reason))
+            }
+        }
     }
 
     fn set_aside(&self, torn: &[u8]) -> Result<(), DeviceFault> {

@@ -1,6 +1,6 @@
 //! What files of batches promise beside what each call does. The functions here do nothing: read their contracts.
 
-ghost use Rattle.std.specs.Prelude.{◌≡◌, ◌≢◌, ◌⊎◌, ◌+◌, List, ℕ, length, take, drop};
+ghost use Rattle.std.specs.Prelude.{◌≡◌, ◌≢◌, ◌⊎◌, ◌+◌, ◌++◌, [], ◌∷◌, List, ℕ, length, take, drop};
 ghost use Rattle.batch_file.specs.declared.framing.ReadFault.{ReadFault};
 ghost use Rattle.batch_file.specs.Frames.{digest, recovered, IsChance, IsFileOf, IsFrame, IsReadable, IsRightFront, RefusesFile, Spells};
 ghost use Rattle.batch_file.specs.FramesLaws.{Collision};
@@ -14,6 +14,12 @@ pub fn readable_is_kept()
 /// Bytes are a file of no batches but those that they stand for.
 pub fn stands_for_one()
     ensures { (batches : List (List ℕ)) (file : List ℕ) → IsFileOf batches file → recovered file ≡ batches }
+{}
+
+/// The batches before the last one of a file are those of some file.
+#[tactic(auto, using(crate::specs::FramesLaws::front_file))]
+pub fn front_file()
+    ensures { (file batch : List ℕ) (xs : List (List ℕ)) → recovered file ≡ xs ++ batch ∷ [] → (front : List ℕ) × (recovered front ≡ xs) }
 {}
 
 /// A file has one right front.

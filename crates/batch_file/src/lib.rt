@@ -1,7 +1,8 @@
 //! A file of batches of bytes, each on the disk, whole, before it is acknowledged.
 //!
 //! Read `device` first: what a file does, and what a crash may leave of it. `framing` reads a file's bytes, `frames` makes
-//! those of a new one, and `appending` has `BatchFile`, which adds a batch or puts another file in the place of all.
+//! those of a new one, and `appending` has `BatchFile`, which adds a batch or puts another file in the place of all. `next`
+//! reads it batch by batch, and writes the next file beside it.
 //! `disk_file` is a device over a file of the system.
 #![tactic(auto)]
 
@@ -12,4 +13,5 @@ pub mod disk_file;
 pub mod frames;
 pub mod framing;
 pub mod laws;
+pub mod next;
 pub mod system;
