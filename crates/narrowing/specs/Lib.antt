@@ -9,4 +9,5 @@ pub mod ListsLaws
 pub mod LeftLaws
 pub mod StandingLaws
 pub mod RightLaws
+pub mod ShortRightLaws
 pub mod KeptLaws

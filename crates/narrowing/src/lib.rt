@@ -8,5 +8,5 @@ mod records;
 mod rules;
 
 pub use changes::changes_left;
-pub use laws::{what_is_left_is_right, what_is_left_of_a_list_is_left};
+pub use laws::{what_is_left_is_right, what_is_left_of_a_list_is_left, what_is_shortened_is_right};
 pub use records::ended_count;

@@ -2,8 +2,10 @@
 use Rattle.std.proofs.Common.{◌≡◌, ℕ, List, ◌∷◌, Bool, true, cond, Option, None, Some, ap, sym, ◌∙◌, arith}
 use Rattle.std.specs.Prelude.{◌&&◌, ◌||◌, bit_and, not}
 use Rattle.std.specs.List.{list_any}
+use Rattle.std.specs.HashSet.{contains_text}
 use Rattle.std.specs.Map.{lookup}
 use Rattle.std.specs.Str.{bytes_eq}
+use Rattle.std.specs.String.{string_bytes}
 use Rattle.consent.specs.Consents.{is_parties}
 use Rattle.consent.specs.History.{Event, event_at, Terms, is_within, lowers}
 use Rattle.consent.specs.History.Change.{Consented, HookGone}
@@ -12,7 +14,7 @@ use Rattle.shortening.specs.FilterLaws.{bytes_eq_sym}
 use Rattle.shortening.specs.Known.{IsBehind, is_out_of, parties_of_terms}
 use Rattle.shortening.specs.Left.{any_lowers}
 use Rattle.shortening.specs.declared.behind.Behind.{Behind}
-use Rattle.shortening.proofs.Deciding.{same_two, within_both}
+use Rattle.shortening.proofs.Lowering.{same_two, within_both}
 
 -- whether the terms are lowered with a consent more
 lowered_more : (two : Parties) (terms : Terms) (mask kept : ℕ) (lowered : Bool) (old new : Option ℕ) → lowered ≡ is_out_of terms.scope old →
@@ -44,12 +46,12 @@ behind_consent stays old new later moment two mask kept over puts within names b
       (λ is. within terms.scope
       ∙ ap (λ x. is_within terms.scope mask && not (is_out_of terms.scope (lookup (is_parties x) old.kept.entries))) (same_two two p is))
       );
-  gone = λ name. ap (λ ks. list_any (λ n. bytes_eq name n.now) ks) names ∙ behind.gone name;
+  gone = λ name. ap (λ ks. list_any (λ n. bytes_eq name (string_bytes n)) ks) names ∙ behind.gone name;
 }
 
 -- a hook that is taken away
 pub behind_gone : (stays : ℕ → Bool) (old new : Behind) (later : List Event) (moment : ℕ) (name : List ℕ) →
-    ((q : List ℕ) → list_any (λ n. bytes_eq q n.now) new.gone.keys ≡ cond (bytes_eq name q) true (list_any (λ n. bytes_eq q n.now) old.gone.keys)) →
+    ((q : List ℕ) → contains_text new.gone q ≡ cond (bytes_eq name q) true (contains_text old.gone q)) →
     new.superseded.keys ≡ old.superseded.keys → new.kept.entries ≡ old.kept.entries →
     IsBehind stays old later → IsBehind stays new (event_at moment (HookGone name) ∷ later)
 behind_gone stays old new later moment name takes over kept behind = record {

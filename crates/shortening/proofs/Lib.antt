@@ -1,5 +1,5 @@
 pub mod Noting
-pub mod Listing
-pub mod Deciding
+pub mod Codes
+pub mod Lowering
 pub mod Backwards
-pub mod Reversing
+pub mod Places

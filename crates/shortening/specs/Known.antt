@@ -1,6 +1,7 @@
 -- What a program knows of a list of changes to shorten it.
 use Rattle.std.specs.Prelude.{◌≡◌, ◌==◌, ℕ, List, [], Bool, true, false, not, Option, Some, None, is_some, if◌then◌else◌}
 use Rattle.std.specs.List.{list_any, list_all}
+use Rattle.std.specs.HashSet.{contains_text}
 use Rattle.std.specs.Map.{lookup}
 use Rattle.std.specs.Str.{bytes_eq}
 use Rattle.std.specs.Global.{Vec}
@@ -78,4 +79,4 @@ is_out_of scope (Some kept) = not (is_within scope kept)
 pub record IsBehind (family_stays : ℕ → Bool) (behind : Behind) (later : List Event) : Type 0 where
   pub superseded : (two : Parties) → list_any (is_parties two) behind.superseded.keys ≡ is_superseded family_stays two.owner two.client later
   pub lowered : (terms : Terms) → any_lowers terms later ≡ is_out_of terms.scope (lookup (is_parties (parties_of_terms terms)) behind.kept.entries)
-  pub gone : (name : List ℕ) → list_any (λ n. bytes_eq name n.now) behind.gone.keys ≡ list_any (λ e. takes name e.change) later
+  pub gone : (name : List ℕ) → contains_text behind.gone name ≡ list_any (λ e. takes name e.change) later

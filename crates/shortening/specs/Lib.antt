@@ -4,8 +4,10 @@ pub mod Hooks
 pub mod Left
 pub mod Shortened
 pub mod Standing
+pub mod Rightness
 -- What the program knows while it shortens a list.
 pub mod Known
+pub mod Steps
 -- What is not true, by small histories.
 pub mod Traps
 -- Laws, each proved: a reader may skip them.
@@ -18,3 +20,5 @@ pub mod ClosedLaws
 pub mod AlikeLaws
 pub mod StandingLaws
 pub mod StoreLaws
+pub mod StepsLaws
+pub mod RightnessLaws

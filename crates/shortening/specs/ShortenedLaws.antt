@@ -1,6 +1,6 @@
 -- What is left of a history without what is needless at a moment tells the same from then on.
 use Rattle.std.proofs.Common.{◌≡◌, ◌≤◌, ◌<◌, ℕ, ◌+◌, List, [], ◌∷◌, ◌++◌, Bool, true, false, Option, None, Some, refl, ap, sym, ◌∙◌, arith}
-use Rattle.std.specs.Prelude.{find, is_some, unwrap_or, not, filter}
+use Rattle.std.specs.Prelude.{◌||◌, find, is_some, unwrap_or, not, filter}
 use Rattle.std.specs.List.{list_any, list_all}
 use Rattle.std.proofs.lemmas.Bool.Decides.{nat_tests}
 use Rattle.std.proofs.lemmas.List.{append-nil}
@@ -9,6 +9,7 @@ use Rattle.consent.specs.History.{Event, Change, Grant, grants, grant_at, gives,
 use Rattle.consent.specs.History.{family_of, greatest_family, is_new, is_live_in, lives, last_consent, consents_kept, code_terms, IsHistory, are_in_order}
 use Rattle.consent.specs.History.Change.{Spent, Consented, CodeGiven, FamilyEnded}
 use Rattle.consent.specs.GrowthLaws.{is_spent-unnamed}
+use Rattle.consent.specs.ListLaws.{list_all-wider}
 use Rattle.consent.specs.HistoryLaws.{named_before}
 use Rattle.shortening.specs.FilterLaws.{find-filter, find-narrower_none}
 use Rattle.shortening.specs.Lists.{AllStand}
@@ -30,6 +31,14 @@ pub at_family : (q : ℕ → Bool) (m family : ℕ) (gs : List Grant) → list_a
     list_any (is_live_in family m) gs ≡ true → q family ≡ true
 at_family q m family [] all live = cc
 at_family q m family (g ∷ gs) all live = let more = at_family q m family gs in grind (arith, nat_tests, more, all, live)
+
+-- what is unexpired is of a family that lives
+pub unexpired_lives : (m : ℕ) (gs : List Grant) → list_all (λ g. not (is_unexpired m g) || list_any (is_live_in g.family m) gs) gs ≡ true
+unexpired_lives m [] = refl
+unexpired_lives m (g ∷ gs) =
+    let more = list_all-wider (λ x. not (is_unexpired m x) || list_any (is_live_in x.family m) gs)
+    (λ x. not (is_unexpired m x) || list_any (is_live_in x.family m) (g ∷ gs)) gs (λ x is. grind (arith, is)) (unexpired_lives m gs) in
+    grind (arith, nat_tests, more)
 
 module _ (goes : Event → List Event → Bool) (history : List Event) (m : ℕ) (spares : GoNeedless goes history m) where
   abbrev left : List Event → List Event

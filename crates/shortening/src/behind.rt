@@ -21,16 +21,16 @@ use std::collections::{HashMap, HashSet};
 
 /// What is known of the changes behind one.
 #[derive(Drop)]
-pub(crate) struct Behind<'a> {
+pub(crate) struct Behind {
     /// The two whose next consent comes before the next code of theirs whose family lives.
     pub(crate) superseded: HashSet<Parties>,
     /// What all consents of the two are to.
     pub(crate) kept: HashMap<Parties, ScopeSet>,
     /// The names of hooks that are taken away.
-    pub(crate) gone: HashSet<&'a str>,
+    pub(crate) gone: HashSet<String>,
 }
 
-impl<'a> Behind<'a> {
+impl Behind {
     /// What is known where there are none.
     pub(crate) fn new(alloc: Global) -> Self
         ensures { (family_stays : ℕ → Bool) → IsBehind family_stays result [] }
@@ -93,16 +93,24 @@ impl<'a> Behind<'a> {
         }
     }
 
+    // What all consents of the two are to, with one more to the mask.
+    fn kept_with(&self, two: &Parties, mask: ScopeSet) -> ScopeSet
+        ensures { (scope : ℕ) → is_within scope result ≡
+            (is_within scope mask && not (is_out_of scope (lookup (is_parties two.now) self.now.kept.entries))) }
+    {
+        match self.kept.get(two) {
+            Some(kept) => ScopeSet::new(kept.bits() & mask.bits()),
+            None => mask,
+        }
+    }
+
     // Notes a consent of the two.
     fn note_consent(&mut self, two: Parties, mask: ScopeSet) -> Result<(), AllocError>
         ensures { OnOk result ((family_stays : ℕ → Bool) (moment : ℕ) (later : List Event) → IsBehind family_stays self.old later →
             IsBehind family_stays self.new (event_at moment (Consented two.owner two.client mask) ∷ later)) }
     {
+        let kept = self.kept_with(&two, mask);
         self.superseded.insert(two)?;
-        let kept = match self.kept.get(&two) {
-            Some(kept) => ScopeSet::new(kept.bits() & mask.bits()),
-            None => mask,
-        };
         self.kept.insert(two, kept)?;
         Ok(())
     }
@@ -121,8 +129,9 @@ impl<'a> Behind<'a> {
     /// Notes the change, which stands before the others.
     pub(crate) fn note(
         &mut self,
+        alloc: Global,
         unexpired: &Unexpired,
-        dated: &DatedChange<'a>,
+        dated: &DatedChange<'_>,
     ) -> Result<(), AllocError>
         ensures { OnOk result ((family_stays : ℕ → Bool) (later : List Event) →
             ((family : ℕ) → has_family unexpired.now family ≡ family_stays family) → IsBehind family_stays self.old later →
@@ -146,7 +155,8 @@ impl<'a> Behind<'a> {
                 }
             }
             Change::HookGone { name } => {
-                self.gone.insert(*name)?;
+                let name = String::from_str(alloc, name)?;
+                self.gone.insert(name)?;
             }
             _ => {}
         }

@@ -1,6 +1,6 @@
 //! Laws of lists of changes, some of which are left out.
 
-ghost use Rattle.std.specs.Prelude.{◌≡◌, ◌≤◌, ◌++◌, ℕ, List, [], true, not};
+ghost use Rattle.std.specs.Prelude.{◌≡◌, ◌≤◌, ◌++◌, ℕ, List, [], Bool, true, not};
 ghost use Rattle.std.specs.List.{list_any};
 ghost use Rattle.consent.specs.History.{Event, Change, CanFollow, Happened, IsHistory, greatest_family, last_moment, live_grant, with_change};
 ghost use Rattle.consent.specs.History.Change.{Numbered};
@@ -8,8 +8,10 @@ ghost use Rattle.token_store.specs.Fits.{FitsHistory, FitsStore};
 ghost use Rattle.token_store.specs.Kept.{Held, Kept};
 ghost use Rattle.shortening.specs.Hooks.{hooks_after, hooks_set};
 ghost use Rattle.shortening.specs.Lists.{CodesOpen};
+ghost use Rattle.shortening.specs.Rightness.{AreRight, AsksLittle};
 ghost use Rattle.shortening.specs.Shortened.{TellsAlike, is_of, shortened};
 ghost use Rattle.shortening.specs.Standing.{GoesOn, IsLeftOf, IsSound};
+ghost use Rattle.shortening.specs.Steps.{keeps_of, picked};
 ghost use Rattle.shortening.specs.Traps.{DoesNotFollow, ForgetsNumbers, NeedsRoom, TellsLateAlone};
 
 /// From the moment on a history tells the same without what is needless then, and a sound list is sound. Of the hooks it tells
@@ -18,6 +20,11 @@ pub fn needless_changes_tell_nothing()
     ensures tells { (history : List Event) (m : ℕ) → IsHistory history m → TellsAlike history (shortened m history) m }
     ensures sound { (list : List Event) (m : ℕ) → IsSound list m → IsSound (shortened m list) m }
     ensures hooks { (history : List Event) → hooks_set history ≡ hooks_after [] history }
+{}
+
+/// What is left are the changes that stay, of each of which is asked with all behind it.
+pub fn what_stays_is_left()
+    ensures { (m : ℕ) (history : List Event) → picked (keeps_of m history history) history ≡ shortened m history }
 {}
 
 /// What does not hold of what is left, by small histories: its changes need not be able to follow each other, it tells nothing
@@ -63,6 +70,14 @@ pub fn a_list_is_left_of_what_happened()
         greatest_family (with_change list m (Numbered (greatest_family history))) ≡ greatest_family history }
     ensures least { (list history : List Event) (m : ℕ) → IsLeftOf list history m →
         greatest_family list ≤ greatest_family history }
+{}
+
+/// What is left of a list is right where the list was, if of a code no more is asked than what its owner consents to, and of a
+/// token no more than its family.
+pub fn what_is_left_is_right()
+    ensures { (right : List Event → Change → Bool) (history : List Event) (m : ℕ) → AsksLittle (λ before change. right before change ≡ true) →
+        CodesOpen history → AreRight (λ before change. right before change ≡ true) [] history →
+        AreRight (λ before change. right before change ≡ true) [] (shortened m history) }
 {}
 
 /// A store's answers from the moment on are those of what happened where they are those of a list that tells the same, and

@@ -20,16 +20,30 @@
 //! follow there, and still enough for each list of such changes to be a history.
 //!
 //! What is left may have a smaller greatest number of a family than its history. So this is told behind it.
+//!
+//! A list is gone over four times, change by change, so that it need not be held as a whole: `Unexpired` notes what is
+//! unexpired at the moment that `LastTold` tells, `Listing` lists the scopes of codes, `Deciding` decides of each change whether
+//! it stays, from the last one on, and `Leaving` says so from the first one on. `shorten` does all that with a list that is held.
 #![tactic(auto)]
 
 mod behind;
+mod deciding;
 mod known;
+mod last_told;
 mod laws;
 mod leaving;
+mod listing;
 mod unexpired;
+mod whole;
 
+pub use deciding::Deciding;
+pub use known::Known;
+pub use last_told::LastTold;
 pub use laws::{
     a_list_is_left_of_what_happened, a_store_fits_either, needless_changes_tell_nothing,
-    what_is_left_is_less, what_tells_the_same_goes_on,
+    what_is_left_is_less, what_is_left_is_right, what_stays_is_left, what_tells_the_same_goes_on,
 };
-pub use leaving::shorten;
+pub use leaving::Leaving;
+pub use listing::Listing;
+pub use unexpired::Unexpired;
+pub use whole::shorten;

@@ -1,9 +1,9 @@
 //! What is unexpired of a list of changes.
 
 ghost use Rattle.std.specs.Str.{bytes_eq};
-ghost use Rattle.std.specs.Prelude.{ℕ, true, cond, ◌==◌, ◌≡◌, ◌+◌, ◌++◌, ◌∷◌, List, [], Option, nat_lt, IfOk, OnOk};
+ghost use Rattle.std.specs.Prelude.{ℕ, true, cond, ◌==◌, ◌≡◌, ◌+◌, ◌++◌, ◌∷◌, List, [], Option, nat_lt, OnOk};
 ghost use Rattle.consent.specs.History.{Event, grant_of};
-ghost use Rattle.change_codec.specs.Spelling.{dated_fact, dated_facts};
+ghost use Rattle.change_codec.specs.Spelling.{dated_fact};
 ghost use Rattle.shortening.specs.Known.{NotesUnexpired, has_digest, has_family, noted_by};
 
 use change_codec::DatedChange;
@@ -11,9 +11,9 @@ use consent::{CODE_LIFE, Change, Digest, Moment};
 use std::alloc::{AllocError, Global};
 use std::collections::HashSet;
 
-/// What names something unexpired, and of which families.
+/// What names something unexpired of the changes so far, and of which families.
 #[derive(Drop)]
-pub(crate) struct Unexpired {
+pub struct Unexpired {
     pub(crate) named: HashSet<Digest>,
     pub(crate) living: HashSet<u64>,
 }
@@ -41,6 +41,16 @@ fn noted(dated: &DatedChange<'_>, moment: Moment) -> Option<(Digest, u64)>
 }
 
 impl Unexpired {
+    /// Nothing, as of no changes.
+    pub fn new(alloc: Global) -> Self
+        ensures { (moment : ℕ) → NotesUnexpired result [] moment }
+    {
+        Unexpired {
+            named: HashSet::new(alloc),
+            living: HashSet::new(alloc),
+        }
+    }
+
     // Notes the two.
     fn add(&mut self, digest: &Digest, family: u64) -> Result<(), AllocError>
         ensures named { OnOk result ((q : List ℕ) → has_digest self.new q ≡ cond (bytes_eq digest.now q) true (has_digest self.old q)) }
@@ -51,8 +61,8 @@ impl Unexpired {
         Ok(())
     }
 
-    // Notes what the change gives, if that is unexpired at the moment.
-    fn note(&mut self, dated: &DatedChange<'_>, moment: Moment) -> Result<(), AllocError>
+    /// Notes what the change gives, if that is unexpired at the moment. It stands behind the others.
+    pub fn note(&mut self, dated: &DatedChange<'_>, moment: Moment) -> Result<(), AllocError>
         ensures { OnOk result ((events : List Event) → NotesUnexpired self.old events moment →
             NotesUnexpired self.new (events ++ dated_fact dated.now ∷ []) moment) }
     {
@@ -61,24 +71,6 @@ impl Unexpired {
         };
         self.add(&one.0, one.1)?;
         Ok(())
-    }
-
-    /// What is unexpired of the changes at the moment.
-    pub(crate) fn of(
-        alloc: Global,
-        changes: &[DatedChange<'_>],
-        moment: Moment,
-    ) -> Result<Self, AllocError>
-        ensures { IfOk result (λ noted. NotesUnexpired noted (dated_facts changes.now) moment) }
-    {
-        let mut noted = Unexpired {
-            named: HashSet::new(alloc),
-            living: HashSet::new(alloc),
-        };
-        for dated in changes {
-            noted.note(dated, moment)?;
-        }
-        Ok(noted)
     }
 
     /// Whether the digest names something unexpired.

@@ -8,7 +8,7 @@ use Rattle.consent.specs.History.Change.{Consented}
 use Rattle.shortening.specs.Known.{is_out_of, parties_of_terms}
 use Rattle.shortening.specs.Left.{is_superseded}
 use Rattle.shortening.specs.Shortened.{is_lowered_later, unexpired}
-use Rattle.shortening.proofs.Deciding.{none_is_lowered, same_two}
+use Rattle.shortening.proofs.Lowering.{none_is_lowered, same_two}
 use Rattle.shortening.proofs.behind.Behind.is_consent_needless.Goals as goal
 
 pub returns-then-contains : goal.returns-then-contains

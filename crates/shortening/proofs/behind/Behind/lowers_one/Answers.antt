@@ -5,7 +5,7 @@ use Rattle.std.specs.Map.{lookup}
 use Rattle.consent.specs.Consents.{is_parties}
 use Rattle.consent.specs.History.{is_within}
 use Rattle.shortening.specs.Known.{is_out_of, scopes_of}
-use Rattle.shortening.proofs.Deciding.{none_lowered}
+use Rattle.shortening.proofs.Lowering.{none_lowered}
 use Rattle.shortening.proofs.behind.Behind.lowers_one.Goals as goal
 
 pub returns : goal.returns

@@ -1,16 +1,13 @@
 use Rattle.std.proofs.Common.{take, arith}
 use Rattle.std.proofs.lemmas.List.{take_all}
 use Rattle.change_codec.specs.Spelling.{dated_facts}
-use Rattle.shortening.proofs.Noting.{facts_more, notes_nothing}
-use Rattle.shortening.proofs.unexpired.Unexpired.of.Goals as goal
-
-pub loop-dated-init : goal.loop-dated-init
-loop-dated-init c = notes_nothing (record { named = c.new.result; living = c.new-2.result }) c.args.moment c.new.ensures.empty c.new-2.ensures.empty
+use Rattle.shortening.proofs.Noting.{facts_more}
+use Rattle.shortening.proofs.last_told.LastTold.of.Goals as goal
 
 pub loop-dated-preserved : goal.loop-dated-preserved
 loop-dated-preserved c =
     rw (facts_more c.loop-dated.dated-index c.args.changes.now c.dated-item.result c.loop-dated-test.true c.dated-item.is)
-    (c.in_ok-note.ensures (dated_facts (take c.loop-dated.dated-index c.args.changes.now)) c.loop-dated.invariant)
+    (c.note.ensures (dated_facts (take c.loop-dated.dated-index c.args.changes.now)) c.loop-dated.invariant)
 
 pub returns : goal.returns
 returns c = let all = take_all c.loop-dated.dated-index c.args.changes.now (omega (arith, c.loop-dated-test.false)) in rw all at c.loop-dated.invariant

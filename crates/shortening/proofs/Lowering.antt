@@ -7,15 +7,14 @@ use Rattle.std.specs.List.{list_any, list_all}
 use Rattle.std.proofs.lemmas.Bool.Decides.{nat_tests}
 use Rattle.std.proofs.lemmas.Nat.{and_assoc, and_comm}
 use Rattle.consent.specs.Consents.{is_parties}
-use Rattle.consent.specs.ListLaws.{list_all-wider}
-use Rattle.consent.specs.History.{Event, Grant, Terms, grants, is_unexpired, is_live_in, is_within, lives, code_terms}
+use Rattle.consent.specs.History.{Event, Grant, Terms, grants, is_unexpired, is_within, lives, code_terms}
 use Rattle.consent.specs.History.Change.{Consented}
 use Rattle.consent.specs.declared.parties.Parties.{Parties}
 use Rattle.shortening.specs.FilterLaws.{same_tests}
 use Rattle.shortening.specs.Known.{ListsScopes, is_out_of, parties_of_terms, scopes_of}
 use Rattle.shortening.specs.Left.{any_lowers}
 use Rattle.shortening.specs.Shortened.{is_lowered_later, unexpired}
-use Rattle.shortening.specs.ShortenedLaws.{at_family}
+use Rattle.shortening.specs.ShortenedLaws.{at_family, unexpired_lives}
 
 -- SCOPES
 
@@ -63,14 +62,6 @@ same_two a b is =
     let second : record { owner = b.owner; client = a.client } ≡ b = ap (λ c. record { owner = b.owner; client = c }) client in first ∙ second
 
 -- ALL FAMILIES
-
--- what is unexpired is of a family that lives
-unexpired_lives : (m : ℕ) (gs : List Grant) → list_all (λ g. not (is_unexpired m g) || list_any (is_live_in g.family m) gs) gs ≡ true
-unexpired_lives m [] = refl
-unexpired_lives m (g ∷ gs) =
-    let more = list_all-wider (λ x. not (is_unexpired m x) || list_any (is_live_in x.family m) gs)
-    (λ x. not (is_unexpired m x) || list_any (is_live_in x.family m) (g ∷ gs)) gs (λ x is. grind (arith, is)) (unexpired_lives m gs) in
-    grind (arith, nat_tests, more)
 
 all_unexpired : (m : ℕ) (stays r : ℕ → Bool) → ((family : ℕ) → stays family ≡ true → r family ≡ true) → (gs : List Grant) →
     list_all (λ g. not (is_unexpired m g) || stays g.family) gs ≡ true → list_all (λ g. r g.family) (filter (is_unexpired m) gs) ≡ true

@@ -3,8 +3,8 @@ use Rattle.std.specs.Prelude.{is_some}
 use Rattle.consent.specs.Facts.{code_of}
 use Rattle.consent.specs.History.{code_terms}
 use Rattle.shortening.specs.Known.{has_family}
-use Rattle.shortening.proofs.Listing.{both_same, both_first, other_same, dead_same, second_same, is_marked, more}
-use Rattle.shortening.proofs.known.list_code.Goals as goal
+use Rattle.shortening.proofs.Codes.{both_same, both_first, other_same, dead_same, second_same, is_marked, more}
+use Rattle.shortening.proofs.listing.list_code.Goals as goal
 
 pub returns-in_default : goal.returns-in_default
 returns-in_default c = λ events both.
