@@ -1,7 +1,7 @@
 -- Rules that are as wide as those told are wider.
 use Rattle.std.proofs.Common.{◌≡◌, ◌≤◌, ◌+◌, ℕ, List, [], ◌∷◌, ◌++◌, Bool, true, false, Option, None, Some, map, refl, sym, ap, subst}
-use Rattle.state_file.proofs.Names.{if◌then◌else◌, bytes_eq, bytes_eq-Decides, ClientRecord, RegistryRecord, is_within, token_life_limit, AreAsWide, client_names}
-use Rattle.state_file.proofs.Names.{first_moved, first_narrowed, client_told, rules_of}
+use Rattle.state_file.proofs.Names.{if◌then◌else◌, bytes_eq, bytes_eq-Decides, ClientRecord, RegistryRecord, is_within, token_life_limit, AreAsWide, client_names, first_moved, first_narrowed}
+use Rattle.state_file.proofs.Names.{client_told, rules_of}
 use Rattle.consent.specs.declared.grant.TokenKind.{TokenKind}
 use Rattle.consent.specs.declared.grant.TokenKind.TheVariants.{Access, Refresh}
 use Rattle.endpoints.specs.Widening.{AreWider, IsWider}

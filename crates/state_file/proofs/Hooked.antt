@@ -1,7 +1,6 @@
 -- The hooks of a history that goes on.
 use Rattle.std.proofs.Common.{◌≡◌, ℕ, List, [], ◌∷◌, ◌++◌, refl, ap, ◌∙◌}
-use Rattle.state_file.proofs.Names.{Event, event_at, with_change, Happened, HookFact, hooks_with}
-use Rattle.state_file.proofs.Names.{hooks_after, hooks_set_in}
+use Rattle.state_file.proofs.Names.{Event, event_at, with_change, Happened, HookFact, hooks_with, hooks_after, hooks_set_in}
 use Rattle.consent.specs.History.{Change}
 
 hooks_after-push : (hooks : List HookFact) (history : List Event) (e : Event) → hooks_after hooks (history ++ e ∷ []) ≡ hooks_with (hooks_after hooks history) e.change

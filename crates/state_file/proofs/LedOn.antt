@@ -1,8 +1,10 @@
 -- A start, from the file's changes up to the batches of the new file.
 use Rattle.std.proofs.Common.{◌≡◌, ◌≤◌, ◌^◌, ◌∙◌, inl, inr, ℕ, List, [], ◌∷◌, length, Option, None, Some, refl, sym, ap, subst, arith}
-use Rattle.state_file.proofs.Names.{unwrap_or, option_map, recovered, Event, Happened, Happened-none, Happened-nothing, batch_spelling, SeenServer, FitsServer, Notes, NowNotes, AreUnkept, Outset, Hosting, RulesFact}
-use Rattle.state_file.proofs.Names.{AreSet, with_hooks, AreTooLong, MakesFrom, Made, OnBytes, RefusesMaking, AreAdded, AreToldBehind, IsUnadded, StandInFor, FitsRestored, Sets, StandFor, until_of}
-use Rattle.state_file.proofs.Names.{AreTold-changes, StandFor-joined, until_of-append, Tell, last_rules, last_rules-push, StateFault, Restored}
+use Rattle.state_file.proofs.Names.{unwrap_or, option_map, recovered, Event, Happened, Happened-none, Happened-nothing, batch_spelling, SeenServer, FitsServer, Notes, NowNotes, AreUnkept, Outset}
+use Rattle.state_file.proofs.Names.{Hosting, RulesFact, AreSet, with_hooks, AreTooLong, MakesFrom, OnBytes, RefusesMaking, AreAdded, AreToldBehind, IsUnadded, FitsRestored, Sets, StandFor, until_of}
+use Rattle.state_file.proofs.Names.{AreTold-changes, until_of-append, Tell, last_rules, last_rules-push, StateFault, Restored}
+use Rattle.state_file.specs.Making.{Made}
+use Rattle.state_file.specs.StandingLaws.{StandFor-joined}
 use Rattle.state_file.specs.declared.fault.StateFault.TheVariants as state
 use Rattle.state_file.proofs.Setting.{fits_noting}
 use Rattle.state_file.proofs.Tells.{stand_behind, tells_behind, until_behind}
@@ -49,26 +51,22 @@ unadded hosting on facts _ long is = absurd is
 
 -- A WHOLE START
 
--- the batches that were read, with the rules and with what was noted, and those of the new file
+-- the batches that were read, with the rules, and with what was noted
 pub record LeadOn {H : Type 0} (noted : SeenServer H) (rules : RulesFact) (read new : List (List ℕ)) : Type 0 where
   pub told : List (List ℕ)
   pub tell : AreToldBehind read rules told
-  pub more : List (List ℕ)
-  pub added : AreAdded (unwrap_or noted.unkept []) told more
-  pub in_for : StandInFor more new
+  pub added : AreAdded (unwrap_or noted.unkept []) told new
 
 module _ {H : Type 0} {noted : SeenServer H} {rules : RulesFact} {read new : List (List ℕ)} (leads : LeadOn noted rules read new) where
   pub lead_tell : Tell new rules
-  lead_tell = leads.in_for.tell rules (added_tell (unwrap_or noted.unkept []) leads.told leads.more rules leads.added (tells_behind read leads.told rules leads.tell))
+  lead_tell = added_tell (unwrap_or noted.unkept []) leads.told new rules leads.added (tells_behind read leads.told rules leads.tell)
 
   pub lead_until : until_of read ≤ until_of new
-  lead_until =
-      let same = leads.in_for.until ∙ added_until (unwrap_or noted.unkept []) leads.told leads.more leads.added ∙ until_behind read leads.told rules leads.tell in omega (arith, same)
+  lead_until = let same = added_until (unwrap_or noted.unkept []) leads.told new leads.added ∙ until_behind read leads.told rules leads.tell in omega (arith, same)
 
   pub lead_stand : (before after : List Event) → StandFor read before → Happened before (unwrap_or noted.unkept []) after → StandFor new after
   lead_stand before after stands happened =
-      leads.in_for.stand after
-      (added_stand (unwrap_or noted.unkept []) leads.told leads.more before after leads.added happened (stand_behind read leads.told rules before leads.tell stands))
+      added_stand (unwrap_or noted.unkept []) leads.told new before after leads.added happened (stand_behind read leads.told rules before leads.tell stands)
 
 -- each history goes on with the hooks
 pub makes_from : {H : Type 0} (hosting : Hosting H) (on : OnBytes H) (made : Made H) (restored : Restored H) (noting : SeenServer H) (set : Restored H) (rules : RulesFact) (history : List Event) →

@@ -1,12 +1,7 @@
 pub mod Compared
-pub mod Renewed
 pub mod Hooked
-pub mod Kept
-pub mod Known
 pub mod Listed
-pub mod Lasting
 pub mod LedOn
-pub mod Put
 pub mod Refused
 pub mod Remaking
 pub mod Setting
@@ -14,3 +9,4 @@ pub mod Shorts
 pub mod Lengths
 pub mod Tells
 pub mod Names
+pub mod Begun

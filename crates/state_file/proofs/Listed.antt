@@ -1,7 +1,7 @@
 -- The clients of a registry, one after the other.
 use Rattle.std.proofs.Common.{◌≡◌, ◌+◌, ◌-◌, ◌++◌, ◌∙◌, ℕ, zero, suc, List, [], ◌∷◌, map, take, Some, refl, sym, ap, arith}
-use Rattle.state_file.proofs.Names.{◌==◌, slice_get, ne_eqb, map_push, ClientRecord, ClientFact, client_fact, ClientRules, client_told}
-use Rattle.std.specs.Prelude.{false}
+use Rattle.std.specs.Prelude.{◌==◌, false}
+use Rattle.state_file.proofs.Names.{slice_get, ne_eqb, map_push, ClientRecord, ClientFact, client_fact, ClientRules, client_told}
 use Rattle.clients.specs.Clients.{client_at}
 
 taken : (xs : List ClientRecord) (i : ℕ) (x : ClientRecord) → slice_get xs i ≡ Some x → take (suc i) xs ≡ take i xs ++ x ∷ []

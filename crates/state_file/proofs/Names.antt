@@ -1,13 +1,10 @@
 -- The names of other crates that more than one file of these proofs uses.
-pub use Rattle.state_file.specs.Names.{recovered, frames_size, Device, Happened, Basis, Until, Rules, ClientFact, RulesFact, HaveSpelling, batch_spelling, RegistryRecord, Event, is_within}
+pub use Rattle.state_file.specs.Names.{recovered, frames_size, Happened, ClientFact, RulesFact, batch_spelling, RegistryRecord, Event, is_within}
 pub use Rattle.state_file.specs.Names.{with_change, happens, Outset, SeenServer, FitsServer, Notes, AreNoted, Hosting, HookFact, rules_spelling, RulesFit}
-pub use Rattle.state_file.specs.Names.{StateFault, option_or, bytes_eq}
-pub use Rattle.batch_file.specs.Crashes.{LeavesOnly, Only}
-pub use Rattle.batch_file.specs.Frames.{IsOldOrNew, IsOnDisk, IsAsBefore, IsUnrenewed, file_size, lists}
-pub use Rattle.batch_file.specs.declared.appending.BatchFile.{BatchFile}
-pub use Rattle.change_codec.specs.Happened.{dated, all_dated}
-pub use Rattle.consent.specs.HistoryLaws.{Happened-split, Happened-joined, Happened-none, Happened-nothing}
-pub use Rattle.change_codec.specs.Keeping.{Holds, HoldsBasis, Keeps, KeepsBasis, KeepsNot, LeavesEither, StandsForEither, TellsBasis}
+pub use Rattle.state_file.specs.Names.{StateFault, bytes_eq}
+pub use Rattle.batch_file.specs.Frames.{lists}
+pub use Rattle.change_codec.specs.Happened.{all_dated}
+pub use Rattle.consent.specs.HistoryLaws.{Happened-joined, Happened-none, Happened-nothing}
 pub use Rattle.change_codec.specs.Spelling.{dated_fact, dated_facts}
 pub use Rattle.change_codec.specs.declared.dated.DatedChange.{DatedChange}
 pub use Rattle.clients.specs.ClientRecord.{ClientRecord}
@@ -23,31 +20,27 @@ pub use Rattle.rules_codec.specs.Spelling.{rules_fields}
 pub use Rattle.rules_codec.specs.SpellingLaws.{one_rules}
 pub use Rattle.rules_codec.specs.declared.rules.ClientRules.{ClientRules}
 pub use Rattle.rules_codec.specs.declared.standing.KeptHook.{KeptHook}
-pub use Rattle.state_file.specs.Comparing.{AreAsWide, client_names, first_moved, first_narrowed, IsUnread, RefuseBeside, RefuseRules, TakesRules}
+pub use Rattle.state_file.specs.Comparing.{AreAsWide, client_names, first_moved, first_narrowed, IsUnread, RefuseBeside, TakesRules}
 pub use Rattle.state_file.specs.Hooks.{hooks_after, hooks_set_in, hooks_with, AreSet, with_hooks, hook_named, with_hook, without_hook}
-pub use Rattle.state_file.specs.Knowing.{LeftTells, SeenKeeper, TellBasis, file_crashes, IsKnown, MayBe, IsLong, IsLongFile, end_of, shortened_size, tells_number}
-pub use Rattle.state_file.specs.Making.{AreTooLong, MakesFrom, Made, OnBytes, RefusesMaking, AreKeptShort, on_bytes}
-pub use Rattle.state_file.specs.MakingParts.{AreToldBehind, AreAdded, IsUnadded, StandInFor}
-pub use Rattle.state_file.specs.Listing.{IsUnlisted, TellNone}
+pub use Rattle.state_file.specs.Knowing.{shortened_size, tells_number}
+pub use Rattle.state_file.specs.Making.{AreTooLong, MakesFrom, OnBytes, RefusesMaking, on_bytes}
+pub use Rattle.state_file.specs.MakingParts.{AreToldBehind, AreAdded, IsUnadded}
+pub use Rattle.state_file.specs.Listing.{IsUnlisted}
 pub use Rattle.state_file.specs.Remaking.{FinishesAs, FitsRemade, MakesAgain, RefusesAgain, RefusesBatches, RefusesOne, TellsAgain}
-pub use Rattle.state_file.specs.Renewing.{IsShortened, ShortensFile, left_numbered, number_told, AreTooMuch}
-pub use Rattle.state_file.specs.Resuming.{AnswersFor, AnswersForBatches, FitsRestored, IsRight, ListsItself, Replays, WasRun, Sets, RefusesChange, RefusesList, RefusesNext, RefuseServer}
-pub use Rattle.state_file.specs.Resuming.{RefusesSetting, RefusesResume, RefusesSettings}
-pub use Rattle.state_file.specs.Standing.{AreTold, IsMomentTold, StandFor, StandsFor, moment_told, until_of, horizon, horizons}
-pub use Rattle.state_file.specs.Standing.{horizon_in, IsTold}
-pub use Rattle.state_file.specs.StandingLaws.{AreTold-changes, AreTold-joined, StandFor-joined, StandFor-shortened, until_of-more, AreTold-split, until_of-append, AreTold-horizon, StandFor-beside, AreTold-rules, one_told}
-pub use Rattle.state_file.specs.Starting.{IsOldOr, IsPutOn}
+pub use Rattle.state_file.specs.Renewing.{left_numbered, AreTooMuch}
+pub use Rattle.state_file.specs.Resuming.{AnswersFor, AnswersForBatches, FitsRestored, IsRight, ListsItself, Replays, WasRun, Sets, RefusesList, RefuseServer}
+pub use Rattle.state_file.specs.Resuming.{RefusesResume, RefusesSettings}
+pub use Rattle.state_file.specs.Standing.{AreTold, IsMomentTold, StandFor, StandsFor, until_of}
+pub use Rattle.state_file.specs.StandingLaws.{AreTold-changes, AreTold-joined, AreTold-split, until_of-append, AreTold-rules}
 pub use Rattle.state_file.specs.Telling.{client_told, rules_of, Tell, last_rules, IsOfRules, rules_in}
-pub use Rattle.state_file.specs.TellingLaws.{last_rules-push, tell_in, tell_one, tells_one}
-pub use Rattle.state_file.specs.declared.keeper.Known.{Known}
+pub use Rattle.state_file.specs.TellingLaws.{last_rules-push, tell_in}
+pub use Rattle.state_file.specs.declared.known.Known.{Known}
 pub use Rattle.state_file.specs.declared.remade.Remade.{Remade}
 pub use Rattle.state_file.specs.declared.restored.Restored.{Restored}
-pub use Rattle.std.proofs.lemmas.Bool.{eqb-true, lt-ltb, ne_eqb, iff_false}
-pub use Rattle.std.proofs.lemmas.Bool.Decides.{nat_tests}
+pub use Rattle.std.proofs.lemmas.Bool.{ne_eqb, iff_false}
 pub use Rattle.std.proofs.lemmas.Grind.{common_steps}
-pub use Rattle.std.proofs.lemmas.List.{drop_more, map_push, append-nil, map-append, take-append-drop, take_all, take_more}
+pub use Rattle.std.proofs.lemmas.List.{map_push, append-nil, map-append, take-append-drop, take_all}
 pub use Rattle.std.proofs.lemmas.Slice.Eq.{bytes_eq-Decides}
 pub use Rattle.std.specs.List.{slice_get}
 pub use Rattle.std.specs.Option.{option_copied}
-pub use Rattle.std.specs.Prelude.{max, if◌then◌else◌, option_map, IfSome, IsSome, unwrap_or, ◌==◌, ◌/◌, IfErr, IsTrue}
-pub use Rattle.wire.specs.Format.{ok_is}
+pub use Rattle.std.specs.Prelude.{max, if◌then◌else◌, option_map, unwrap_or, IfErr, IsTrue}

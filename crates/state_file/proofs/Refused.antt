@@ -1,8 +1,9 @@
 -- Why rules are refused, over a batch and over all.
 use Rattle.std.proofs.Common.{◌≡◌, ◌<◌, ◌+◌, ◌++◌, ◌∙◌, ℕ, List, [], ◌∷◌, inl, inr, map, take, drop, length, get_or, sym, ap, subst, append_assoc, Vec}
 use Rattle.std.specs.declared.alloc.Global.{Global}
-use Rattle.state_file.proofs.Names.{drop_more, map-append, take-append-drop, recovered, Event, Outset, Hosting, RulesFact, hook_fact, KeptHook, IsUnread, RefuseBeside, DatedChange, dated_fact, dated_facts, lists}
-use Rattle.state_file.proofs.Names.{AreTold, AreTold-split, IsUnlisted, FitsRemade, RefusesBatches, RefusesList, RefuseServer, RefusesResume, Remade, StateFault}
+use Rattle.std.proofs.lemmas.List.{drop_more}
+use Rattle.state_file.proofs.Names.{map-append, take-append-drop, recovered, Event, Outset, Hosting, RulesFact, hook_fact, KeptHook, IsUnread, RefuseBeside, DatedChange, dated_fact, dated_facts}
+use Rattle.state_file.proofs.Names.{lists, AreTold, AreTold-split, IsUnlisted, FitsRemade, RefusesBatches, RefusesList, RefuseServer, RefusesResume, Remade, StateFault}
 use Rattle.state_file.specs.declared.fault.StateFault.TheVariants as state
 
 -- what the batch tells is not read

@@ -1,8 +1,9 @@
 -- A server that is made of a list, change by change, and what it fits then.
 use Rattle.std.proofs.Common.{◌≡◌, ◌≤◌, ◌<◌, inl, inr, ℕ, List, [], ◌∷◌, ◌++◌, refl, sym, ap, ◌∙◌, subst, append_assoc, arith}
-use Rattle.state_file.proofs.Names.{append-nil, max, recovered, Event, Hosting, Outset, AllRight, event_at, with_change, last_moment, greatest_family, change_of, hooks_set_in}
-use Rattle.state_file.proofs.Names.{AnswersFor, AnswersForBatches, FitsRestored, FinishesAs, FitsRemade, IsRight, ListsItself, MakesAgain, RefusesAgain, RefusesBatches, RefusesList, RefusesOne, Replays, TellsAgain, WasRun}
-use Rattle.state_file.proofs.Names.{AreTold, AreTold-joined, AreTold-split, IsMomentTold, StandFor, StandsFor, one_told, until_of, Remade, Restored}
+use Rattle.state_file.proofs.Names.{append-nil, max, recovered, Event, Hosting, Outset, AllRight, event_at, with_change, last_moment, greatest_family, change_of, hooks_set_in, AnswersFor}
+use Rattle.state_file.proofs.Names.{AnswersForBatches, FitsRestored, FinishesAs, FitsRemade, IsRight, ListsItself, MakesAgain, RefusesAgain, RefusesBatches, RefusesList, RefusesOne, Replays}
+use Rattle.state_file.proofs.Names.{TellsAgain, WasRun, AreTold, AreTold-joined, AreTold-split, IsMomentTold, StandFor, StandsFor, until_of, Remade, Restored}
+use Rattle.state_file.specs.StandingLaws.{one_told}
 use Rattle.consent.specs.HistoryLaws.{is_history-later, last-joined}
 use Rattle.consent.specs.History.{Change}
 use Rattle.consent.specs.Limits.{consent_limit}

@@ -1,7 +1,8 @@
 -- Hooks that are set, and keeping that they are.
 use Rattle.std.proofs.Common.{◌≡◌, ℕ, List, [], ◌∷◌, ◌++◌, true, Option, None, Some, refl, sym, ap, ◌∙◌, subst, arith}
-use Rattle.state_file.proofs.Names.{bytes_eq, nat_tests, bytes_eq-Decides, Event, event_at, with_change, happens, Happened, all_dated, Happened-joined, with_notes, SeenServer, FitsServer, Notes}
-use Rattle.state_file.proofs.Names.{NowNotes, AreUnkept, AreNoted, Outset, Hosting, HookFact, AreSet, hooks_set_in, hook_named, with_hook, with_hooks, FitsRestored, Sets, Restored}
+use Rattle.state_file.proofs.Names.{bytes_eq, bytes_eq-Decides, Event, event_at, with_change, happens, Happened, all_dated, Happened-joined, with_notes, SeenServer, FitsServer, Notes, NowNotes}
+use Rattle.state_file.proofs.Names.{AreUnkept, AreNoted, Outset, Hosting, HookFact, AreSet, hooks_set_in, hook_named, with_hook, with_hooks, FitsRestored, Sets, Restored}
+use Rattle.std.proofs.lemmas.Bool.Decides.{nat_tests}
 use Rattle.std.proofs.lemmas.List.Elements.{All-append, All-cons, All-nil, All-weaker}
 use Rattle.consent.specs.History.{all_past}
 use Rattle.consent.specs.HistoryLaws.{in_order-now}

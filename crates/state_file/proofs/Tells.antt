@@ -1,7 +1,9 @@
 -- A state file in which rules are told.
 use Rattle.std.proofs.Common.{◌≡◌, ◌↔◌, inl, inr, ℕ, zero, List, [], ◌∷◌, ◌++◌, Bool, true, false, Option, None, Some, refl, sym, ap, ◌∙◌, subst, arith}
-use Rattle.state_file.proofs.Names.{option_or, Event, one_rules, RulesFact, RulesFit, rules_fields, rules_spelling, AreToldBehind, StandFor, until_of, AreTold-rules, StandFor-beside, until_of-append}
-use Rattle.state_file.proofs.Names.{IsOfRules, Tell, last_rules, rules_in, last_rules-push}
+use Rattle.std.specs.Option.{option_or}
+use Rattle.state_file.proofs.Names.{Event, one_rules, RulesFact, RulesFit, rules_fields, rules_spelling, AreToldBehind, StandFor, until_of, AreTold-rules, until_of-append, IsOfRules, Tell, last_rules}
+use Rattle.state_file.proofs.Names.{rules_in, last_rules-push}
+use Rattle.state_file.specs.StandingLaws.{StandFor-beside}
 
 -- what does not begin with a byte 0 tells no rules
 no_rules : (batch : List ℕ) → (rules_in batch ≡ Some batch → ⊥) → rules_in batch ≡ None

@@ -1,8 +1,7 @@
 -- When a registry's rules are as wide as those that a file tells, and where they first are not.
-use Rattle.std.specs.Prelude.{◌≡◌, ◌≤◌, ◌<◌, ◌^◌, ◌⊎◌, ℕ, List, [], ◌∷◌, length, map, Option, None, Some, if◌then◌else◌, string_bytes}
-use Rattle.state_file.specs.Names.{bytes_eq, is_within, ClientFact, RulesFact, rules_reading, RulesCount, rules_spelling, StateFault, NoRules, Spelling, ScopeMoved, OwnerMoved}
-use Rattle.state_file.specs.Names.{ClientMoved, ClientNarrowed, LifeNarrowed}
-use Rattle.std.specs.Prelude.{Err}
+use Rattle.std.specs.Prelude.{◌≡◌, ◌≤◌, ◌<◌, ◌^◌, ◌⊎◌, ℕ, List, [], ◌∷◌, length, map, Option, None, Some, if◌then◌else◌, string_bytes, Err}
+use Rattle.state_file.specs.Names.{bytes_eq, is_within, ClientFact, RulesFact, rules_reading, RulesCount, rules_spelling, StateFault, NoRules, Spelling, ScopeMoved, OwnerMoved, ClientMoved}
+use Rattle.state_file.specs.Names.{ClientNarrowed, LifeNarrowed}
 use Rattle.state_file.specs.Telling.{last_rules, Tell, IsOfRules, BeginWithRules}
 use Rattle.state_file.specs.declared.fault.StateFault.TheVariants.{Memory, TooLong}
 

@@ -7,7 +7,6 @@ pub mod Listing
 pub mod Resuming
 pub mod Runs
 pub mod Making
-pub mod Starting
 pub mod Faults
 pub mod Knowing
 pub mod Renewing
@@ -22,5 +21,9 @@ pub mod HookLaws
 pub mod ResumingLaws
 pub mod ReplayingLaws
 pub mod RunLaws
+pub mod HorizonLaws
+pub mod KnownLaws
+pub mod LengthLaws
+pub mod ShortLaws
 -- What these files import, passed on.
 pub mod Names

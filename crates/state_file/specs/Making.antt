@@ -2,10 +2,8 @@
 use Rattle.std.specs.Prelude.{◌≡◌, ◌≤◌, ◌⊎◌, ◌^◌, ℕ, List, [], length, Some, unwrap_or}
 use Rattle.state_file.specs.Names.{recovered, torn_of, batch_spelling, Event, Outset, SeenServer, Hosting, HookFact, StateFault}
 use Rattle.state_file.specs.Hooks.{AreSet, with_hooks}
-use Rattle.state_file.specs.Knowing.{IsLong, end_of, shortened_size}
-use Rattle.state_file.specs.Renewing.{AreTooMuch, left_numbered}
 use Rattle.state_file.specs.Resuming.{AnswersFor, ListsItself, OfEachHistory, RefusesResume, RefusesSome, ServesOn, Sets}
-use Rattle.state_file.specs.Standing.{AreTold, IsMomentTold, StandFor, until_of}
+use Rattle.state_file.specs.Standing.{IsMomentTold, StandFor, until_of}
 use Rattle.state_file.specs.Telling.{Tell, rules_of}
 use Rattle.state_file.specs.declared.restored.Restored.{Restored}
 use Rattle.state_file.specs.declared.fault.StateFault.TheVariants as state
@@ -36,14 +34,6 @@ pub record MakesFrom {H : Type 0} (hosting : Hosting H) (on : OnBytes H) (made :
   pub set : AreSet on.hooks (going_on on made.moment history)
   pub stands : StandFor made.batches (going_on on made.moment history)
 
--- some of what is left of the list that the batches tell is too long for a batch
-abbrev pub HaveTooMuch : List (List ℕ) → Type 0
-HaveTooMuch batches = (facts : List Event) × AreTold batches facts × AreTooMuch (left_numbered facts)
-
--- the batches are no longer than they may be, unless what is left of their list is not told
-abbrev pub AreKeptShort : List (List ℕ) → Type 0
-AreKeptShort batches = (¬ IsLong (end_of batches) (shortened_size batches)) ⊎ HaveTooMuch batches
-
 -- So it is of each history that the bytes stand for, and the list that they tell is one that is right. The batches tell the rules, and no earlier moment than the bytes did; the
 -- server goes on from none that is earlier than that, and from no other than they told.
 pub record Makes {H : Type 0} (hosting : Hosting H) (on : OnBytes H) (made : Made H) : Type 0 where
@@ -53,7 +43,6 @@ pub record Makes {H : Type 0} (hosting : Hosting H) (on : OnBytes H) (made : Mad
   pub kept : until_of (recovered on.bytes) ≤ until_of made.batches
   pub later : until_of (recovered on.bytes) ≤ made.moment
   pub moment_is : IsMomentTold (recovered on.bytes) made.moment
-  pub short : AreKeptShort made.batches
   pub torn_is : made.torn ≡ torn_of on.bytes
 
 -- The hooks are too long to be told: they are set on a server that is made of the bytes, and what it notes then takes 2^32 bytes

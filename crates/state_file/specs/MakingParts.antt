@@ -2,7 +2,6 @@
 use Rattle.std.specs.Prelude.{◌≡◌, ◌⊎◌, ◌≤◌, ◌^◌, ◌++◌, ℕ, List, [], ◌∷◌, length}
 use Rattle.consent.specs.History.{Event}
 use Rattle.state_file.specs.Names.{HaveSpelling, batch_spelling, RulesFact, RulesFit, rules_spelling, StateFault}
-use Rattle.state_file.specs.Standing.{StandFor, until_of}
 use Rattle.state_file.specs.Telling.{Tell}
 use Rattle.state_file.specs.declared.fault.StateFault.TheVariants as state
 
@@ -20,10 +19,3 @@ abbrev pub IsUnadded : List Event → StateFault → Type 0
 IsUnadded facts state.Memory = Unit {0}
 IsUnadded facts state.Full = 2 ^ 32 ≤ length (batch_spelling facts)
 IsUnadded facts _ = ⊥
-
--- The new batches may stand in for the old ones: they tell the same rules and the same moment, and stand for each history for
--- which the old ones do.
-pub record StandInFor (old new : List (List ℕ)) : Type 0 where
-  pub tell : (rules : RulesFact) → Tell old rules → Tell new rules
-  pub until : until_of new ≡ until_of old
-  pub stand : (history : List Event) → StandFor old history → StandFor new history

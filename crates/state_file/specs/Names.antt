@@ -1,8 +1,7 @@
 -- The names of types and of other crates that more than one file of these definitions uses.
 pub use Rattle.batch_file.specs.Frames.{recovered, frames_size, torn_of, RefusesFile}
-pub use Rattle.batch_file.specs.declared.device.Device.{Ghosts as Device}
 pub use Rattle.consent.specs.History.{Happened}
-pub use Rattle.change_codec.specs.Keeping.{Basis, Until, Rules, Crashes, crashes, IsFrontOf}
+pub use Rattle.change_codec.specs.Keeping.{Basis, Until, Rules}
 pub use Rattle.change_codec.specs.Rules.{ClientFact, RulesFact}
 pub use Rattle.change_codec.specs.Spelling.{HaveSpelling, batch_spelling}
 pub use Rattle.clients.specs.RegistryRecord.{RegistryRecord}

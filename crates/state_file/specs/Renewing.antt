@@ -1,10 +1,9 @@
 -- When what is left of a list takes the place of a state file's batches.
-use Rattle.std.specs.Prelude.{◌≡◌, ◌++◌, ◌≤◌, ◌^◌, List, [], ◌∷◌, ℕ, length}
+use Rattle.std.specs.Prelude.{◌≡◌, ◌++◌, ◌+◌, ◌≤◌, ◌^◌, List, [], ◌∷◌, ℕ, length}
 use Rattle.consent.specs.History.{Event, event_at, greatest_family, last_moment}
 use Rattle.consent.specs.History.Change.{Numbered}
 use Rattle.shortening.specs.Shortened.{shortened}
-use Rattle.state_file.specs.Names.{RulesFact, recovered, Device, batch_spelling, StateFault}
-use Rattle.state_file.specs.Knowing.{SeenKeeper}
+use Rattle.state_file.specs.Names.{RulesFact, batch_spelling, StateFault}
 use Rattle.state_file.specs.Standing.{AreTold, until_of}
 use Rattle.state_file.specs.Telling.{Tell}
 use Rattle.state_file.specs.declared.fault.StateFault.TheVariants.{Memory, Full}
@@ -22,11 +21,8 @@ pub record IsShortened (old new : List (List ℕ)) : Type 0 where
   pub left : (facts : List Event) → AreTold old facts → AreTold new (left_numbered facts)
   pub tell : (rules : RulesFact) → Tell old rules → Tell new rules
   pub until : until_of new ≡ until_of old
-
--- so it is of the batches of the keepers' files, where the file was read as it was
-abbrev pub ShortensFile : {D : Type 0} → Device D → SeenKeeper D → SeenKeeper D → Type 0
-ShortensFile device old new =
-    device.reads_true new.file.device → IsShortened (recovered (device.seen old.file.device)) (recovered (device.seen new.file.device))
+  -- no batch tells nothing, but those of the rules and of the moment
+  pub few : (facts : List Event) → AreTold old facts → length new ≤ length (left_numbered facts) + 2
 
 -- some of the events, one behind the other, take 2^32 bytes or more
 abbrev pub AreTooMuch : List Event → Type 0

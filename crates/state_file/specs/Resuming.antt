@@ -1,7 +1,7 @@
 -- What a server does that is started on a state file.
 use Rattle.std.specs.Prelude.{◌≡◌, ◌≢◌, ◌⊎◌, ◌++◌, ◌<◌, ℕ, List, [], ◌∷◌, None, Some, string_bytes}
-use Rattle.state_file.specs.Names.{RefusesFile, recovered, RegistryRecord, Event, HostRun, SeenServer, Outset, FitsServer, Notes, AreNoted, layout_of, Hosting}
-use Rattle.state_file.specs.Names.{HookFact, StateFault, NotState, Version, Damaged, Spelling, Follows, HookDiffers, Hook}
+use Rattle.state_file.specs.Names.{RefusesFile, recovered, RegistryRecord, Event, HostRun, SeenServer, Outset, FitsServer, Notes, AreNoted, layout_of, Hosting, HookFact, StateFault, NotState, Version}
+use Rattle.state_file.specs.Names.{Damaged, Spelling, Follows, HookDiffers, Hook}
 use Rattle.batch_file.specs.declared.framing.ReadFault.TheVariants as reading
 use Rattle.consent.specs.Changes.{change_of}
 use Rattle.consent.specs.History.{consents_kept, last_moment}

@@ -1,11 +1,9 @@
 -- Beside Renewing: only the contracts of this crate's own parts and their proofs cite this, no public clause.
-use Rattle.std.specs.Prelude.{◌≡◌, ◌++◌, ℕ, List, [], ◌∷◌, None, Some}
-use Rattle.state_file.specs.Names.{Event, StateFault, recovered}
-use Rattle.state_file.specs.Knowing.{IsLong, end_of, shortened_size}
-use Rattle.state_file.specs.Renewing.{AreTooMuch, left_numbered}
-use Rattle.state_file.specs.Standing.{AreTold, horizon_in, until_of}
-use Rattle.state_file.specs.Telling.{last_rules, rules_in}
-use Rattle.state_file.specs.declared.short.Short.{Short}
+use Rattle.std.specs.Prelude.{◌≡◌, ◌++◌, ℕ, List, [], ◌∷◌, None}
+use Rattle.state_file.specs.Names.{Event, StateFault}
+use Rattle.state_file.specs.Renewing.{AreTooMuch}
+use Rattle.state_file.specs.Standing.{AreTold, horizon_in}
+use Rattle.state_file.specs.Telling.{rules_in}
 use Rattle.state_file.specs.declared.fault.StateFault.TheVariants.{Memory, Full}
 
 -- the batch tells no rules and no horizon
@@ -23,16 +21,6 @@ pub record AddsChanges (facts : List Event) (old new : List (List ℕ)) : Type 0
   pub added : new ≡ old ++ more
   pub told : AreTold more facts
   pub plain : ArePlain more
-
--- batches that tell what is left of the list that the bytes tell, under these rules and until this moment
-pub record IsShortOfBytes (bytes rules : List ℕ) (until : ℕ) (made : Short) : Type 0 where
-  pub facts : List Event
-  pub of : AreTold (recovered bytes) facts
-  pub told : AreTold made.frames (left_numbered facts)
-  pub rules_are : last_rules made.frames ≡ Some rules
-  pub until_is : until_of made.frames ≡ until
-  pub size_is : made.shortened ≡ shortened_size made.frames
-  pub short : ¬ (IsLong (end_of made.frames) made.shortened)
 
 -- why they do not: memory was refused, or some of them are too long for a batch
 abbrev pub IsUnaddedList : List Event → StateFault → Type 0

@@ -19,6 +19,12 @@ last_rules-push [] batch = sym (or_none (rules_in batch))
 last_rules-push (b ∷ batches) batch =
     ap (λ (o : Option (List ℕ)). option_or o (rules_in b)) (last_rules-push batches batch) ∙ or_assoc (rules_in batch) (last_rules batches) (rules_in b)
 
+-- those behind count before those in front
+pub last_rules-append : (batches more : List (List ℕ)) → last_rules (batches ++ more) ≡ option_or (last_rules more) (last_rules batches)
+last_rules-append [] more = sym (or_none (last_rules more))
+last_rules-append (b ∷ batches) more =
+    ap (λ (o : Option (List ℕ)). option_or o (rules_in b)) (last_rules-append batches more) ∙ or_assoc (last_rules more) (last_rules batches) (rules_in b)
+
 -- the last batch that tells rules tells them
 pub tell_in : (batches : List (List ℕ)) (batch : List ℕ) (told : RulesFact) → last_rules batches ≡ Some batch → Tell batches told → IsOfRules batch told
 tell_in batches batch told is tells =

@@ -7,7 +7,7 @@ ghost use Rattle.state_file.specs.Standing.{horizon, horizon_in, until_of};
 use consent::Moment;
 
 /// The horizon of a moment.
-pub(crate) fn horizon(until: Moment) -> [u8; 9]
+pub fn horizon(until: Moment) -> [u8; 9]
     ensures { result ≡ horizon until }
 {
     let mut batch = [3; 9];
@@ -16,7 +16,7 @@ pub(crate) fn horizon(until: Moment) -> [u8; 9]
 }
 
 /// The moment of a horizon, if the batch is one.
-pub(crate) fn horizon_in(batch: &[u8]) -> Option<Moment>
+pub fn horizon_in(batch: &[u8]) -> Option<Moment>
     ensures { result ≡ horizon_in batch.now }
 {
     let [3, a, b, c, d, e, f, g, h] = *batch else {

@@ -1,5 +1,5 @@
-//! What a server keeps in a file, so that a crash leaves it: the rules that it was started with, and the changes of each round,
-//! or what is left of these when what no longer matters is left out.
+//! What a file tells that a server keeps, so that a crash leaves it: the rules that it was started with, and the changes of each round,
+//! or what is left of these when what no longer matters is left out. And a server made of what it tells.
 //!
 //! A batch of the file begins with a byte 0 where it is of rules, with a byte 1 where it is of dated changes, and with a byte 3
 //! where it is a horizon of a moment. The last batch of rules tells under which the changes are right.
@@ -9,31 +9,29 @@ mod comparing;
 mod fault;
 mod hooks;
 mod horizons;
-mod keeper;
+mod known;
 mod laws;
 mod listing;
 mod numbered;
 mod preparing;
 mod remade;
-mod renewing;
 mod restored;
 mod resuming;
 mod rules;
 mod short;
 mod sizes;
-mod starting;
 mod telling;
 
 pub use comparing::compare;
 pub use fault::StateFault;
 pub use hooks::{SetHook, SetHooks};
-pub use horizons::until_of;
-pub use keeper::StateKeeper;
+pub use horizons::{horizon, until_of};
+pub use known::Known;
 pub use laws::chains_are_made_again;
-pub use listing::changes_in;
-pub use preparing::{Prepared, prepare};
+pub use listing::{changes_in, changes_of};
+pub use preparing::{Parts, Prepared, prepare};
 pub use restored::{Restored, remake};
 pub use rules::registry_rules;
-pub use short::{Short, short_of};
-pub use starting::{NotStarted, Started};
+pub use short::{Short, gather_changes, short_of};
+pub use sizes::{is_short, size_behind};
 pub use telling::{Spelled, last_rules, rules_behind, spell_rules, tells_rules, told_rules};

@@ -13,7 +13,7 @@ use std::alloc::Global;
 use wire::Fault;
 
 /// The dated changes of a batch: rules and a horizon have none.
-pub(crate) fn changes_of(alloc: Global, batch: &[u8]) -> Result<Vec<DatedChange<'_>>, StateFault>
+pub fn changes_of(alloc: Global, batch: &[u8]) -> Result<Vec<DatedChange<'_>>, StateFault>
     ensures told { IfOk result (λ list. AreTold (batch.now ∷ []) (dated_facts list.items)) }
     ensures refused { IfErr result (IsUnlisted (batch.now ∷ [])) }
 {

@@ -1,25 +1,21 @@
 //! What a start makes of a state file's bytes, before anything is written.
 
-ghost use Rattle.std.specs.Prelude.{◌≡◌, [], IfOk, IfErr, OnOk, map, option_map, unwrap_or};
+ghost use Rattle.std.specs.Prelude.{◌≡◌, ⊤, [], IfOk, IfErr, OnOk, map, option_map, unwrap_or};
 ghost use Rattle.clients.specs.RegistryRecord.{RegistryRecord};
 ghost use Rattle.endpoints.specs.Server.{NowNotes, outset_of};
 ghost use Rattle.endpoints.specs.Widening.{IsWider};
 ghost use Rattle.rules_codec.specs.Facts.{hook_fact};
 ghost use Rattle.state_file.specs.Knowing.{IsKnown};
-ghost use Rattle.state_file.specs.Making.{AreKeptShort, Makes, RefusesMaking, on_bytes};
-ghost use Rattle.state_file.specs.MakingParts.{AreAdded, IsUnadded, StandInFor};
+ghost use Rattle.state_file.specs.Making.{Makes, RefusesMaking, on_bytes};
+ghost use Rattle.state_file.specs.MakingParts.{AreAdded, IsUnadded};
 ghost use Rattle.state_file.specs.Telling.{TellsRules, rules_of};
-ghost use Rattle.state_file.specs.declared.fault.StateFault.TheVariants.{Memory};
 
 use crate::fault::StateFault;
-use crate::keeper::Known;
-use crate::listing::changes_in;
+use crate::known::Known;
 use crate::restored::Restored;
 use crate::resuming::{Resumed, resume};
-use crate::short::short_of;
-use crate::sizes::{is_short, size_behind};
+use crate::sizes::size_behind;
 use batch_file::frames::Frames;
-use batch_file::framing::{Batches, read_batches};
 use clients::Registry;
 use consent::Moment;
 use endpoints::Server;
@@ -40,7 +36,20 @@ pub struct Prepared<H> {
     pub(crate) alloc: Global,
 }
 
+/// What a start makes of the bytes of a state file, in parts.
+#[derive(Drop)]
+pub struct Parts<H> {
+    /// It notes what happens.
+    pub server: Server<H>,
+    /// The batches of a new file.
+    pub frames: Frames,
+    /// What is known of them.
+    pub known: Known,
+    pub alloc: Global,
+}
+
 impl<H> Model for Prepared<H> {
+    ghost use Rattle.std.specs.Prelude.{⊤};
     ghost use Rattle.state_file.specs.Knowing.{IsKnown};
     ghost use Rattle.state_file.specs.Making.{Made};
 
@@ -48,7 +57,7 @@ impl<H> Model for Prepared<H> {
 
     ghost view = { λ p. record { server = p.server; batches = p.frames; moment = p.moment; torn = p.torn.items } };
 
-    ghost invariant = { λ p. IsKnown p.frames p.known };
+    ghost invariant = { λ p. IsKnown ⊤ p.frames p.known };
 }
 
 /// Adds what the server has noted to batches. Nothing is unkept then.
@@ -57,8 +66,8 @@ fn add_noted<H: HookHost>(
     frames: &mut Frames,
     known: &mut Known,
 ) -> Result<(), StateFault>
-    requires known { IsKnown frames.old known.old }
-    ensures known { OnOk result (IsKnown frames.new known.new) }
+    requires known { IsKnown ⊤ frames.old known.old }
+    ensures known { OnOk result (IsKnown ⊤ frames.new known.new) }
     ensures same { NowNotes server.old server.new server.new.unkept }
     ensures unkept { OnOk result (server.new.unkept ≡ option_map (λ facts. []) server.old.unkept) }
     ensures added { OnOk result (AreAdded (unwrap_or server.old.unkept []) frames.old frames.new) }
@@ -77,46 +86,9 @@ fn add_noted<H: HookHost>(
     Ok(())
 }
 
-/// Where batches are long, what is left of their list takes their place, unless some of it is too long for a batch.
-fn keep_short(alloc: Global, frames: Frames, known: &mut Known) -> Result<Frames, StateFault>
-    requires known { IsKnown frames known.old }
-    ensures known { IfOk result (λ short. IsKnown short known.new) }
-    ensures stands { IfOk result (StandInFor frames) }
-    ensures short { IfOk result AreKeptShort }
-    ensures refused { IfErr result (λ fault. fault ≡ Memory) }
-{
-    if is_short(frames.len_of_file() - 1, known.shortened) {
-        return Ok(frames);
-    }
-    let bytes = frames.into_bytes();
-    let Ok(
-        Batches {
-            batches,
-            frames,
-            torn: _torn,
-        },
-    ) = read_batches(alloc, &bytes)
-    else {
-        return Err(StateFault::Memory);
-    };
-    drop(bytes);
-    let Ok(changes) = changes_in(alloc, &batches) else {
-        return Err(StateFault::Memory);
-    };
-    match short_of(alloc, &known.rules, &changes, known.until) {
-        Ok(short) => {
-            known.shortened = short.shortened;
-            Ok(short.frames)
-        }
-        Err(StateFault::Full) => Ok(frames),
-        Err(_) => Err(StateFault::Memory),
-    }
-}
-
 /// Makes all that a server is started with on the bytes of a state file, whatever a crash left there. All changes that
 /// the file tells are made again under these rules. A hook is then set, unless it is, at the moment from which the server goes on:
-/// the last change's, or the last horizon's. The batches are those that were read, the rules and the hooks where they lack them,
-/// or what is left of them where they are long.
+/// the last change's, or the last horizon's. The batches are those that were read, and the rules and the hooks where they lack them.
 pub fn prepare<H: HookHost>(
     alloc: Global,
     bytes: &[u8],
@@ -143,7 +115,6 @@ pub fn prepare<H: HookHost>(
         hooks: _hooks,
     } = restored;
     add_noted(&mut server, &mut frames, &mut known)?;
-    let frames = keep_short(alloc, frames, &mut known)?;
     Ok(Prepared {
         server,
         frames,
@@ -167,5 +138,27 @@ impl<H: HookHost> Prepared<H> {
         ensures { result ≡ self.now.moment }
     {
         self.moment
+    }
+
+    /// The server, and what a new file is made of.
+    pub fn into_parts(self) -> Parts<H>
+        ensures server { result.server ≡ self.server }
+        ensures batches { result.frames ≡ self.batches }
+        ensures known { IsKnown ⊤ result.frames result.known }
+    {
+        let Prepared {
+            server,
+            frames,
+            known,
+            moment: _moment,
+            torn: _torn,
+            alloc,
+        } = self;
+        Parts {
+            server,
+            frames,
+            known,
+            alloc,
+        }
     }
 }

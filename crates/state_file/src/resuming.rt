@@ -1,6 +1,6 @@
 //! Making a server of the bytes of a state file.
 
-ghost use Rattle.std.specs.Prelude.{◌≡◌, ◌≤◌, None, IfOk, IfErr, OnOk};
+ghost use Rattle.std.specs.Prelude.{◌≡◌, ◌≤◌, ⊤, None, IfOk, IfErr, OnOk};
 ghost use Rattle.clients.specs.RegistryRecord.{RegistryRecord};
 ghost use Rattle.endpoints.specs.Server.{outset_of};
 ghost use Rattle.endpoints.specs.Widening.{IsWider};
@@ -13,7 +13,7 @@ ghost use Rattle.state_file.specs.Telling.{TellsRules, rules_of};
 
 use crate::fault::StateFault;
 use crate::horizons::until_of;
-use crate::keeper::Known;
+use crate::known::Known;
 use crate::restored::{Restored, remake};
 use crate::sizes::shortened_size;
 use crate::telling::{rules_behind, tell};
@@ -51,7 +51,7 @@ pub(crate) fn resume<H: HookHost>(
     // The registry's rules are as wide as those that the file told.
     ensures wider { IfOk result (λ _. (old : RegistryRecord) → TellsRules bytes.now (rules_of old) → IsWider old registry) }
     ensures told { IfOk result (λ resumed. AreToldBehind (recovered bytes.now) (rules_of registry) resumed.frames) }
-    ensures known { IfOk result (λ resumed. IsKnown resumed.frames resumed.known) }
+    ensures known { IfOk result (λ resumed. IsKnown ⊤ resumed.frames resumed.known) }
     ensures torn { IfOk result (λ resumed. resumed.torn.items ≡ torn_of bytes.now) }
     ensures refused { IfErr result (RefusesResume H.HookHost (outset_of registry host) bytes.now) }
 {

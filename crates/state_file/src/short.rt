@@ -39,15 +39,23 @@ fn alone<'a>(change: &Change<'a>) -> Changes<'a>
     }
 }
 
+/// Gathers the changes behind the others.
+pub fn gather_changes(batch: &mut Batch, changes: &[DatedChange<'_>]) -> Result<(), AllocError>
+    ensures { OnOk result (batch.new.facts ≡ batch.old.facts ++ dated_facts changes.now) }
+{
+    for dated in changes {
+        batch.prepare(dated.moment, &alone(&dated.change))?;
+        batch.push();
+    }
+    Ok(())
+}
+
 /// The changes, as one batch.
 fn gathered(alloc: Global, changes: &[DatedChange<'_>]) -> Result<Batch, AllocError>
     ensures { IfOk result (λ batch. batch.facts ≡ dated_facts changes.now) }
 {
     let mut batch = Batch::new(alloc)?;
-    for dated in changes {
-        batch.prepare(dated.moment, &alone(&dated.change))?;
-        batch.push();
-    }
+    gather_changes(&mut batch, changes)?;
     Ok(batch)
 }
 

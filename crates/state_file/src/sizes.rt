@@ -8,7 +8,7 @@ ghost use Rattle.state_file.specs.Knowing.{IsLong, shortened_size, tells_number}
 const SMALL: usize = 1 << 20;
 
 /// Whether batches that take so many bytes are short, beside what was left when they were shortened.
-pub(crate) fn is_short(end: usize, shortened: usize) -> bool
+pub fn is_short(end: usize, shortened: usize) -> bool
     ensures short { result ≡ true → ¬ (IsLong end shortened) }
     ensures long { result ≡ false → IsLong end shortened }
 {
@@ -23,7 +23,7 @@ pub(crate) fn tells_number(batch: &[u8]) -> bool
 }
 
 /// How many bytes of frames were left when they were shortened, once a batch is behind them: all of them, where it tells a number.
-pub(crate) fn size_behind(batch: &[u8], all: usize, before: usize) -> usize
+pub fn size_behind(batch: &[u8], all: usize, before: usize) -> usize
     ensures { result ≡ (if tells_number batch.now then all else before) }
 {
     if tells_number(batch) { all } else { before }

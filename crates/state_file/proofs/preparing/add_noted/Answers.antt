@@ -1,7 +1,8 @@
-use Rattle.std.proofs.Common.{◌≡◌, ◌∙◌, ◌+◌, ◌-◌, ◌++◌, ◌∷◌, ℕ, List, [], refl, sym, ap, subst, arith}
+use Rattle.std.proofs.Common.{◌≡◌, ◌∙◌, ◌+◌, ◌-◌, ◌++◌, ◌∷◌, ℕ, List, [], refl, sym, ap, arith}
+use Rattle.std.specs.Prelude.{⊤}
 use Rattle.state_file.proofs.Names.{frames_size, if◌then◌else◌, tells_number}
-use Rattle.state_file.specs.declared.keeper.Known.{Known}
-use Rattle.state_file.proofs.Known.{known_changes}
+use Rattle.state_file.specs.declared.known.Known.{Known}
+use Rattle.state_file.specs.KnownLaws.{known_changes}
 use Rattle.state_file.proofs.preparing.add_noted.Goals as goal
 
 pub returns-clause-known : goal.returns-clause-known
@@ -17,4 +18,4 @@ returns-clause-known g c =
     let sized : c.size_behind-known.result ≡ (if tells_number batch then frames_size frames else known.shortened) =
     c.size_behind-known.ensures ∙ ap (λ (b : List ℕ). if tells_number b then c.len_of_file-size.result - 17 else known.shortened) same
     ∙ ap (λ (n : ℕ). if tells_number batch then n else known.shortened) size in
-    rw added (known_changes c.args.frames.now batch c.in-Some.batch.now.facts known now c.bytes.ensures.spelled c.bytes.ensures.fits refl sized refl c.requires.known)
+    rw added (known_changes ⊤ c.args.frames.now batch c.in-Some.batch.now.facts known now c.bytes.ensures.spelled c.bytes.ensures.fits refl sized refl c.requires.known)

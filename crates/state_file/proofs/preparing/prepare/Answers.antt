@@ -47,10 +47,10 @@ returns-clause-makes g c =
     let begins = subst (λ unkept. NowNotes restored.server c.begin_noting.new.self (Some (unwrap_or unkept []))) c.in_ok-restored.ensures.unnoted c.in_ok-begin_noting.ensures.noting in
     let set = c.set_hooks.new.self in
     let server = c.add_noted.new.server in
-    let new = c.in_ok-frames.frames in
+    let new = c.add_noted.new.frames in
     let told = rules_of registry in
     let leads : LeadOn set.server told (recovered bytes) new =
-    record { told = c.in_ok-restored.field-0.frames; tell = c.in_ok-restored.ensures.told; more = c.add_noted.new.frames; added = c.in_ok-add_noted.ensures.added; in_for = c.in_ok-frames.ensures.stands } in
+    record { told = c.in_ok-restored.field-0.frames; tell = c.in_ok-restored.ensures.told; added = c.in_ok-add_noted.ensures.added } in
     let on = on_bytes bytes (outset_of registry c.args.host) (map hook_fact c.args.hooks.now) in
     record {
       each = λ history stands was run.
@@ -62,6 +62,5 @@ returns-clause-makes g c =
       kept = lead_until leads;
       later = (let le = c.in_ok-restored.ensures.later in let same = c.in_ok-set_hooks.ensures.moment in omega (arith, le, same));
       moment_is = subst (λ (m : ℕ). IsMomentTold (recovered bytes) m) (sym c.in_ok-set_hooks.ensures.moment) c.in_ok-restored.ensures.moment;
-      short = c.in_ok-frames.ensures.short;
       torn_is = c.in_ok-restored.ensures.torn;
     }

@@ -1,7 +1,7 @@
 use Rattle.std.proofs.Common.{rules, ◌≡◌, ◌≤◌, ◌∙◌, ◌++◌, inl, inr, ℕ, List, [], ◌∷◌, Err, sym, ap, subst, arith}
 use Rattle.state_file.proofs.Names.{IfErr, lists, recovered, outset_of, AreToldBehind, IsMomentTold, ListsItself, until_of, rules_of, shortened_size, Known, RefusesResume}
 use Rattle.state_file.proofs.Compared.{wider}
-use Rattle.state_file.proofs.Known.{known_begun}
+use Rattle.state_file.proofs.Begun.{known_begun}
 use Rattle.state_file.proofs.Refused.{no_start}
 use Rattle.state_file.proofs.Tells.{told_behind}
 use Rattle.state_file.proofs.resuming.resume.Goals as goal

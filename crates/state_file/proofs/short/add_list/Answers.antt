@@ -2,7 +2,8 @@ use Rattle.std.proofs.Common.{rules, ◌≡◌, ◌≤◌, List, Err, take, drop
 use Rattle.std.specs.List.{slice_range}
 use Rattle.state_file.proofs.Names.{IfErr, Event, dated_facts}
 use Rattle.state_file.specs.ShortParts.{AddsChanges, IsUnaddedList}
-use Rattle.state_file.proofs.Shorts.{adds_more, adds_none, parted_range, range_more, unadded_within}
+use Rattle.state_file.proofs.Shorts.{adds_more, adds_none, parted_range, unadded_within}
+use Rattle.state_file.specs.ShortLaws.{range_more}
 use Rattle.state_file.proofs.short.add_list.Goals as goal
 
 pub returns-in_err-add_batch-clause-refused : goal.returns-in_err-add_batch-clause-refused

@@ -1,9 +1,10 @@
 use Rattle.std.proofs.Common.{rules, ◌≡◌, ◌++◌, ◌∙◌, ◌-◌, ℕ, List, [], ◌∷◌, Err, true, sym, ap, subst, arith}
 use Rattle.shortening.specs.Shortened.{shortened}
-use Rattle.state_file.proofs.Names.{append-nil, IfErr, Event, batch_spelling, dated_facts, frames_size, greatest_family, last_moment, left_numbered, number_told, tells_number}
-use Rattle.state_file.specs.Renewing.{IsUntoldList}
+use Rattle.state_file.proofs.Names.{append-nil, IfErr, Event, batch_spelling, dated_facts, frames_size, greatest_family, last_moment, left_numbered, tells_number}
+use Rattle.state_file.specs.Renewing.{number_told, IsUntoldList}
 use Rattle.state_file.specs.ShortParts.{AddsChanges}
-use Rattle.state_file.proofs.Shorts.{adds_more, are_told, not_long, number_tells, rules_are, size_is, unadded_within, until_is, untold}
+use Rattle.state_file.proofs.Shorts.{adds_more, not_long, number_tells, size_is, unadded_within, untold}
+use Rattle.state_file.specs.ShortLaws.{are_told, rules_are, until_is}
 use Rattle.state_file.proofs.short.short_of.Goals.{After-drop-left-2, In_ok-left}
 use Rattle.state_file.proofs.short.short_of.Goals as goal
 

@@ -1,7 +1,8 @@
 use Rattle.std.proofs.Common.{◌≡◌, ◌+◌, ◌++◌, ◌∙◌, [], ◌∷◌, Bool, true, false, take, drop, sym, ap, arith}
 use Rattle.state_file.proofs.Names.{if◌then◌else◌, common_steps, frames_size, lists, shortened_size, tells_number}
 use Rattle.state_file.proofs.Refused.{parted_batches}
-use Rattle.state_file.proofs.Lengths.{frames_size-front, frames_size-push, shortened_size-push}
+use Rattle.state_file.proofs.Lengths.{frames_size-front}
+use Rattle.state_file.specs.LengthLaws.{frames_size-push, shortened_size-push}
 use Rattle.state_file.proofs.sizes.shortened_size.Goals.{then-tells_number, else-tells_number}
 use Rattle.state_file.proofs.sizes.shortened_size.Goals as goal
 

@@ -1,5 +1,6 @@
 use Rattle.std.proofs.Common.{rules, ◌≡◌, ◌+◌, ◌++◌, ◌∙◌, List, [], ◌∷◌, Err, map, take, drop, get_or, sym, ap, subst}
-use Rattle.state_file.proofs.Names.{IfErr, map_push, take_all, take_more, HookFact, hook_fact, First, KeptHook, RefusesSettings, Sets}
+use Rattle.state_file.proofs.Names.{IfErr, map_push, take_all, HookFact, hook_fact, First, KeptHook, RefusesSettings, Sets}
+use Rattle.std.proofs.lemmas.List.{take_more}
 use Rattle.state_file.proofs.Refused.{parted}
 use Rattle.state_file.proofs.Setting.{sets_then}
 use Rattle.state_file.proofs.restored.Restored.set_hooks.Goals as goal

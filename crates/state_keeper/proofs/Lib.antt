@@ -1,0 +1,16 @@
+pub mod Drafts
+pub mod Ended
+pub mod Kept
+pub mod Known
+pub mod Lasting
+pub mod Passed
+pub mod Passes
+pub mod Places
+pub mod Points
+pub mod Put
+pub mod Sliced
+pub mod Stayed
+pub mod Walked
+pub mod Way
+pub mod Went
+pub mod Names

@@ -1,0 +1,160 @@
+//! Keeping the changes of each round, and the moment, in a state file.
+
+ghost use Rattle.std.specs.Prelude.{◌≡◌, ◌≤◌, ◌<◌, ◌+◌, ◌-◌, ◌^◌, min};
+
+use crate::passing::Shortening;
+use batch_file::appending::{BatchFault, BatchFile};
+use batch_file::device::Device;
+use change_codec::{Batch, KeepFault, Keeper, Length, ShortenFault};
+use consent::Moment;
+use state_file::{Known, horizon, size_behind};
+use std::alloc::Global;
+use std::marker::Model;
+
+/// A horizon is so many seconds ahead of the clock, so that no more than one is written in that time.
+const SPAN: u64 = 10;
+
+/// The greatest moment.
+const LAST: u64 = (1 << 63) - 1;
+
+/// Keeps the changes of each round and the moment in a state file. Once the file is long, what is left of them is written beside it,
+/// a slice at a time, and put in its place. Where the disk has failed once, it keeps nothing more.
+#[derive(Drop)]
+pub struct StateKeeper<D: Device> {
+    pub(crate) file: BatchFile<D>,
+    /// Why it keeps nothing more, if it does not.
+    pub(crate) fault: Option<BatchFault>,
+    pub(crate) known: Known,
+    /// The shortening that is on the way, if one is.
+    pub(crate) shortening: Option<Shortening>,
+    pub(crate) alloc: Global,
+}
+
+impl<D: Device> Model for StateKeeper<D> {
+    ghost use Rattle.std.specs.Prelude.{IsNone};
+    ghost use Rattle.batch_file.specs.Frames.{IsOnDisk, recovered};
+    ghost use Rattle.state_file.specs.Knowing.{IsKnown};
+    ghost use Rattle.state_keeper.specs.Seen.{SeenKeeper};
+    ghost use Rattle.state_keeper.specs.Slicing.{IsOnTheWayIf, front_if, to_go_if};
+
+    ghost Value = { SeenKeeper D };
+
+    ghost view = { λ keeper. record {
+      file = keeper.file;
+      fault = keeper.fault;
+      front = front_if D.Device keeper.file keeper.shortening;
+      to_go = to_go_if keeper.shortening keeper.file.end;
+    } };
+
+    ghost invariant = { λ keeper. IsNone keeper.fault →
+        IsOnDisk D.seen D.may_leave D.faults keeper.file
+        × IsKnown (D.reads_true keeper.file.device) (recovered (D.seen keeper.file.device)) keeper.known
+        × IsOnTheWayIf D.Device keeper.file keeper.known.rules.items keeper.shortening };
+}
+
+/// The moment of a horizon that is written at a moment.
+fn horizon_at(now: Moment) -> Moment
+    ensures is { result ≡ min (now + 10) (2 ^ 63 - 1) }
+    ensures later { now ≤ result }
+    ensures in_range { result < 2 ^ 63 }
+{
+    Moment::new((now.get() + SPAN).min(LAST))
+}
+
+impl<D: Device> StateKeeper<D> {
+    ghost use Rattle.std.specs.Prelude.{◌≡◌};
+
+    /// Why it keeps nothing more, if it does not.
+    pub fn fault(&self) -> Option<BatchFault>
+        ensures { result ≡ self.now.fault }
+    {
+        self.fault
+    }
+
+    /// The device of its file.
+    pub fn into_device(self) -> D
+        ensures { result ≡ self.file.device }
+    {
+        self.file.device
+    }
+}
+
+impl<D: Device> Keeper for StateKeeper<D> {
+    ghost use Rattle.std.specs.Prelude.{◌≡◌, ◌+◌, ◌-◌, ◌^◌, Some, IsSome, min};
+    ghost use Rattle.std.proofs.Common.{inl};
+    ghost use Rattle.state_keeper.specs.Seen.{IsLongFile, MayBe, ShortensFile};
+    ghost use Rattle.state_file.specs.Knowing.{LeftTells};
+    ghost use Rattle.state_file.specs.Standing.{StandsFor};
+
+    ghost stands_for = { StandsFor };
+
+    ghost tells = { LeftTells };
+
+    ghost may_leave = { MayBe D.Device };
+
+    ghost moment = { λ k. D.moment k.file.device };
+
+    ghost left_since = { λ k. D.left_since k.file.device };
+
+    // With the closed latch behind the last frame.
+    ghost size_of = { λ k. Some (min (k.file.end + 1) (2 ^ 64 - 1)) };
+
+    // It has a fault, and keeps nothing more.
+    ghost has_failed = { λ k. IsSome k.fault };
+
+    ghost is_long = { λ k. IsLongFile D.seen k.file };
+
+    ghost to_go = { λ k. k.to_go };
+
+    ghost shortens = { ShortensFile D.Device };
+
+    ghost only_now = { λ k c left. inl (D.only_now k.file.device c left) };
+
+    fn keep(&mut self, batch: &Batch) -> Result<(), KeepFault> {
+        if self.fault.is_some() {
+            return Err(KeepFault::Failed);
+        }
+        match self.file.append(batch.bytes()) {
+            Ok(()) => {
+                let size = self.file.end - 16;
+                self.known.shortened = size_behind(batch.bytes(), size, self.known.shortened);
+                Ok(())
+            }
+            Err(fault) => {
+                self.fault = Some(fault);
+                Err(KeepFault::Failed)
+            }
+        }
+    }
+
+    // Where the moment is beyond the greatest horizon, another horizon is written.
+    fn keep_moment(&mut self, now: Moment) -> Result<(), KeepFault> {
+        if self.fault.is_some() {
+            return Err(KeepFault::Failed);
+        }
+        if now.get() <= self.known.until.get() {
+            return Ok(());
+        }
+        let until = horizon_at(now);
+        match self.file.append(&horizon(until)) {
+            Ok(()) => {
+                // It bounds what is counted.
+                let _end = self.file.end;
+                self.known.until = until;
+                Ok(())
+            }
+            Err(refused) => {
+                self.fault = Some(refused);
+                Err(KeepFault::Failed)
+            }
+        }
+    }
+
+    fn shorten_some(&mut self) -> Result<Length, ShortenFault> {
+        self.shorten_slice()
+    }
+
+    fn size(&self) -> Option<u64> {
+        Some((self.file.end as u64).saturating_add(1))
+    }
+}
