@@ -3,7 +3,7 @@ use Rattle.std.specs.Prelude.{ℕ, List, ◌++◌, codes}
 use Rattle.std.specs.Fmt.{decimal}
 use Rattle.json.specs.Print.{print}
 use Rattle.event_loop.specs.declared.report.Notice.{Notice}
-use Rattle.event_loop.specs.declared.report.Notice.TheVariants.{Reported, StoreFull, ImageRefused, SetAside, Narrowed, Ahead}
+use Rattle.event_loop.specs.declared.report.Notice.TheVariants.{Reported, StoreFull, ShorteningRefused, SetAside, Narrowed, Ahead}
 use Rattle.daemon.specs.ReportTokens.{report_tokens}
 
 -- how many bytes of an unfinished write are beside the file of a path
@@ -15,7 +15,7 @@ set_aside_text path count =
 abbrev pub notice_text : List ℕ → Notice → List ℕ
 notice_text path (Reported report) = print (report_tokens report) ++ codes "\n"
 notice_text path StoreFull = codes "oauthd: store full\n"
-notice_text path ImageRefused = codes "oauthd: state: the file cannot be shortened; it grows until that works\n"
+notice_text path ShorteningRefused = codes "oauthd: state: the file cannot be shortened; it grows until that works\n"
 notice_text path (SetAside count) = set_aside_text path count
 notice_text path (Narrowed count) = codes "oauthd: state: " ++ decimal count ++ codes " codes and tokens ended, beyond the registry\n"
 notice_text path (Ahead count) = codes "oauthd: state: " ++ decimal count ++ codes " seconds ahead of the clock; nothing expires until then\n"

@@ -62,7 +62,7 @@ fn notice_line(alloc: Global, path: &str, notice: &Notice) -> Result<Vec<u8>, Al
             Ok(line)
         }
         Notice::StoreFull => Ok(format!(in alloc; "oauthd: store full\n")?.into_bytes()),
-        Notice::ImageRefused => Ok(format!(in alloc;
+        Notice::ShorteningRefused => Ok(format!(in alloc;
             "oauthd: state: the file cannot be shortened; it grows until that works\n"
         )?.into_bytes()),
         Notice::SetAside(count) => Ok(set_aside_line(alloc, path, *count)?.into_bytes()),

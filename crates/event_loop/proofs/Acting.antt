@@ -10,7 +10,7 @@ use Rattle.event_loop.specs.Served as step
 use Rattle.event_loop.proofs.Others.{ends_other, takes_other}
 use Rattle.event_loop.proofs.Telling.{gives_other}
 use Rattle.event_loop.proofs.Kept.{takes_kept}
-use Rattle.event_loop.proofs.Doing.{on_still, one_more, not_another}
+use Rattle.event_loop.proofs.Doing.{on_still, one_more, not_of_kind, not_another}
 use Rattle.event_loop.proofs.Putting.{put_within, put_still, set_other}
 use Rattle.event_loop.proofs.Answering.{served_taken}
 
@@ -33,7 +33,7 @@ module _ {N C J K H : Type 0} (p : Promises N C J K H) (k : ℕ) (place : Place)
     reads : (came : Transfer) (place' : Place) (n : N) (progress : Progress H) → place'.since ≡ place.since → ((j : ℕ) → j ≢ k → known progress j ≡ known s.progress j) →
         ActsOnce (to_read k) s (record (with_place (with_call s (call.Read k read_limit came) n) k place') { progress = progress })
     reads came place' n progress since others = record {
-      done = one_more _ _ refl refl (λ kind t. inr t);
+      done = one_more _ _ refl refl (λ kind t. inr t) (not_of_kind _ _ (λ is. absurd (cc)));
       places = λ j other. set_other s.places k j place' other;
       connections = others;
       ready = λ was. was;
@@ -47,7 +47,7 @@ module _ {N C J K H : Type 0} (p : Promises N C J K H) (k : ℕ) (place : Place)
         (AreWithin s.limits.idle s.times s.places → AreWithin s.limits.idle s.times (slice_set s.places k place')) →
         ActsOnce (to_write k) s (record (with_place (with_call s (offered s k took) n) k place') { progress = progress })
     writes took place' n progress others ready within = record {
-      done = one_more _ _ refl refl (λ kind t. inr t);
+      done = one_more _ _ refl refl (λ kind t. inr t) (not_of_kind _ _ (λ is. absurd (cc)));
       places = λ j other. set_other s.places k j place' other;
       connections = others;
       ready = ready;

@@ -182,7 +182,7 @@ module _ {N C J K H : Type 0} where
     step_answered s' (reads j place s'' here readable unread may reading) = reads_answered j place s'' here may reading
     step_answered s' (writes j place s'' here writable unwritten kept may writing) = writes_answered j place s'' here (served_taken place.stage may.served) writing
     step_answered s' (closes j place s'' here taken cause closing) = closes_answered j place s'' closing
-    step_answered s' (keeps keeper e unkept on undone kept basis) = record {
+    step_answered s' (keeps keeper e unkept on undone kept basis further) = record {
       reached = on.reached;
       exchanges = λ k place here taken.
           stays_same s _ k place place (before.exchanges k place here taken) (ap (λ ks. connection_at ks k) (kept_connections s.progress.journey.world on.world on.happens)) refl refl (λ e. e);

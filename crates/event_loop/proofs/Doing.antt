@@ -1,20 +1,29 @@
 -- Calls that were done after others.
 use Rattle.std.proofs.Common.{suc, ◌≡◌, ◌≢◌, ◌⊎◌, inl, inr, ◌<◌, ℕ, List, Some, refl, sym, ◌∙◌, arith, [], ◌∷◌}
-use Rattle.event_loop.proofs.Names.{Place, Closes, leaves, same_Some, Promises, LoopState, Call, CallKind, Keeping, IsDone, done_since, Served, DoneAfter, LeadsOn, Running, Standing, standing}
+use Rattle.event_loop.proofs.Names.{Place, Closes, leaves, same_Some, Promises, LoopState, Call, CallKind, Keeping, Shortening, IsDone, done_since, Served, DoneMore, DoneAfter, LeadsOn, Running, Standing, standing}
 use Rattle.event_loop.proofs.Names.{state_of}
 use Rattle.event_loop.specs.Calls.{waits}
 use Rattle.event_loop.specs.Calls as call
 
 -- nothing
 pub none_more : (calls : List Call) → DoneAfter calls calls
-none_more calls = record { waits = refl; grows = omega arith; keeps = λ kind t. t }
+none_more calls = record { more = record { waits = refl; grows = omega arith; keeps = λ kind t. t }; alone = λ t. t }
 
--- one that is no wait
-pub one_more : (earlier later : List Call) → waits later ≡ waits earlier → done_since later ≡ suc (done_since earlier) → ((kind : CallKind) → IsDone kind earlier → IsDone kind later) → DoneAfter earlier later
-one_more earlier later same more keeps = record { waits = same; grows = omega (arith, more); keeps = keeps }
+-- one that is neither a wait nor for a slice
+pub one_more : (earlier later : List Call) → waits later ≡ waits earlier → done_since later ≡ suc (done_since earlier) → ((kind : CallKind) → IsDone kind earlier → IsDone kind later) →
+    (IsDone Shortening later → IsDone Shortening earlier) → DoneAfter earlier later
+one_more earlier later same more keeps alone = record { more = record { waits = same; grows = omega (arith, more); keeps = keeps }; alone = alone }
+
+more_then : (a b c : List Call) → DoneMore a b → DoneMore b c → DoneMore a c
+more_then a b c one two = record { waits = two.waits ∙ one.waits; grows = omega (arith, one.grows, two.grows); keeps = λ kind t. two.keeps kind (one.keeps kind t) }
 
 pub done_then : (a b c : List Call) → DoneAfter a b → DoneAfter b c → DoneAfter a c
-done_then a b c one two = record { waits = two.waits ∙ one.waits; grows = omega (arith, one.grows, two.grows); keeps = λ kind t. two.keeps kind (one.keeps kind t) }
+done_then a b c one two = record { more = more_then a b c one.more two.more; alone = λ t. one.alone (two.alone t) }
+
+-- what is done among one call more and others is done among these, unless that is of the kind
+pub not_of_kind : {P : Type 0} (kind : CallKind) (calls : List Call) → (P → ⊥) → P ⊎ IsDone kind calls → IsDone kind calls
+not_of_kind kind calls not (inl is) = absurd (not is)
+not_of_kind kind calls not (inr is) = is
 
 -- a call of one kind is of no other
 pub not_another : (kind other : CallKind) (calls : List Call) → other ≢ kind → ¬ (IsDone other calls) → ¬ ((Some kind ≡ Some other) ⊎ IsDone other calls)
@@ -32,7 +41,7 @@ done_some kind calls differs t = omega arith
 module _ {N C J K H : Type 0} (p : Promises N C J K H) where
   -- a close is one more
   pub closes_done : (k : ℕ) (place : Place) (s s' : LoopState N C J K H) → Closes p k place s s' → DoneAfter s.calls s'.calls
-  closes_done k place s s' (leaves n e on noted done noting) = one_more _ _ refl refl (λ kind t. inr t)
+  closes_done k place s s' (leaves n e on noted done noting) = one_more _ _ refl refl (λ kind t. inr t) (not_of_kind _ _ (λ is. absurd (cc)))
 
   -- so something was done
   pub closes_some : (k : ℕ) (place : Place) (s s' : LoopState N C J K H) → Closes p k place s s' → 0 < done_since s'.calls

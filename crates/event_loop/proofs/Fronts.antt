@@ -3,8 +3,8 @@ use Rattle.std.proofs.Common.{◌≡◌, ◌≢◌, ◌⊎◌, inl, inr, ℕ, su
 use Rattle.event_loop.proofs.Names.{Event, IsFrontOf, Holds, Keeps, KeepsBasis, Leaves, TellsBasis, Place, Closes, leaves, same_Some, World, IsServerStill, moment_after, PieceComes, PiecePasses}
 use Rattle.event_loop.proofs.Names.{TakesOutput, TakesNothing, AnsweredPiece, Piece, piece_of, Journey, Progress, IsReached, led, GivesPieces, nothing, gives, Message, Outset, Promises, LoopState}
 use Rattle.event_loop.proofs.Names.{IsAllKept, IsUnkept, with_call, Ready, Call, Transfer, Wrote, waits_done, opens, denies, finds_nobody, asks, LoopStep, Served, Shuts, TellsLast, tells_nothing}
-use Rattle.event_loop.proofs.Names.{comes, reads, writes, closes, keeps, puts_image, no_image, begins, goes, stops, shuts, reports_last, LoopFault, Carries, Onward, stays, onward, KeeperHolds, StandsBetween}
-use Rattle.event_loop.proofs.Names.{IsWriteKept, MomentIsHeld, CannotGoOn, no_wait, no_time, too_far, no_moment, not_kept, not_imaged, no_more, Queue, LastTold, Noted, ReadsPlace, WritesPlace, Hosting}
+use Rattle.event_loop.proofs.Names.{comes, reads, writes, closes, keeps, shortens, no_slice, begins, goes, stops, shuts, reports_last, LoopFault, Carries, Onward, stays, onward, KeeperHolds, StandsBetween}
+use Rattle.event_loop.proofs.Names.{IsWriteKept, MomentIsHeld, CannotGoOn, no_wait, no_time, too_far, no_moment, not_kept, not_shortened, no_more, Queue, LastTold, Noted, ReadsPlace, WritesPlace, Hosting}
 use Rattle.event_loop.specs.Coming.{fails}
 use Rattle.event_loop.specs.Served.{waits}
 use Rattle.event_loop.specs.Done as deed
@@ -150,7 +150,7 @@ module _ {N C J K H : Type 0} (p : Promises N C J K H) where
   closes_does j place s s' (leaves n e on noted done noting) = calls_on s _ n (led s.progress on) done refl (λ k room took is. absurd (cc)) refl (grows_still s.times.moment s.progress.journey.world on.world on.happens.still)
 
   pub step_does : (s s' : LoopState N C J K H) → LoopStep p s s' → Does p s s'
-  step_does s s' (waits limit room found n times c keeper may done told near kept) = record {
+  step_does s s' (waits limit room found n times c keeper may done told near kept further) = record {
     moves = keeps_still (λ last is. kept.holds last) refl kept.basis (inr (kept.told, refl));
     did = λ first before. deed.did _ n before done;
     kept = λ k r took is. absurd (cc);
@@ -167,17 +167,17 @@ module _ {N C J K H : Type 0} (p : Promises N C J K H) where
   step_does s s' (reads j place s'' here readable unread may reading) = reads_does j place s s'' reading
   step_does s s' (writes j place s'' here writable unwritten all may writing) = writes_does j place s s'' all writing
   step_does s s' (closes j place s'' here taken cause closing) = closes_does j place s s'' closing
-  step_does s s' (puts_image keeper all kept basis short) = record {
+  step_does s s' (shortens keeper all long undone kept basis nearer) = record {
+    moves = keeps_still (λ last is. subst (λ (h : List Event). Keeps p.keeping.crashes h h s.keeper keeper) (sym (all last is)) kept) refl basis (inl (refl, refl));
+    did = λ first before. deed.shortened before;
+    kept = λ k room took is. absurd (cc);
+  }
+  step_does s s' (no_slice keeper journal all long ago kept basis told) = record {
     moves = keeps_still (λ last is. subst (λ (h : List Event). Keeps p.keeping.crashes h h s.keeper keeper) (sym (all last is)) kept) refl basis (inl (refl, refl));
     did = λ first before. before;
     kept = λ k room took is. absurd (not_longer s.calls _ is);
   }
-  step_does s s' (no_image keeper journal all long ago kept basis told) = record {
-    moves = keeps_still (λ last is. subst (λ (h : List Event). Keeps p.keeping.crashes h h s.keeper keeper) (sym (all last is)) kept) refl basis (inl (refl, refl));
-    did = λ first before. before;
-    kept = λ k room took is. absurd (not_longer s.calls _ is);
-  }
-  step_does s s' (keeps keeper e unkept on undone kept basis) = record {
+  step_does s s' (keeps keeper e unkept on undone kept basis further) = record {
     moves = keeps_all unkept kept (kept_last s.progress.journey.world on.world on.happens) (kept_history s.progress.journey.world on.world on.happens) basis ((refl, refl), ap (λ (w : World). w.greatest) on.happens.kept, refl);
     did = λ first before. deed.kept before;
     kept = λ k room took is. absurd (cc);
@@ -193,7 +193,7 @@ module _ {N C J K H : Type 0} (p : Promises N C J K H) where
   fails_does s s' fault (too_far limit room found n times c seconds may done told far) = record { did = λ first before. deed.did _ n before done; reached = λ was. was; tells = (keeps_same p.keeping.crashes s.keeper s.keeper refl).meanwhile }
   fails_does s s' fault (no_moment limit room found n times c keeper may done told near lost basis asked) = record { did = λ first before. deed.did _ n before done; reached = λ was. was; tells = basis }
   fails_does s s' fault (not_kept keeper unkept undone lost basis asked) = record { did = λ first before. before; reached = λ was. was; tells = basis }
-  fails_does s s' fault (not_imaged keeper all lost basis asked) = record { did = λ first before. before; reached = λ was. was; tells = basis }
+  fails_does s s' fault (not_shortened keeper all undone lost basis asked) = record { did = λ first before. before; reached = λ was. was; tells = basis }
   fails_does s s' fault (no_more many) = record { did = λ first before. before; reached = λ was. was; tells = (keeps_same p.keeping.crashes s.keeper s.keeper refl).meanwhile }
 
   -- what was kept is a front of what happened, wherever steps lead to
@@ -318,7 +318,7 @@ module _ {N C J K H : Type 0} (p : Promises N C J K H) where
     fails_leave last failed fault on (not_kept keeper unkept undone lost basis asked) =
         leaves_either p.keeping.crashes s.keeper last.keeper keeper unkept.kept last.progress.journey.world.history _ _ (leaves_between last on) (lost.meanwhile (held_at last on unkept.kept unkept.here))
         (λ c old. inl (kept_between first s before last served is on unkept.kept unkept.here c old)) (λ c. inr) (λ c. inl)
-    fails_leave last failed fault on (not_imaged keeper all lost basis asked) =
+    fails_leave last failed fault on (not_shortened keeper all undone lost basis asked) =
         let now = (onward_carries first s last served on).kept before is in
         let held : Holds p.keeping.crashes last.keeper last.progress.journey.world.history = subst (λ (h : List Event). Holds p.keeping.crashes last.keeper h) (all now.0 now.1) (held_at last on now.0 now.1) in
         leaves_either p.keeping.crashes s.keeper last.keeper keeper last.progress.journey.world.history last.progress.journey.world.history _ _ (leaves_between last on) (lost.meanwhile held) (λ c. inr) (λ c. inr) (λ c. inl)

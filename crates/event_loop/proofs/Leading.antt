@@ -42,7 +42,7 @@ module _ {N C J K H : Type 0} (p : Promises N C J K H) where
             | inr still ↦ z.turned (inl (still_holds (to_write k) k b c past.journey.world y.goes.on.next.journey.world NeedsNoRead still.1 still.0)) written
           ];
           active = λ e. elim tended_or_still [
-            | inl tended ↦ (let some = tended_some tended in omega (arith, some, z.goes.on.done.grows))
+            | inl tended ↦ (let some = tended_some tended in omega (arith, some, z.goes.on.done.more.grows))
             | inr still ↦ absurd (none_left k b c past.journey.world y.goes.on.next.journey.world still.0 still.1 (z.left e))
           ];
         };
@@ -56,7 +56,7 @@ module _ {N C J K H : Type 0} (p : Promises N C J K H) where
 
       tended_or_still : (IsDone (Reading k) y.goes.on.next.calls ⊎ IsDone (Writing k) y.goes.on.next.calls) ⊎ (HoldsAt k b past.journey.world NeedsNoRead × StaysIdle (to_write k) b past.journey.world c y.goes.on.next.journey.world)
       tended_or_still = elim heard [
-        | inr read ↦ inl (inl (y.goes.on.done.keeps (Reading k) read))
+        | inr read ↦ inl (inl (y.goes.on.done.more.keeps (Reading k) read))
         | inl unread ↦ elim y.acts [
           | inr done ↦ inl (inr done)
           | inl still ↦ inr (unread, still)

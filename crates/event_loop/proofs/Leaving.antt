@@ -1,17 +1,24 @@
 -- A connection is closed in the progress of the loop.
-use Rattle.std.proofs.Common.{◌≡◌, ◌≢◌, ◌⊎◌, inl, inr, ◌<◌, ◌≤◌, ℕ, List, Option, Some, [], length, refl, sym, ap, subst, ◌∙◌, arith, slice_get, slice_set}
-use Rattle.event_loop.proofs.Names.{Place, IsOccupied, Cause, slice_get_within, Promises, LoopState, Free, Service, Ready, Tools, Accepting, IsIdle, IsPatient, MayWait, Served, goes}
-use Rattle.event_loop.proofs.Names.{closes, Past, IsCalm, OnlyTells, IsLimit, IsReadyToWait, LeadsAway, LeadsToShort, SettlesAll, AreAllSettled, MayRest}
-use Rattle.event_loop.proofs.Names.{running, state_of, Told, Queue}
+use Rattle.std.proofs.Common.{◌≡◌, ◌≢◌, ◌⊎◌, inl, inr, ◌<◌, ◌≤◌, ◌+◌, ℕ, suc, List, Option, Some, [], length, refl, sym, ap, subst, ◌∙◌, arith, slice_get, slice_set}
+use Rattle.event_loop.proofs.Names.{Place, IsOccupied, Cause, slice_get_within, Promises, LoopState, Free, Service, Ready, Tools, Accepting, Shortening, Call, IsDone, IsIdle, IsKeptShort, IsPatient, MayWait, Served, goes}
+use Rattle.event_loop.proofs.Names.{closes, DoneMore, DoneAfter, Past, IsCalm, OnlyTells, IsLimit, IsReadyToWait, LeadsAway, LeadsToShort, SettlesAll, AreAllSettled, MayRest}
+use Rattle.event_loop.proofs.Names.{Running, running, state_of, Told, Queue, waits_done}
 use Rattle.event_loop.specs.Served as served
+use Rattle.change_codec.specs.declared.keeper.Length.{Length}
+use Rattle.change_codec.specs.declared.keeper.Length.TheVariants.{Short, Long}
 use Rattle.event_loop.specs.Goes as limited
-use Rattle.event_loop.proofs.Doing.{closes_done, closes_some, done_some, none_more}
+use Rattle.event_loop.proofs.Doing.{closes_done, closes_some, done_some, done_then}
 use Rattle.event_loop.proofs.Answering.{served_answered}
 use Rattle.event_loop.proofs.Leading.{closes_other}
-use Rattle.event_loop.proofs.Resting.{put_others, put_settled, free_rests, all_settled, settled_then}
+use Rattle.event_loop.proofs.Resting.{put_others, put_settled, free_rests, all_settled, settled_still}
 
-is_idle : {N C J K H : Type 0} (service : Service) (tools : Tools N C J K H) (past : Past H) → length service.places ≡ 64 → AreAllSettled service past → MayRest service → IsIdle (state_of (running service tools) [] past)
-is_idle service tools past size settled rest = record { places = λ k place here. (settled k (below k place here)).rested (rest.due k (below k place here)) place here; queue = rest.queue }
+is_idle : {N C J K H : Type 0} (p : Promises N C J K H) (service : Service) (tools : Tools N C J K H) (past : Past H) → length service.places ≡ 64 → AreAllSettled service past → MayRest service →
+    IsKeptShort p (state_of (running service tools) [] past) → IsIdle p (state_of (running service tools) [] past)
+is_idle p service tools past size settled rest short = record {
+  places = λ k place here. (settled k (below k place here)).rested (rest.due k (below k place here)) place here;
+  queue = rest.queue;
+  short = short;
+}
   where
     below : (k : ℕ) (place : Place) → slice_get service.places k ≡ Some place → k < 64
     below k place here = let within = slice_get_within service.places k place here in omega (arith, size, within)
@@ -35,45 +42,71 @@ module _ {N C J K H : Type 0} (p : Promises N C J K H) where
       }
 
 -- where something is noted to be due, something was done
-is_patient : {N C J K H : Type 0} (service : Service) (tools : Tools N C J K H) (past : Past H) (limit : Option ℕ) → length service.places ≡ 64 → IsReadyToWait service past → IsLimit service limit →
-    IsPatient (state_of (running service tools) [] past) limit
-is_patient service tools past limit size ready (limited.looks (inl due)) = served.looks ((ready.settled due.k due.within).active due.here)
-is_patient service tools past limit size ready (limited.looks (inr told)) = served.looks (elim ready.queue [ inl not ↦ absurd (not told) | inr tried ↦ done_some Accepting past.calls (λ e. absurd (cc)) tried ])
-is_patient service tools past limit size ready (limited.rests rest) = served.rests (is_idle service tools past size ready.settled rest)
-is_patient service tools past limit size ready (limited.sleeps rest free unbarred unwanted) = served.sleeps (is_idle service tools past size ready.settled rest) free unbarred unwanted
+is_patient : {N C J K H : Type 0} (p : Promises N C J K H) (service : Service) (tools : Tools N C J K H) (past : Past H) (told : Option Length) (limit : Option ℕ) → length service.places ≡ 64 → IsReadyToWait service past →
+    (told ≡ Some Long → IsDone Shortening past.calls) → (told ≢ Some Long → IsKeptShort p (state_of (running service tools) [] past)) → (told ≡ Some Short → ¬ (p.keeping.is_long tools.keeper)) →
+    IsLimit service told limit → IsPatient p (state_of (running service tools) [] past) limit
+is_patient p service tools past told limit size ready sliced rests short (limited.looks (inl due)) = served.looks ((ready.settled due.k due.within).active due.here)
+is_patient p service tools past told limit size ready sliced rests short (limited.looks (inr queue)) = served.looks (elim ready.queue [ inl not ↦ absurd (not queue) | inr tried ↦ done_some Accepting past.calls (λ e. absurd (cc)) tried ])
+is_patient p service tools past told limit size ready sliced rests short (limited.shortens long) = served.looks (done_some Shortening past.calls (λ e. absurd (cc)) (sliced long))
+is_patient p service tools past told limit size ready sliced rests short (limited.rests rest not_long) = served.rests (is_idle p service tools past size ready.settled rest (rests not_long))
+is_patient p service tools past told limit size ready sliced rests short (limited.sleeps rest sleeps is) =
+    served.sleeps (is_idle p service tools past size ready.settled rest (λ all long. absurd (short is long))) sleeps.free sleeps.unbarred sleeps.unwanted (short is)
 
--- where an image was put, or was refused, all is as ready
-ready_still : {H : Type 0} (service : Service) (past : Past H) (service' : Service) → service' ≡ record service { refused = service'.refused } → IsReadyToWait service past → IsReadyToWait service' past
-ready_still service past service' same ready =
+-- where what is kept was shortened by a slice, or that was refused, all is as ready
+ready_still : {H : Type 0} (service : Service) (past : Past H) (service' : Service) (calls : List Call) → service' ≡ record service { refused = service'.refused } → DoneMore past.calls calls → IsReadyToWait service past →
+    IsReadyToWait service' (record past { calls = calls })
+ready_still service past service' calls same done ready =
     let still : Service = record service { refused = service'.refused } in
-    subst (λ (s : Service). IsReadyToWait s past) (sym same) (record {
-      settled = settled_then service past still past refl refl refl (none_more past.calls) ready.settled;
-      queue = ready.queue;
+    subst (λ (s : Service). IsReadyToWait s (record past { calls = calls })) (sym same) (record {
+      settled = settled_still service past still (record past { calls = calls }) refl refl refl done ready.settled;
+      queue = elim ready.queue [ inl not ↦ inl not | inr tried ↦ inr (done.keeps Accepting tried) ];
       calm = record { idle = ready.calm.idle; crowded = ready.calm.crowded; tried = ready.calm.tried };
       reported = ready.reported;
     })
 
--- and it may wait
-pub may_wait : {N C J K H : Type 0} (p : Promises N C J K H) (a b : Service) (s t : Tools N C J K H) (limit : Option ℕ) (room : ℕ) → length a.places ≡ 64 → b ≡ record a { refused = b.refused } → IsLimit b limit → 65 ≤ room →
-    LeadsToShort p (running a s) (running b t) → (first : LoopState N C J K H) (past : Past H) → Served p first (state_of (running a s) [] past) → IsReadyToWait a past →
-    Served p first (state_of (running b t) [] past) × (IsReadyToWait b past × MayWait p (state_of (running b t) [] past) limit room)
-may_wait p a b s t limit room before same is_limit roomy put first past begun was =
-    let now = put first [] past begun (served_answered p first _ begun).reached in
-    let ready = ready_still a past b same was in
-    let size : length b.places ≡ 64 = ap (λ (s : Service). length s.places) same ∙ before in (
-      now.0,
-      (
-        ready,
-        record {
-          patient = is_patient b t past limit size ready is_limit;
-          fair = record { places = λ k place here. (let within = slice_get_within b.places k place here in (ready.settled k (omega (arith, size, within))).turned place here); queue = ready.queue };
-          prompt = record { idle = ready.calm.idle; crowded = ready.calm.crowded; tried = ready.calm.tried; reported = ready.reported };
-          heard = refl;
-          roomy = roomy;
-          short = now.1;
-        },
-      ),
-    )
+-- a slice was done since the last wait, or none is to be done
+sliced_or_short : {P Q : Type 0} (told : Option Length) → (told ≡ Some Long → P) → (told ≢ Some Long → Q) → P ⊎ Q
+sliced_or_short (Some Long) sliced rests = inl (sliced refl)
+sliced_or_short told sliced rests = inr (rests (λ is. absurd (cc)))
+
+-- where it comes to before a wait, and that it may wait
+pub record ComesToWait {N C J K H : Type 0} (p : Promises N C J K H) (first : LoopState N C J K H) (past : Past H) (after : Running N C J K H) (limit : Option ℕ) (room : ℕ) : Type 0 where
+  pub next : Past H
+  pub served : Served p first (state_of after [] next)
+  pub ready : IsReadyToWait after.service next
+  pub may : MayWait p (state_of after [] next) limit room
+  pub waits_are : waits_done next.calls ≡ waits_done past.calls
+
+pub may_wait : {N C J K H : Type 0} (p : Promises N C J K H) (a b : Service) (s t : Tools N C J K H) (told : Option Length) (limit : Option ℕ) (room : ℕ) → length a.places ≡ 64 → b ≡ record a { refused = b.refused } → IsLimit b told limit →
+    65 ≤ room → LeadsToShort p (running a s) told (running b t) → (first : LoopState N C J K H) (past : Past H) → Served p first (state_of (running a s) [] past) → IsReadyToWait a past → ¬ (IsDone Shortening past.calls) →
+    ComesToWait p first past (running b t) limit room
+may_wait p a b s t told limit room before same is_limit roomy shorter first past begun was undone =
+    let now = shorter first [] past undone begun (served_answered p first _ begun).reached in
+    let next : Past _ = record past { calls = now.calls } in
+    let ready = ready_still a past b now.calls same now.done was in
+    let size : length b.places ≡ 64 = ap (λ (s : Service). length s.places) same ∙ before in
+    record {
+      next = next;
+      served = now.served;
+      ready = ready;
+      may = record {
+        patient = is_patient p b t next told limit size ready now.sliced now.rests now.short is_limit;
+        fair = record { places = λ k place here. (let within = slice_get_within b.places k place here in (ready.settled k (omega (arith, size, within))).turned place here); queue = ready.queue };
+        prompt = record { idle = ready.calm.idle; crowded = ready.calm.crowded; tried = ready.calm.tried; reported = ready.reported };
+        heard = refl;
+        roomy = roomy;
+        short = sliced_or_short told now.sliced now.rests;
+      };
+      waits_are = now.done.waits;
+    }
+
+-- the parts of a round behind its wait, one after the other
+pub round_done : (a b c d e : List Call) → DoneAfter a b → DoneAfter b c → DoneAfter c d → DoneAfter d e → DoneAfter a e
+round_done a b c d e one two three four = done_then a c e (done_then a b c one two) (done_then c d e three four)
+
+-- there was one wait more
+pub one_wait : (past next since later : List Call) → waits_done next ≡ waits_done past → waits_done since ≡ suc (waits_done next) → DoneAfter since later → waits_done later ≡ waits_done past + 1
+one_wait past next since later before one done = (let more = done.more.waits in omega (arith, before, one, more))
 
 -- where what is told alone became other, all else is as calm
 pub calm_told : (service service' : Service) → OnlyTells service service' → IsCalm service → IsCalm service'

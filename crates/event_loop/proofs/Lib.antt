@@ -11,5 +11,6 @@ pub mod Kept
 pub mod Lasting
 pub mod Fronts
 pub mod Leaving
+pub mod Slicing
 pub mod Moments
 pub mod Names

@@ -3,28 +3,28 @@ pub use Rattle.event_loop.specs.Names.{IsFrontOf, Holds, Keeps, KeepsBasis, Leav
 pub use Rattle.event_loop.specs.Names.{Empty, Barred, Ready, Hosting, SeenEdge, is_closing, Journey, Reached, led_on, connection_at, piece_of, untaken, Piece, World, Connection, Opened, Forgotten}
 pub use Rattle.event_loop.specs.Names.{HasEnded}
 pub use Rattle.change_codec.specs.Keeping.{Crashes, Basis, LeavesEither}
-pub use Rattle.endpoints.specs.Keeping.{keeping}
+pub use Rattle.change_codec.specs.Keepers.{keeping}
 pub use Rattle.endpoints.specs.Server.{Outset, AreUnkept}
-pub use Rattle.event_loop.specs.Calls.{CallKind, IsDone, Transfer, Reading, Writing, Call, Keeping, done_since, Wrote, waits as waits_done, Accepting}
+pub use Rattle.event_loop.specs.Calls.{CallKind, IsDone, Transfer, Reading, Writing, Call, Keeping, Shortening, done_since, Wrote, waits as waits_done, Accepting}
 pub use Rattle.event_loop.specs.Closing.{AreWithin, Closes, leaves, Cause, gives_way, freed_queue, is_silent}
 pub use Rattle.event_loop.specs.Coming.{opens, denies, fresh_place, finds_nobody, asks}
 pub use Rattle.event_loop.specs.Durable.{Carries, Onward, stays, onward, KeeperHolds, StandsBetween, IsWriteKept, MomentIsHeld, MomentStays}
-pub use Rattle.event_loop.specs.Ends.{CannotGoOn, no_wait, no_time, too_far, no_moment, not_kept, not_imaged, no_more}
+pub use Rattle.event_loop.specs.Ends.{CannotGoOn, no_wait, no_time, too_far, no_moment, not_kept, not_shortened, no_more}
 pub use Rattle.event_loop.specs.Giving.{GivesPieces, nothing, gives, cut_limit, AreBytesHeard, IsUnheard}
 pub use Rattle.event_loop.specs.GivingParts.{GivesOn, progress_of}
-pub use Rattle.event_loop.specs.Goes.{Running, Standing, Past, Duty, DoneAfter, ActsAt, IsReadyFor, state_of, to_read, to_write, LeadsOn, standing, LeavesOthers, HoldsAt, LeadsToActs, LeadsToTidy}
+pub use Rattle.event_loop.specs.Goes.{Running, Standing, Past, Duty, DoneMore, DoneAfter, ActsAt, IsReadyFor, state_of, to_read, to_write, LeadsOn, standing, LeavesOthers, HoldsAt, LeadsToActs, LeadsToTidy}
 pub use Rattle.event_loop.specs.Goes.{LeadsToSettled, LeadsToAccepts, GoesReading, GoesKept, GoesWriting, LeadsToKept, LeadsWriting, StaysIdle, SettlesAt, TidiesAt, IsHeardAt, IsRestedAt, IsRested}
-pub use Rattle.event_loop.specs.Goes.{IsSettledAt, GoesSettled, running, IsCalm, NobodyIsSilent, OnlyTells, IsLimit, IsReadyToWait, LeadsAway, LeadsToShort, SettlesAll}
+pub use Rattle.event_loop.specs.Goes.{IsSettledAt, GoesSettled, running, IsCalm, NobodyIsSilent, OnlyTells, IsLimit, IsReadyToWait, LeadsAway, GoesShorter, LeadsToShort, SettlesAll}
 pub use Rattle.event_loop.specs.Goes.{AreAllSettled}
-pub use Rattle.event_loop.specs.Goes.{MayRest, IsToldAs, IsWorkLeft, a_read, a_write, IsLeftAt, noted_in, LeadsToHearing, LeadsShut, LeadsReading, LeadsRound, IsInTime}
+pub use Rattle.event_loop.specs.Goes.{MayRest, IsToldAs, IsWorkLeft, a_read, a_write, IsLeftAt, noted_in, LeadsToHearing, LeadsShut, LeadsReading, LeadsRound, GoesRound, IsInTime}
 pub use Rattle.event_loop.specs.LoopStates.{Promises, LoopState, IsAllKept, with_call, with_place, IsUnkept, promises}
 pub use Rattle.event_loop.specs.Noting.{Noted, notes_it, passes}
 pub use Rattle.event_loop.specs.Places.{IsOccupied, MayRead, MayWrite, read_limit, IsInService, IsFreeAt, NeedsNoRead, NeedsNoWrite, AllFree, is_taken, open_count, IsOver, IsPlaceAtRest}
 pub use Rattle.event_loop.specs.Progress.{Progress, known, led, IsReached}
 pub use Rattle.event_loop.specs.Reading.{ReadsPlace, hears, refuses, ends, ends_nothing, finds_nothing, read_place}
-pub use Rattle.event_loop.specs.Reporting.{is_long_ago, full, reported}
-pub use Rattle.event_loop.specs.Served.{Served, goes, LoopStep, hears_of, comes, reads, writes, closes, keeps, begins, Shuts, TellsLast, tells_nothing, puts_image, stops, shuts, reports_last, IsIdle}
-pub use Rattle.event_loop.specs.Served.{IsPatient, MayWait, HadTurn, IsFirst, told_place, hears_of_listener, hears_of_none, no_image, reports}
+pub use Rattle.event_loop.specs.Reporting.{TellsRefusal, is_long_ago, full, reported}
+pub use Rattle.event_loop.specs.Served.{Served, goes, LoopStep, hears_of, comes, reads, writes, closes, keeps, begins, Shuts, TellsLast, tells_nothing, shortens, is_short, IsKeptShort, stops, shuts, reports_last, IsIdle}
+pub use Rattle.event_loop.specs.Served.{IsPatient, MayWait, HadTurn, IsFirst, told_place, hears_of_listener, hears_of_none, no_slice, reports}
 pub use Rattle.event_loop.specs.Writing.{WritesPlace, offered, sends, finds_no_room}
 pub use Rattle.event_loop.specs.declared.clocks.Times.{Times}
 pub use Rattle.event_loop.specs.declared.fault.ConnectionFault.TheVariants.{Read}

@@ -2,7 +2,7 @@
 use Rattle.std.proofs.Common.{◌≡◌, ◌≢◌, inl, inr, ◌<◌, ℕ, suc, List, [], Bool, true, false, Option, Some, length, refl, sym, ap, subst, ◌∙◌, arith, ◌-◌, ◌==◌, slice_get, slice_set}
 use Rattle.event_loop.proofs.Names.{Times, Place, IsOccupied, IsInService, MayRead, MayWrite, NeedsNoRead, IsOver, IsPlaceAtRest, same_Some, eqb_tells, nat_tests, World, Connection, connection_at}
 use Rattle.event_loop.proofs.Names.{untaken, is_closing, false≢true, Promises, LoopState, Free, Service, Ready, Tools, Call, Reading, Writing, done_since, fresh_place, HadTurn, Served, Past, Duty}
-use Rattle.event_loop.proofs.Names.{IsToldAs, DoneAfter, HoldsAt, IsHeardAt, IsSettledAt, AreAllSettled, StaysIdle, IsWorkLeft, a_read, a_write, IsLeftAt, LeavesOthers, IsRestedAt, IsRested}
+use Rattle.event_loop.proofs.Names.{IsToldAs, DoneMore, DoneAfter, HoldsAt, IsHeardAt, IsSettledAt, AreAllSettled, StaysIdle, IsWorkLeft, a_read, a_write, IsLeftAt, LeavesOthers, IsRestedAt, IsRested}
 use Rattle.event_loop.proofs.Names.{TidiesAt, running, standing, state_of, to_write}
 use Rattle.event_loop.proofs.Putting.{set_other, set_same}
 use Rattle.event_loop.proofs.Doing.{none_more}
@@ -43,7 +43,7 @@ pub rests_turned : (k : ℕ) (place : Place) (o : Option Connection) (calls : Li
 rests_turned k place o calls rests = record { read = inl rests.unread; written = inl rests.unwritten; goes_on = rests.goes_on }
 
 -- what had its turn, had it
-turned_then : (k : ℕ) (place : Place) (o : Option Connection) (earlier later : List Call) → DoneAfter earlier later → HadTurn k place o earlier → HadTurn k place o later
+turned_then : (k : ℕ) (place : Place) (o : Option Connection) (earlier later : List Call) → DoneMore earlier later → HadTurn k place o earlier → HadTurn k place o later
 turned_then k place o earlier later done turn = record {
   read = elim turn.read [
     | inl unread ↦ inl unread
@@ -82,18 +82,22 @@ pub heard_other : {H : Type 0} (k j : ℕ) (service : Service) (past : Past H) (
     j ≢ k → IsHeardAt j service past → IsHeardAt j service' past'
 heard_other k j service past service' past' others done other (inl unread) =
     inl (λ place here. subst (λ o. NeedsNoRead place o) (sym (others.connections j other)) (unread place (sym (others.places j other) ∙ here)))
-heard_other k j service past service' past' others done other (inr read) = inr (done.keeps (Reading j) read)
+heard_other k j service past service' past' others done other (inr read) = inr (done.more.keeps (Reading j) read)
 
 -- and what was settled there
-pub settled_other : {H : Type 0} (k j : ℕ) (service : Service) (past : Past H) (service' : Service) (past' : Past H) → LeavesOthers k service past.journey.world service' past'.journey.world → DoneAfter past.calls past'.calls →
+settled_more : {H : Type 0} (k j : ℕ) (service : Service) (past : Past H) (service' : Service) (past' : Past H) → LeavesOthers k service past.journey.world service' past'.journey.world → DoneMore past.calls past'.calls →
     j ≢ k → IsSettledAt j service past → IsSettledAt j service' past'
-settled_other k j service past service' past' others done other settled = record {
+settled_more k j service past service' past' others done other settled = record {
   rested = rested_other k j service past.journey.world service' past'.journey.world others other settled.rested;
   turned = λ place here.
       turned_then j place (connection_at past'.journey.world.connections j) past.calls past'.calls done
       (subst (λ o. HadTurn j place o past.calls) (sym (others.connections j other)) (settled.turned place (sym (others.places j other) ∙ here)));
   active = λ e. (let some = settled.active (sym (others.due j other) ∙ e) in omega (arith, some, done.grows));
 }
+
+pub settled_other : {H : Type 0} (k j : ℕ) (service : Service) (past : Past H) (service' : Service) (past' : Past H) → LeavesOthers k service past.journey.world service' past'.journey.world → DoneAfter past.calls past'.calls →
+    j ≢ k → IsSettledAt j service past → IsSettledAt j service' past'
+settled_other k j service past service' past' others done other settled = settled_more k j service past service' past' others done.more other settled
 
 -- keeping leaves all places as they are
 pub others_kept : (j : ℕ) (service : Service) (world world' : World) → world'.connections ≡ world.connections → LeavesOthers (suc j) service world service world'
@@ -109,12 +113,16 @@ all_settled k service past service' past' others done settled here j less =
     ]
 
 -- where more was done and no place changed, they are as settled
-pub settled_then : {H : Type 0} (service : Service) (past : Past H) (service' : Service) (past' : Past H) → service'.places ≡ service.places → service'.due ≡ service.due → past'.journey.world ≡ past.journey.world →
-    DoneAfter past.calls past'.calls → AreAllSettled service past → AreAllSettled service' past'
-settled_then service past service' past' places due world done settled j less =
-    settled_other (suc j) j service past service' past'
+pub settled_still : {H : Type 0} (service : Service) (past : Past H) (service' : Service) (past' : Past H) → service'.places ≡ service.places → service'.due ≡ service.due → past'.journey.world ≡ past.journey.world →
+    DoneMore past.calls past'.calls → AreAllSettled service past → AreAllSettled service' past'
+settled_still service past service' past' places due world done settled j less =
+    settled_more (suc j) j service past service' past'
     (record { places = λ i other. ap (λ l. slice_get l i) places; due = λ i other. ap (λ l. slice_get l i) due; connections = λ i other. ap (λ (w : World). connection_at w.connections i) world }) done
     (λ is. absurd (omega (arith, is))) (settled j less)
+
+pub settled_then : {H : Type 0} (service : Service) (past : Past H) (service' : Service) (past' : Past H) → service'.places ≡ service.places → service'.due ≡ service.due → past'.journey.world ≡ past.journey.world →
+    DoneAfter past.calls past'.calls → AreAllSettled service past → AreAllSettled service' past'
+settled_then service past service' past' places due world done settled = settled_still service past service' past' places due world done.more settled
 
 -- a place was put among others
 pub put_others : (k : ℕ) (service service' : Service) (place : Place) (world world' : World) → service'.places ≡ slice_set service.places k place →

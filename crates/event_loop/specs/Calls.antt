@@ -16,7 +16,7 @@ pub data Transfer : Type 0 where
 
 -- One call of the sockets, and what came of it. A wait has its limit in milliseconds, how much it had room for, and what
 -- it found ready; the others have the place of their connection, a read how many bytes it had room for, and a write how many
--- it offered. Or what was unkept was given to the keeper, and is kept.
+-- it offered. Or what was unkept was given to the keeper, and is kept; or the keeper went on by a slice to shorten what it keeps.
 pub data Call : Type 0 where
   Waited : (limit : Option ℕ) → (room : ℕ) → (found : List Ready) → Call
   WaitFailed : (limit : Option ℕ) → (room : ℕ) → Call
@@ -26,6 +26,7 @@ pub data Call : Type 0 where
   Wrote : (k room : ℕ) → (took : Transfer) → Call
   Closed : (k : ℕ) → Call
   Kept : Call
+  Shortened : Call
 
 abbrev pub wait_call : Option ℕ → Option ℕ → List Ready → Call
 wait_call limit (Some n) found = Waited limit (length found) (take n found)
@@ -60,20 +61,21 @@ waits [] = 0
 waits (Waited limit room found ∷ earlier) = suc (waits earlier)
 waits (call ∷ earlier) = waits earlier
 
--- how much was done for connections since the last wait
+-- how much was done since the last wait, for connections, or to shorten what is kept
 abbrev pub done_since : List Call → ℕ
 done_since [] = 0
 done_since (Waited limit room found ∷ earlier) = 0
 done_since (Kept ∷ earlier) = done_since earlier
 done_since (call ∷ earlier) = suc (done_since earlier)
 
--- what is called for again and again: a place is read, what is unkept is kept, a place is written to, and connections are
--- accepted
+-- what is called for again and again: a place is read, what is unkept is kept, a place is written to, connections are accepted, and
+-- what is kept is shortened by a slice
 pub data CallKind : Type 0 where
   Reading : (k : ℕ) → CallKind
   Keeping : CallKind
   Writing : (k : ℕ) → CallKind
   Accepting : CallKind
+  Shortening : CallKind
 
 -- of which kind a call is, whatever came of it
 abbrev pub kind_of : Call → Option CallKind
@@ -82,6 +84,7 @@ kind_of (Tried k came) = Some Accepting
 kind_of (Read k room came) = Some (Reading k)
 kind_of (Wrote k room took) = Some (Writing k)
 kind_of Kept = Some Keeping
+kind_of Shortened = Some Shortening
 kind_of call = None
 
 -- a call of the kind was made since the last wait

@@ -6,7 +6,7 @@ use Rattle.event_loop.specs.declared.fault.LoopFault.TheVariants.{Wait, Clock, C
 use Rattle.event_loop.specs.declared.limits.Limits.{Limits}
 use Rattle.event_loop.specs.declared.tools.Tools.{Tools}
 use Rattle.event_loop.specs.Calls as call
-use Rattle.event_loop.specs.Calls.{Keeping, IsDone}
+use Rattle.event_loop.specs.Calls.{Keeping, Shortening, IsDone}
 use Rattle.event_loop.specs.Done.{HaveDone}
 use Rattle.event_loop.specs.Durable.{Carries, Onward, KeeperHolds, IsWriteKept, IsDurable, IsDurableToEnd, MomentIsHeld, MomentStays}
 use Rattle.event_loop.specs.Places.{AllFree}
@@ -20,7 +20,7 @@ abbrev pub rounds_limit : ℕ
 rounds_limit = 18446744073709551615
 
 -- why it goes on no more: a wait failed; behind a wait the clocks told nothing, or a moment that is too far ahead of the greatest
--- that was kept, or one that could not be kept, and what it found was not looked at; what is unkept could not be kept; an image could not be put, and what was kept may be lost; or so
+-- that was kept, or one that could not be kept, and what it found was not looked at; what is unkept could not be kept; what is kept could not be shortened, and may be lost; or so
 -- many rounds were made as can be counted
 pub data CannotGoOn {N C J K H : Type 0} (p : Promises N C J K H) (s : LoopState N C J K H) : LoopFault → LoopState N C J K H → Type 0 where
   no_wait : (limit : Option ℕ) (room : ℕ) (n : N) → MayWait p s limit room → p.sockets.does s.sockets (call.WaitFailed limit room) n →
@@ -40,7 +40,7 @@ pub data CannotGoOn {N C J K H : Type 0} (p : Promises N C J K H) (s : LoopState
   not_kept : (keeper : K) (unkept : IsUnkept s.progress.journey.world) → ¬ (IsDone Keeping s.calls) →
       KeepsNot p.keeping.crashes unkept.kept s.progress.journey.world.history s.keeper keeper → TellsBasis p.keeping.crashes s.keeper keeper → p.keeping.has_failed keeper →
       CannotGoOn p s Keep (record s { keeper = keeper })
-  not_imaged : (keeper : K) → IsAllKept s.progress.journey.world →
+  not_shortened : (keeper : K) → IsAllKept s.progress.journey.world → ¬ (IsDone Shortening s.calls) →
       KeepsNot p.keeping.crashes s.progress.journey.world.history s.progress.journey.world.history s.keeper keeper → TellsBasis p.keeping.crashes s.keeper keeper → p.keeping.has_failed keeper →
       CannotGoOn p s Keep (record s { keeper = keeper })
   no_more : rounds_limit ≤ call.waits s.calls → CannotGoOn p s Rounds s

@@ -5,7 +5,7 @@ use Rattle.event_loop.specs.declared.fault.LoopFault.TheVariants.{Keep}
 use Rattle.event_loop.specs.declared.place.Place.{Place}
 use Rattle.event_loop.specs.declared.tools.Tools.{Tools}
 use Rattle.event_loop.specs.Closing.{Closes, leaves}
-use Rattle.event_loop.specs.Ends.{Beginning, CannotGoOn, HasServed, no_more, no_moment, no_time, no_wait, too_far, not_imaged, not_kept}
+use Rattle.event_loop.specs.Ends.{Beginning, CannotGoOn, HasServed, no_more, no_moment, no_time, no_wait, too_far, not_kept, not_shortened}
 use Rattle.event_loop.specs.LoopStates.{LoopState, Promises}
 use Rattle.event_loop.specs.Served.{Shuts, TellsLast, reports_last, shuts, stops, tells_nothing}
 
@@ -28,7 +28,7 @@ module _ {N C J K H : Type 0} (p : Promises N C J K H) where
   has_failed last failed fault (too_far limit room found n times c seconds may done told far) is = absurd (cc)
   has_failed last failed fault (no_moment limit room found n times c keeper may done told near lost basis asked) is = asked
   has_failed last failed fault (not_kept keeper unkept undone lost basis asked) is = asked
-  has_failed last failed fault (not_imaged keeper all lost basis asked) is = asked
+  has_failed last failed fault (not_shortened keeper all undone lost basis asked) is = asked
   has_failed last failed fault (no_more many) is = absurd (cc)
 
   -- a keeper that is blamed failed when it was called last

@@ -7,16 +7,18 @@ use Rattle.event_loop.specs.declared.place.Place.{Place}
 use Rattle.event_loop.specs.declared.report.Report.{Report}
 use Rattle.event_loop.specs.declared.service.Service.{Service}
 use Rattle.event_loop.specs.declared.tools.Tools.{Tools}
-use Rattle.event_loop.specs.Calls.{Call, CallKind, Reading, Keeping, Writing, Accepting, IsDone, waits, done_since}
+use Rattle.event_loop.specs.Calls.{Call, CallKind, Reading, Keeping, Writing, Accepting, Shortening, IsDone, waits, done_since}
+use Rattle.change_codec.specs.declared.keeper.Length.{Length}
+use Rattle.change_codec.specs.declared.keeper.Length.TheVariants.{Short, Long}
 use Rattle.event_loop.specs.Noting.{Noted}
 use Rattle.event_loop.specs.Places.{IsOccupied, MayRead, MayWrite, NeedsNoRead, NeedsNoWrite, IsOver, IsPlaceAtRest, AllFree}
 use Rattle.event_loop.specs.LoopStates.{Promises, LoopState, IsAllKept}
 use Rattle.event_loop.specs.Closing.{IsSilentLongest, AreWithin, Closes, freed_queue}
-use Rattle.event_loop.specs.Reporting.{Tells, is_long_ago}
-use Rattle.event_loop.specs.Served.{HadTurn, Served, Shuts, TellsLast}
+use Rattle.event_loop.specs.Reporting.{Tells}
+use Rattle.event_loop.specs.Served.{HadTurn, IsKeptShort, Served, Shuts, TellsLast}
 use Rattle.event_loop.specs.Ends.{CannotGoOn}
 -- what each clause of a part names
-pub use Rattle.endpoints.specs.Keeping.{keeping}
+pub use Rattle.change_codec.specs.Keepers.{keeping}
 pub use Rattle.event_loop.specs.LoopStates.{promises}
 
 -- it holds of the connection, wherever the edge was reached
@@ -88,11 +90,18 @@ pub record MayRest (service : Service) : Type 0 where
   pub due : IsDueNowhere service
   pub queue : service.queue ≢ Told
 
--- how long it waits by what is noted
-pub data IsLimit (service : Service) : Option ℕ → Type 0 where
-  looks : IsBusy service → IsLimit service (Some 0)
-  rests : MayRest service → IsLimit service (Some 1000)
-  sleeps : MayRest service → AllFree service.places → ((since : ℕ) → service.queue ≢ Barred since) → service.limits.report ≡ None → IsLimit service None
+-- no connection is there, no accept is to be tried again, and no reports are wanted
+pub record MaySleep (service : Service) : Type 0 where
+  pub free : AllFree service.places
+  pub unbarred : (since : ℕ) → service.queue ≢ Barred since
+  pub unwanted : service.limits.report ≡ None
+
+-- how long it waits by what is noted, and by what the keeper told, if it was called
+pub data IsLimit (service : Service) (told : Option Length) : Option ℕ → Type 0 where
+  looks : IsBusy service → IsLimit service told (Some 0)
+  shortens : told ≡ Some Long → IsLimit service told (Some 0)
+  rests : MayRest service → told ≢ Some Long → IsLimit service told (Some 1000)
+  sleeps : MayRest service → MaySleep service → told ≡ Some Short → IsLimit service told None
 
 -- as the clocks told last, a connection at the place is not silent for too long
 abbrev pub IsInTime : Service → ℕ → Type 0
@@ -103,10 +112,15 @@ abbrev pub NobodyIsSilent : Service → Type 0
 NobodyIsSilent service = AreWithin service.limits.idle service.times service.places
 
 -- calls were made after others, none of them a wait
-pub record DoneAfter (earlier later : List Call) : Type 0 where
+pub record DoneMore (earlier later : List Call) : Type 0 where
   pub waits : waits later ≡ waits earlier
   pub grows : done_since earlier ≤ done_since later
   pub keeps : (kind : CallKind) → IsDone kind earlier → IsDone kind later
+
+-- and none of them for a slice
+pub record DoneAfter (earlier later : List Call) : Type 0 where
+  pub more : DoneMore earlier later
+  pub alone : IsDone Shortening later → IsDone Shortening earlier
 
 -- a connection is there, and none took no byte of a reply for longer
 pub record IsLongestAt (places : List Place) (found : ℕ × Place) : Type 0 where
@@ -352,20 +366,26 @@ module _ {N C J K H : Type 0} (p : Promises N C J K H) where
       Served p first (state_of (running service tools) found past) → Reached p.hosting tools.edge past.journey →
       CannotGoOn p (state_of (running service tools) found past) fault (state_of (running service tools') found past)
 
-  -- where nothing is unkept, no more is kept than may be beside an image, or an image was refused less than a minute ago
-  abbrev pub IsKeptShort : Running N C J K H → World → Type 0
-  IsKeptShort now world = IsAllKept world → p.keeping.is_long now.tools.keeper → is_long_ago now.service.refused now.service.times.steady 60 ≡ false
+  -- What is kept was shortened by a slice, and is long still; or it is short; or that was not tried, or refused.
+  pub record GoesShorter (first : LoopState N C J K H) (before : Standing N C J K H) (told : Option Length) (after : Running N C J K H) : Type 0 where
+    pub calls : List Call
+    pub served : Served p first (state_of after before.found (record before.past { calls = calls }))
+    pub done : DoneMore before.past.calls calls
+    pub sliced : told ≡ Some Long → IsDone Shortening calls
+    pub rests : told ≢ Some Long → IsKeptShort p (state_of after before.found (record before.past { calls = calls }))
+    pub short : told ≡ Some Short → ¬ (p.keeping.is_long after.tools.keeper)
 
   -- wherever steps lead to, they lead on, and it is so
-  abbrev pub LeadsToShort : Running N C J K H → Running N C J K H → Type 0
-  LeadsToShort before after =
-      (first : LoopState N C J K H) (found : List Ready) (past : Past H) → Served p first (state_of before found past) → Reached p.hosting before.tools.edge past.journey →
-      Served p first (state_of after found past) × IsKeptShort after past.journey.world
+  abbrev pub LeadsToShort : Running N C J K H → Option Length → Running N C J K H → Type 0
+  LeadsToShort before told after =
+      (first : LoopState N C J K H) (found : List Ready) (past : Past H) → ¬ (IsDone Shortening past.calls) →
+      Served p first (state_of before found past) → Reached p.hosting before.tools.edge past.journey → GoesShorter first (standing before found past) told after
 
-  -- or the image could not be put
-  abbrev pub LeadsToNoImage : Running N C J K H → LoopFault → Running N C J K H → Type 0
-  LeadsToNoImage before fault after =
-      (first : LoopState N C J K H) (found : List Ready) (past : Past H) → Served p first (state_of before found past) → Reached p.hosting before.tools.edge past.journey →
+  -- or that failed
+  abbrev pub LeadsToUnshortened : Running N C J K H → LoopFault → Running N C J K H → Type 0
+  LeadsToUnshortened before fault after =
+      (first : LoopState N C J K H) (found : List Ready) (past : Past H) → ¬ (IsDone Shortening past.calls) →
+      Served p first (state_of before found past) → Reached p.hosting before.tools.edge past.journey →
       CannotGoOn p (state_of before found past) fault (state_of after found past)
 
   -- each place below i is settled; those from i on were heard, and not written to; and nothing is unkept
@@ -388,11 +408,12 @@ module _ {N C J K H : Type 0} (p : Promises N C J K H) where
     pub next : Past H
     pub served : Served p first (state_of after [] next)
     pub ready : IsReadyToWait after.service next
+    pub unshortened : ¬ (IsDone Shortening next.calls)
     pub waits_are : waits next.calls ≡ waits past.calls + count
 
   abbrev pub LeadsRound : ℕ → Running N C J K H → Running N C J K H → Type 0
   LeadsRound count before after =
-      (first : LoopState N C J K H) (past : Past H) → Served p first (state_of before [] past) → IsReadyToWait before.service past →
+      (first : LoopState N C J K H) (past : Past H) → Served p first (state_of before [] past) → IsReadyToWait before.service past → ¬ (IsDone Shortening past.calls) →
       GoesRound first count past after
 
   -- steps lead to a state where something fails
@@ -405,7 +426,7 @@ module _ {N C J K H : Type 0} (p : Promises N C J K H) where
 
   abbrev pub LeadsWrong : LoopFault → Running N C J K H → Running N C J K H → Type 0
   LeadsWrong fault before after =
-      (first : LoopState N C J K H) (past : Past H) → Served p first (state_of before [] past) → IsReadyToWait before.service past →
+      (first : LoopState N C J K H) (past : Past H) → Served p first (state_of before [] past) → IsReadyToWait before.service past → ¬ (IsDone Shortening past.calls) →
       GoesWrong first fault after
 
   -- a report tells what is so now

@@ -2,7 +2,7 @@
 use Rattle.std.specs.Prelude.{◌≡◌, ◌≢◌, ℕ, List, ◌∷◌, Option, Some, slice_set}
 use Rattle.event_loop.specs.Names.{Hosting, Event, World, Sockets, Journal, Queue, Ready}
 use Rattle.event_loop.specs.declared.clocks.Clocks.{Ghosts as Clocks}
-use Rattle.endpoints.specs.Keeping.{Keeping}
+use Rattle.change_codec.specs.Keepers.{Keeping}
 use Rattle.event_loop.specs.declared.clocks.Times.{Times}
 use Rattle.event_loop.specs.declared.limits.Limits.{Limits}
 use Rattle.event_loop.specs.declared.place.Place.{Place}
@@ -25,7 +25,7 @@ promises sockets clocks journal keeping hosting = record { sockets = sockets; cl
 -- What the loop works with: sockets, clocks, a journal, a keeper, and an edge with its draws, on its progress. What it knows:
 -- its limits, its places, what the last wait found and was not looked at yet, who waits to be accepted, what the clocks
 -- told last, the greatest moment that was kept or with which it began, when a fault was noted last, and the journal was told
--- last what the server does, in which second an image was refused last, in which it began, and how many connections came.
+-- last what the server does, in which second shortening was refused last, in which it began, and how many connections came.
 -- What was done so far, the last call first.
 pub record LoopState (N C J K H : Type 0) : Type 0 where
   pub sockets : N

@@ -1,5 +1,5 @@
 -- The names of types and of other crates that more than one file of these definitions uses.
-pub use Rattle.change_codec.specs.Keeping.{Until, IsFrontOf, Holds, HoldsBasis, Leaves, HeldMeanwhile, KeepsBasis, KeepsNot, TellsBasis, Keeps}
+pub use Rattle.change_codec.specs.Keeping.{Until, IsFrontOf, Holds, HoldsBasis, Leaves, HeldMeanwhile, KeepsBasis, KeepsNot, TellsBasis, Keeps, IsNoFurther}
 pub use Rattle.consent.specs.History.{Event}
 pub use Rattle.event_loop.specs.declared.fault.ConnectionFault.{ConnectionFault}
 pub use Rattle.event_loop.specs.declared.fault.ConnectionFault.TheVariants.{Accept, Refused, Write}
@@ -10,7 +10,7 @@ pub use Rattle.event_loop.specs.declared.place.Stage.TheVariants.{Open, Free, Br
 pub use Rattle.event_loop.specs.declared.queue.Queue.{Queue}
 pub use Rattle.event_loop.specs.declared.queue.Queue.TheVariants.{Told, Empty, Barred, Asked, Waits}
 pub use Rattle.event_loop.specs.declared.report.Notice.{Notice}
-pub use Rattle.event_loop.specs.declared.report.Notice.TheVariants.{ImageRefused, Reported, StoreFull}
+pub use Rattle.event_loop.specs.declared.report.Notice.TheVariants.{ShorteningRefused, Reported, StoreFull}
 pub use Rattle.event_loop.specs.declared.sockets.Accepted.TheVariants.{Later}
 pub use Rattle.event_loop.specs.declared.sockets.Ready.{Ready}
 pub use Rattle.event_loop.specs.declared.sockets.Sockets.{Ghosts as Sockets}

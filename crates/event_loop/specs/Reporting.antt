@@ -1,6 +1,6 @@
 -- What the journal is told of the server, and when.
 use Rattle.std.specs.Prelude.{◌≡◌, ◌≤◌, ◌-◌, ℕ, Bool, true, nat_le, Option, Some, None, IsSome, length}
-use Rattle.event_loop.specs.Names.{Journal, Notice, ImageRefused, Reported, StoreFull}
+use Rattle.event_loop.specs.Names.{Journal, Notice, ShorteningRefused, Reported, StoreFull}
 use Rattle.event_loop.specs.declared.report.LastTold.{LastTold}
 use Rattle.event_loop.specs.declared.report.Report.{Report}
 use Rattle.event_loop.specs.Places.{open_count}
@@ -31,7 +31,7 @@ pub data IsDue {N C J K H : Type 0} (p : Promises N C J K H) (s : LoopState N C 
   full : IsSome s.limits.report → is_long_ago s.told.full s.times.steady 60 ≡ true →
       IsDue p s StoreFull (record s.told { full = Some s.times.steady })
 
--- That an image is refused is told whether reports are wanted or not: once, until one is put.
+-- That shortening is refused is told whether reports are wanted or not: once, until no more is kept than may be.
 abbrev pub TellsRefusal : {J : Type 0} → Journal J → Option ℕ → J → J → Type 0
-TellsRefusal journaling None journal journal' = journaling.reports journal ImageRefused journal'
+TellsRefusal journaling None journal journal' = journaling.reports journal ShorteningRefused journal'
 TellsRefusal journaling (Some last) journal journal' = journal' ≡ journal

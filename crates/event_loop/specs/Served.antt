@@ -1,11 +1,11 @@
 -- All that the loop does, step by step.
 use Rattle.std.specs.Prelude.{◌≡◌, ◌≢◌, ◌⊎◌, ◌<◌, ◌≤◌, ◌-◌, max, ℕ, Bool, true, false, ◌||◌, List, [], ◌∷◌, Option, Some, None, IsSome, slice_get, length}
-use Rattle.event_loop.specs.Names.{Told, Empty, Barred, Waits, Ready, Keeps, KeepsBasis, SeenEdge, GoesOn, Connection, Notice, Reported}
+use Rattle.event_loop.specs.Names.{Told, Empty, Barred, Waits, Ready, Keeps, KeepsBasis, IsNoFurther, SeenEdge, GoesOn, Connection, Notice, Reported}
 use Rattle.event_loop.specs.declared.clocks.Times.{Times}
 use Rattle.event_loop.specs.declared.place.Place.{Place}
 use Rattle.event_loop.specs.declared.sockets.Ready.TheVariants as ready
 use Rattle.event_loop.specs.Calls as call
-use Rattle.event_loop.specs.Calls.{Call, Reading, Keeping, Writing, Accepting, IsDone, done_since}
+use Rattle.event_loop.specs.Calls.{Call, Reading, Keeping, Writing, Accepting, Shortening, IsDone, done_since}
 use Rattle.event_loop.specs.Progress.{known, led, IsReached}
 use Rattle.http_edge.specs.Schedule.{Kept}
 use Rattle.event_loop.specs.Places.{IsOccupied, MayRead, MayWrite, NeedsNoRead, NeedsNoWrite, IsOver, IsPlaceAtRest, AllFree, places_limit, ready_limit}
@@ -19,10 +19,15 @@ use Rattle.event_loop.specs.Moments.{KeepsTimes, seconds_too_far}
 use Rattle.event_loop.specs.declared.report.LastTold.{LastTold}
 use Rattle.event_loop.specs.declared.report.Report.{Report}
 
--- nothing is to be done now: at no place, and nobody is to be accepted
-pub record IsIdle {N C J K H : Type 0} (s : LoopState N C J K H) : Type 0 where
+-- No more is kept than may be, or something is unkept, or shortening was refused less than a minute ago.
+abbrev pub IsKeptShort : {N C J K H : Type 0} → Promises N C J K H → LoopState N C J K H → Type 0
+IsKeptShort p s = IsAllKept s.progress.journey.world → p.keeping.is_long s.keeper → is_long_ago s.refused s.times.steady 60 ≡ false
+
+-- nothing is to be done now: at no place, nobody is to be accepted, and nothing is to be shortened
+pub record IsIdle {N C J K H : Type 0} (p : Promises N C J K H) (s : LoopState N C J K H) : Type 0 where
   pub places : (k : ℕ) (place : Place) → slice_get s.places k ≡ Some place → IsPlaceAtRest place (known s.progress k)
   pub queue : s.queue ≢ Told
+  pub short : IsKeptShort p s
 
 -- The place had its turn since the last wait: no read is to be done there, or one was done, or a write, which may have made
 -- room for one; no write is to be done, or one was done; and its connection is not over.
@@ -46,21 +51,22 @@ pub record IsPrompt {N C J K H : Type 0} (s : LoopState N C J K H) : Type 0 wher
   pub reported : (every : ℕ) → s.limits.report ≡ Some every → s.told.report ≡ s.times.steady ⊎ s.times.steady - s.told.report < every
 
 -- How long it waits, in milliseconds: not at all only where something was done since the last wait; else, where nothing is
--- to be done, for a second, or, while no connection is there, no accept is to be tried again and no reports are wanted, for ever.
-pub data IsPatient {N C J K H : Type 0} (s : LoopState N C J K H) : Option ℕ → Type 0 where
-  looks : 0 < done_since s.calls → IsPatient s (Some 0)
-  rests : IsIdle s → IsPatient s (Some 1000)
-  sleeps : IsIdle s → AllFree s.places → ((since : ℕ) → s.queue ≢ Barred since) → s.limits.report ≡ None → IsPatient s None
+-- to be done, for a second, or, while no connection is there, no accept is to be tried again, no reports are wanted and no more is
+-- kept than may be, for ever.
+pub data IsPatient {N C J K H : Type 0} (p : Promises N C J K H) (s : LoopState N C J K H) : Option ℕ → Type 0 where
+  looks : 0 < done_since s.calls → IsPatient p s (Some 0)
+  rests : IsIdle p s → IsPatient p s (Some 1000)
+  sleeps : IsIdle p s → AllFree s.places → ((since : ℕ) → s.queue ≢ Barred since) → s.limits.report ≡ None → ¬ (p.keeping.is_long s.keeper) → IsPatient p s None
 
--- It may wait so long now, with room for so much: all that the last wait found was looked at, and where nothing is unkept, no
--- more is kept than may be beside an image, or an image was refused less than a minute ago.
+-- It may wait so long now, with room for so much: all that the last wait found was looked at, and where nothing is unkept and more
+-- is kept than may be, that was shortened by a slice since the last wait, or it was refused less than a minute ago.
 pub record MayWait {N C J K H : Type 0} (p : Promises N C J K H) (s : LoopState N C J K H) (limit : Option ℕ) (room : ℕ) : Type 0 where
-  pub patient : IsPatient s limit
+  pub patient : IsPatient p s limit
   pub fair : IsFair s
   pub prompt : IsPrompt s
   pub heard : s.found ≡ []
   pub roomy : ready_limit ≤ room
-  pub short : IsAllKept s.progress.journey.world → p.keeping.is_long s.keeper → is_long_ago s.refused s.times.steady 60 ≡ false
+  pub short : IsDone Shortening s.calls ⊎ IsKeptShort p s
 
 -- the place, when its connection was found ready
 abbrev pub told_place : Place → Bool → Bool → Bool → Place
@@ -69,14 +75,15 @@ told_place place readable writable hung =
 
 -- One step: a wait with a look at the clocks behind it, whose moment is kept where it is not too far ahead of the greatest
 -- before it, a look at what the wait found, something done
--- for connections, the journal is told what is due, what is unkept is kept, or an image is put in the place of what is kept,
--- or refused. Between two waits a place is read at most once, and written to at most once, and it is kept at most once.
--- Nothing is written, and no image is put, while something is unkept.
+-- for connections, the journal is told what is due, what is unkept is kept, or what is kept is shortened by a slice, or that is
+-- refused. Between two waits a place is read at most once, and written to at most once, it is kept at most once, and shortened at
+-- most once. Nothing is written, and nothing is shortened, while something is unkept.
+-- Keeping adds to what is to be gone over no more than eight times what it adds to what is kept.
 pub data LoopStep {N C J K H : Type 0} (p : Promises N C J K H) (s : LoopState N C J K H) : LoopState N C J K H → Type 0 where
   waits : (limit : Option ℕ) (room : ℕ) (found : List Ready) (n : N) (times : Times) (c : C) (keeper : K) → MayWait p s limit room →
       p.sockets.does s.sockets (call.Waited limit room found) n → p.clocks.tells s.clocks (Some times) c →
       seconds_too_far s.limits.ahead (Some times) s.held ≡ None → KeepsTimes p.keeping.crashes times s.keeper keeper →
-      LoopStep p s (record (with_call s (call.Waited limit room found) n)
+      IsNoFurther p.keeping.to_go p.keeping.size s.keeper keeper → LoopStep p s (record (with_call s (call.Waited limit room found) n)
       { clocks = c; keeper = keeper; found = found; times = times; held = max s.held times.moment })
   hears_of_listener : (more : List Ready) → s.found ≡ ready.Listener ∷ more → LoopStep p s (record s { found = more; queue = told_queue s.queue })
   hears_of : (k : ℕ) (readable writable hung : Bool) (more : List Ready) (place place' : Place) → s.found ≡ ready.Connection k readable writable hung ∷ more →
@@ -97,14 +104,18 @@ pub data LoopStep {N C J K H : Type 0} (p : Promises N C J K H) (s : LoopState N
       LoopStep p s (record s { noted = record s.noted { journal = journal }; told = told })
   keeps : (keeper : K) (e : SeenEdge H) (unkept : IsUnkept s.progress.journey.world) (on : GoesOn p.hosting e s.progress.journey Kept) →
       ¬ (IsDone Keeping s.calls) → Keeps p.keeping.crashes unkept.kept s.progress.journey.world.history s.keeper keeper →
-      KeepsBasis p.keeping.crashes s.keeper keeper →
+      KeepsBasis p.keeping.crashes s.keeper keeper → IsNoFurther p.keeping.to_go p.keeping.size s.keeper keeper →
       LoopStep p s (record s { keeper = keeper; progress = led s.progress on; calls = call.Kept ∷ s.calls })
-  -- the keeper alone is another, which holds the same, and keeps no more than it may beside an image
-  puts_image : (keeper : K) → IsAllKept s.progress.journey.world →
+  -- where more is kept than may be, the keeper alone is another, which holds the same: less is to be gone over than before until
+  -- that is shortened, or it is
+  shortens : (keeper : K) → IsAllKept s.progress.journey.world → p.keeping.is_long s.keeper → ¬ (IsDone Shortening s.calls) →
       Keeps p.keeping.crashes s.progress.journey.world.history s.progress.journey.world.history s.keeper keeper → KeepsBasis p.keeping.crashes s.keeper keeper →
-      ¬ (p.keeping.is_long keeper) → LoopStep p s (record s { keeper = keeper; refused = None })
-  -- an image is refused, where it keeps more than that: it holds the same; it is tried again after a minute
-  no_image : (keeper : K) → (journal : J) → IsAllKept s.progress.journey.world → p.keeping.is_long s.keeper → is_long_ago s.refused s.times.steady 60 ≡ true →
+      (p.keeping.to_go keeper < p.keeping.to_go s.keeper) ⊎ p.keeping.shortens s.keeper keeper →
+      LoopStep p s (record s { keeper = keeper; calls = call.Shortened ∷ s.calls })
+  -- no more is kept than may be: where it is refused again, that is told again
+  is_short : ¬ (p.keeping.is_long s.keeper) → LoopStep p s (record s { refused = None })
+  -- shortening is refused, where more is kept than may be: the keeper holds the same; it is tried again after a minute
+  no_slice : (keeper : K) → (journal : J) → IsAllKept s.progress.journey.world → p.keeping.is_long s.keeper → is_long_ago s.refused s.times.steady 60 ≡ true →
       Keeps p.keeping.crashes s.progress.journey.world.history s.progress.journey.world.history s.keeper keeper → KeepsBasis p.keeping.crashes s.keeper keeper →
       TellsRefusal p.journal s.refused s.noted.journal journal →
       LoopStep p s (record s { keeper = keeper; refused = Some s.times.steady; noted = record s.noted { journal = journal } })

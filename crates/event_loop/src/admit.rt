@@ -11,7 +11,7 @@ use crate::place::{Place, Stage};
 use crate::queue::Queue;
 use crate::service::Service;
 use crate::sockets::{Accepted, Sockets};
-use crate::tools::{Clocks, HookHost, ImageKeeper, Journal, Tools};
+use crate::tools::{Clocks, HookHost, Journal, Keeper, Tools};
 use http_edge::{ConnectionNo, Event};
 
 impl Service {
@@ -29,13 +29,13 @@ impl Service {
     }
 }
 
-impl<N: Sockets, C: Clocks, J: Journal, K: ImageKeeper, H: HookHost> Tools<N, C, J, K, H> {
+impl<N: Sockets, C: Clocks, J: Journal, K: Keeper, H: HookHost> Tools<N, C, J, K, H> {
     // Accepts a connection at a place, if one waits.
     fn admit(&mut self, service: &mut Service, k: u32)
         requires bound { k < 64 }
         requires free { IsFreeAt service.old.places k }
         requires told { service.old.queue ≡ Told }
-        ensures leads { LeadsToAccepts (promises N.Sockets C.Clocks J.Journal (keeping K.Keeper K.ImageKeeper.own) H.HookHost) ⊤ (running service.old self.old) (running service.new self.new) }
+        ensures leads { LeadsToAccepts (promises N.Sockets C.Clocks J.Journal (keeping K.Keeper) H.HookHost) ⊤ (running service.old self.old) (running service.new self.new) }
         ensures calm { IsCalm service.old → IsCalm service.new }
     {
         match self.sockets.accept(k) {
@@ -77,7 +77,7 @@ impl<N: Sockets, C: Clocks, J: Journal, K: ImageKeeper, H: HookHost> Tools<N, C,
 
     /// Accepts connections while one may wait. Where all places are taken, the listener is asked whether one waits.
     pub(crate) fn admit_all(&mut self, service: &mut Service)
-        ensures leads { LeadsToAccepts (promises N.Sockets C.Clocks J.Journal (keeping K.Keeper K.ImageKeeper.own) H.HookHost) (service.new.queue ≡ Told) (running service.old self.old) (running service.new self.new) }
+        ensures leads { LeadsToAccepts (promises N.Sockets C.Clocks J.Journal (keeping K.Keeper) H.HookHost) (service.new.queue ≡ Told) (running service.old self.old) (running service.new self.new) }
         ensures calm { IsCalm service.old → IsCalm service.new }
     {
         for _nth in 0..PLACES {

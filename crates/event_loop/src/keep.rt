@@ -7,8 +7,8 @@ ghost use Rattle.event_loop.specs.LoopStates.{IsAllKept, IsUnkept};
 ghost use Rattle.event_loop.specs.Goes.{LeadsToKept, LeadsToLoss, keeping, promises};
 
 use crate::fault::LoopFault;
-use crate::tools::{Clocks, HookHost, ImageKeeper, Journal, Sockets, Tools};
-use change_codec::{Batch, Keeper};
+use crate::tools::{Clocks, HookHost, Journal, Keeper, Sockets, Tools};
+use change_codec::Batch;
 use http_edge::Edge;
 
 /// What is unkept, if anything is.
@@ -26,11 +26,11 @@ pub(crate) fn unkept<H: HookHost>(edge: &Edge<H>) -> Option<&Batch>
     Some(batch)
 }
 
-impl<N: Sockets, C: Clocks, J: Journal, K: ImageKeeper, H: HookHost> Tools<N, C, J, K, H> {
+impl<N: Sockets, C: Clocks, J: Journal, K: Keeper, H: HookHost> Tools<N, C, J, K, H> {
     /// What is unkept is kept, all at once.
     pub(crate) fn keep_all(&mut self) -> Result<(), LoopFault>
-        ensures kept { OnOk result (LeadsToKept (promises N.Sockets C.Clocks J.Journal (keeping K.Keeper K.ImageKeeper.own) H.HookHost) self.old self.new) }
-        ensures lost { IfErr result (λ fault. LeadsToLoss (promises N.Sockets C.Clocks J.Journal (keeping K.Keeper K.ImageKeeper.own) H.HookHost) self.old fault self.new) }
+        ensures kept { OnOk result (LeadsToKept (promises N.Sockets C.Clocks J.Journal (keeping K.Keeper) H.HookHost) self.old self.new) }
+        ensures lost { IfErr result (λ fault. LeadsToLoss (promises N.Sockets C.Clocks J.Journal (keeping K.Keeper) H.HookHost) self.old fault self.new) }
     {
         let Some(batch) = unkept(&self.edge) else {
             return Ok(());

@@ -12,7 +12,7 @@ use crate::noting::note_end;
 use crate::place::{Place, Stage};
 use crate::queue::Queue;
 use crate::service::Service;
-use crate::tools::{HookHost, ImageKeeper, Journal, Sockets, Tools};
+use crate::tools::{HookHost, Journal, Keeper, Sockets, Tools};
 use http_edge::ConnectionNo;
 
 impl Service {
@@ -35,11 +35,11 @@ impl Service {
     }
 }
 
-impl<N: Sockets, C: Clocks, J: Journal, K: ImageKeeper, H: HookHost> Tools<N, C, J, K, H> {
+impl<N: Sockets, C: Clocks, J: Journal, K: Keeper, H: HookHost> Tools<N, C, J, K, H> {
     // Closes and forgets a connection, and notes its fault.
     fn leave(&mut self, service: &mut Service, k: u32, place: Place)
         requires bound { k < 64 }
-        ensures away { LeadsAway (promises N.Sockets C.Clocks J.Journal (keeping K.Keeper K.ImageKeeper.own) H.HookHost) k place (running service.old self.old) (running service.new self.new) }
+        ensures away { LeadsAway (promises N.Sockets C.Clocks J.Journal (keeping K.Keeper) H.HookHost) k place (running service.old self.old) (running service.new self.new) }
         ensures rest { FreesPlace k place service.old service.new }
     {
         self.sockets.close(k);
@@ -58,7 +58,7 @@ impl<N: Sockets, C: Clocks, J: Journal, K: ImageKeeper, H: HookHost> Tools<N, C,
     /// Closes a connection that is over. For another, it is noted whether something is due.
     pub(crate) fn settle(&mut self, service: &mut Service, k: u32)
         requires bound { k < 64 }
-        ensures tidies { LeadsToTidy (promises N.Sockets C.Clocks J.Journal (keeping K.Keeper K.ImageKeeper.own) H.HookHost) k (running service.old self.old) (running service.new self.new) }
+        ensures tidies { LeadsToTidy (promises N.Sockets C.Clocks J.Journal (keeping K.Keeper) H.HookHost) k (running service.old self.old) (running service.new self.new) }
         ensures due { (j : ℕ) → j ≢ k → slice_get service.new.due j ≡ slice_get service.old.due j }
     {
         let place = service.place_at(k);
@@ -77,7 +77,7 @@ impl<N: Sockets, C: Clocks, J: Journal, K: ImageKeeper, H: HookHost> Tools<N, C,
 
     // Closes each connection that took no byte of a reply for too long. In the second of the round before, nobody can have become one.
     fn sweep(&mut self, service: &mut Service, is_same_second: bool)
-        ensures leads { SettlesAll (promises N.Sockets C.Clocks J.Journal (keeping K.Keeper K.ImageKeeper.own) H.HookHost) (running service.old self.old) (running service.new self.new) }
+        ensures leads { SettlesAll (promises N.Sockets C.Clocks J.Journal (keeping K.Keeper) H.HookHost) (running service.old self.old) (running service.new self.new) }
         ensures within { (is_same_second ≡ true → NobodyIsSilent service.old) → NobodyIsSilent service.new }
     {
         if is_same_second {
@@ -98,7 +98,7 @@ impl<N: Sockets, C: Clocks, J: Journal, K: ImageKeeper, H: HookHost> Tools<N, C,
     /// In another second than that of the round before, silent connections are closed. Where an accept failed in another
     /// second, it is tried again.
     pub(crate) fn tidy(&mut self, service: &mut Service, is_same_second: bool)
-        ensures leads { SettlesAll (promises N.Sockets C.Clocks J.Journal (keeping K.Keeper K.ImageKeeper.own) H.HookHost) (running service.old self.old) (running service.new self.new) }
+        ensures leads { SettlesAll (promises N.Sockets C.Clocks J.Journal (keeping K.Keeper) H.HookHost) (running service.old self.old) (running service.new self.new) }
         ensures within { (is_same_second ≡ true → NobodyIsSilent service.old) → NobodyIsSilent service.new }
         ensures tried { IsTried service.new }
     {
@@ -114,7 +114,7 @@ impl<N: Sockets, C: Clocks, J: Journal, K: ImageKeeper, H: HookHost> Tools<N, C,
 
     /// Where all places are taken and another connection waits, the one that was silent longest gives way.
     pub(crate) fn make_room(&mut self, service: &mut Service)
-        ensures leads { SettlesAll (promises N.Sockets C.Clocks J.Journal (keeping K.Keeper K.ImageKeeper.own) H.HookHost) (running service.old self.old) (running service.new self.new) }
+        ensures leads { SettlesAll (promises N.Sockets C.Clocks J.Journal (keeping K.Keeper) H.HookHost) (running service.old self.old) (running service.new self.new) }
         ensures calm { NobodyIsSilent service.old → IsTried service.old → IsCalm service.new }
     {
         let Queue::Waits = service.queue else {
@@ -131,7 +131,7 @@ impl<N: Sockets, C: Clocks, J: Journal, K: ImageKeeper, H: HookHost> Tools<N, C,
 
     /// Closes each connection that is left.
     pub(crate) fn leave_all(&mut self, service: &mut Service)
-        ensures shut { LeadsShut (promises N.Sockets C.Clocks J.Journal (keeping K.Keeper K.ImageKeeper.own) H.HookHost) (running service.old self.old) (running service.new self.new) }
+        ensures shut { LeadsShut (promises N.Sockets C.Clocks J.Journal (keeping K.Keeper) H.HookHost) (running service.old self.old) (running service.new self.new) }
         ensures free { AllFree service.new.places }
     {
         for k in 0..PLACES {

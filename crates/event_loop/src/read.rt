@@ -13,7 +13,7 @@ use crate::limits::{BACKLOG_LIMIT, CUT_LIMIT};
 use crate::place::{Place, Stage};
 use crate::service::Service;
 use crate::sockets::{Received, Sockets};
-use crate::tools::{Clocks, HookHost, ImageKeeper, Journal, Tools};
+use crate::tools::{Clocks, HookHost, Journal, Keeper, Tools};
 use consent::Moment;
 use http_edge::{ConnectionNo, Edge, EdgeFault, Event};
 use rand_chacha::ChaCha20Rng;
@@ -87,11 +87,11 @@ fn give_all<H: HookHost>(
     Ok(())
 }
 
-impl<N: Sockets, C: Clocks, J: Journal, K: ImageKeeper, H: HookHost> Tools<N, C, J, K, H> {
+impl<N: Sockets, C: Clocks, J: Journal, K: Keeper, H: HookHost> Tools<N, C, J, K, H> {
     /// Reads a connection once, where it may be read, and gives what came to the edge.
     pub(crate) fn read(&mut self, service: &mut Service, k: u32)
         requires bound { k < 64 }
-        ensures acts { LeadsToActs (promises N.Sockets C.Clocks J.Journal (keeping K.Keeper K.ImageKeeper.own) H.HookHost) (to_read k) (running service.old self.old) (running service.new self.new) }
+        ensures acts { LeadsToActs (promises N.Sockets C.Clocks J.Journal (keeping K.Keeper) H.HookHost) (to_read k) (running service.old self.old) (running service.new self.new) }
         ensures due { service.new.due ≡ service.old.due }
     {
         let place = service.place_at(k);

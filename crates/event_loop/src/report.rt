@@ -32,8 +32,8 @@ pub enum Notice {
     Reported(Report),
     /// A code or a token was wanted, and no more may be unexpired.
     StoreFull,
-    /// An image was refused: what is kept grows until one is put.
-    ImageRefused,
+    /// What is kept could not be shortened: it grows until that works.
+    ShorteningRefused,
     /// So many bytes of an unfinished write stood behind what was kept, and were put beside the file.
     SetAside(usize),
     /// So many codes and tokens ended, which were beyond the registry.

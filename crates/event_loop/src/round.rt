@@ -1,7 +1,7 @@
 //! Rounds.
 ghost use Rattle.std.specs.Prelude.{◌≡◌, ◌≤◌, length, true, false, OnOk, IfErr};
 ghost use Rattle.event_loop.specs.Places.{AllFree};
-ghost use Rattle.event_loop.specs.Goes.{IsBusy, IsLimit, MayRest, LeadsRound, LeadsWrong, running, keeping, promises};
+ghost use Rattle.event_loop.specs.Goes.{IsBusy, IsLimit, MayRest, MaySleep, LeadsRound, LeadsWrong, running, keeping, promises};
 
 use crate::clocks::{Clocks, Times, later};
 use crate::fault::LoopFault;
@@ -9,8 +9,8 @@ use crate::limits::PLACES;
 use crate::queue::Queue;
 use crate::service::Service;
 use crate::sockets::{Ready, Sockets};
-use crate::tools::{HookHost, ImageKeeper, Journal, Tools};
-use change_codec::Keeper;
+use crate::tools::{HookHost, Journal, Keeper, Tools};
+use change_codec::Length;
 
 // In milliseconds.
 const SECOND: u64 = 1000;
@@ -39,28 +39,41 @@ impl Service {
         }
     }
 
-    // How long to wait, in milliseconds.
-    fn wait_limit(&self) -> Option<u64>
-        ensures { IsLimit self.now result }
+    // Whether no connection is there, no accept is to be tried again, and no reports are wanted.
+    fn may_sleep(&self) -> bool
+        ensures { result ≡ true → MaySleep self.now }
+    {
+        if let Queue::Barred(_) = self.queue {
+            return false;
+        }
+        if let Some(_every) = self.limits.report {
+            return false;
+        }
+        self.is_empty()
+    }
+
+    // How long to wait, in milliseconds, by what the keeper told.
+    fn wait_limit(&self, told: Option<Length>) -> Option<u64>
+        ensures { IsLimit self.now told result }
     {
         if self.is_busy() {
             return Some(0);
         }
-        if let Queue::Barred(_) = self.queue {
+        let Some(length) = told else {
             return Some(SECOND);
+        };
+        if let Length::Long = length {
+            return Some(0);
         }
-        if let Some(_every) = self.limits.report {
-            return Some(SECOND);
-        }
-        if self.is_empty() {
+        if self.may_sleep() {
             return None;
         }
         Some(SECOND)
     }
 }
 
-impl<N: Sockets, C: Clocks, J: Journal, K: ImageKeeper, H: HookHost> Tools<N, C, J, K, H> {
-    /// Puts an image in the place of what is kept, where that is long. Then waits once, looks at the clocks, whose moment is
+impl<N: Sockets, C: Clocks, J: Journal, K: Keeper, H: HookHost> Tools<N, C, J, K, H> {
+    /// Shortens what is kept by a slice, where it is long. Then waits once, looks at the clocks, whose moment is
     /// kept where it is not too far ahead, notes what was found, reads each place, keeps what changed, writes to each, closes and accepts, and then tells
     /// the journal what is due.
     pub(crate) fn round(
@@ -69,13 +82,14 @@ impl<N: Sockets, C: Clocks, J: Journal, K: ImageKeeper, H: HookHost> Tools<N, C,
         found: &mut [Ready],
     ) -> Result<(), LoopFault>
         requires room { 65 ≤ length found.old }
-        ensures goes { OnOk result (LeadsRound (promises N.Sockets C.Clocks J.Journal (keeping K.Keeper K.ImageKeeper.own) H.HookHost) 1 (running service.old self.old) (running service.new self.new)) }
-        ensures wrong { IfErr result (λ fault. LeadsWrong (promises N.Sockets C.Clocks J.Journal (keeping K.Keeper K.ImageKeeper.own) H.HookHost) fault (running service.old self.old) (running service.new self.new)) }
+        ensures goes { OnOk result (LeadsRound (promises N.Sockets C.Clocks J.Journal (keeping K.Keeper) H.HookHost) 1 (running service.old self.old) (running service.new self.new)) }
+        ensures wrong { IfErr result (λ fault. LeadsWrong (promises N.Sockets C.Clocks J.Journal (keeping K.Keeper) H.HookHost) fault (running service.old self.old) (running service.new self.new)) }
     {
-        if let Err(fault) = self.put_image(service) {
-            return Err(fault);
-        }
-        let limit = service.wait_limit();
+        let told = match self.shorten_some(service) {
+            Ok(told) => told,
+            Err(fault) => return Err(fault),
+        };
+        let limit = service.wait_limit(told);
         let Some(count) = self.sockets.wait(limit, found) else {
             return Err(LoopFault::Wait);
         };

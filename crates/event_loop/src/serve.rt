@@ -6,12 +6,12 @@ use crate::fault::LoopFault;
 use crate::limits::Limits;
 use crate::service::Service;
 use crate::sockets::{Ready, Sockets};
-use crate::tools::{Clocks, HookHost, ImageKeeper, Journal, Tools};
+use crate::tools::{Clocks, HookHost, Journal, Keeper, Tools};
 
-impl<N: Sockets, C: Clocks, J: Journal, K: ImageKeeper, H: HookHost> Tools<N, C, J, K, H> {
+impl<N: Sockets, C: Clocks, J: Journal, K: Keeper, H: HookHost> Tools<N, C, J, K, H> {
     // Makes round after round.
     fn rounds(&mut self, service: &mut Service) -> LoopFault
-        ensures { LeadsWrong (promises N.Sockets C.Clocks J.Journal (keeping K.Keeper K.ImageKeeper.own) H.HookHost) result (running service.old self.old) (running service.new self.new) }
+        ensures { LeadsWrong (promises N.Sockets C.Clocks J.Journal (keeping K.Keeper) H.HookHost) result (running service.old self.old) (running service.new self.new) }
     {
         let mut found = [Ready::Listener; 65];
         for _nth in 0..u64::MAX {
@@ -25,11 +25,11 @@ impl<N: Sockets, C: Clocks, J: Journal, K: ImageKeeper, H: HookHost> Tools<N, C,
 
 /// Serves up to 64 connections at once, until a wait fails, the clocks tell nothing or are too far ahead, or changes or a moment can't be kept, and
 /// says which. Then each connection that is left is closed and forgotten, and where reports are wanted, there is a last one.
-pub fn serve_all<N: Sockets, C: Clocks, J: Journal, K: ImageKeeper, H: HookHost>(
+pub fn serve_all<N: Sockets, C: Clocks, J: Journal, K: Keeper, H: HookHost>(
     tools: &mut Tools<N, C, J, K, H>,
     limits: Limits,
 ) -> LoopFault
-    ensures { RunEnds (promises N.Sockets C.Clocks J.Journal (keeping K.Keeper K.ImageKeeper.own) H.HookHost) limits tools.old result tools.new }
+    ensures { RunEnds (promises N.Sockets C.Clocks J.Journal (keeping K.Keeper) H.HookHost) limits tools.old result tools.new }
 {
     let Some(times) = tools.clocks.read() else {
         return LoopFault::Clock;

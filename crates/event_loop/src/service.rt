@@ -37,7 +37,7 @@ pub struct Service {
     pub(crate) full: u64,
     // When the journal was told last of what the server does.
     pub(crate) told: LastTold,
-    // In which second an image was refused last, where none was put since.
+    // In which second shortening was refused last, where more was kept ever since than may be.
     pub(crate) refused: Option<u64>,
 }
 

@@ -7,8 +7,7 @@ ghost use Rattle.event_loop.specs.Reporting.{is_long_ago};
 use crate::limits::{MINUTE, PLACES};
 use crate::report::{Notice, Report};
 use crate::service::Service;
-use crate::tools::{Clocks, HookHost, ImageKeeper, Journal, Sockets, Tools};
-use change_codec::Keeper;
+use crate::tools::{Clocks, HookHost, Journal, Keeper, Sockets, Tools};
 
 /// Whether that was never, or so many seconds ago.
 pub(crate) fn is_long_ago(last: Option<u64>, now: u64, seconds: u64) -> bool
@@ -36,10 +35,10 @@ impl Service {
     }
 }
 
-impl<N: Sockets, C: Clocks, J: Journal, K: ImageKeeper, H: HookHost> Tools<N, C, J, K, H> {
+impl<N: Sockets, C: Clocks, J: Journal, K: Keeper, H: HookHost> Tools<N, C, J, K, H> {
     // What there is to report.
     fn report_now(&self, service: &Service) -> Report
-        ensures { TellsNow (promises N.Sockets C.Clocks J.Journal (keeping K.Keeper K.ImageKeeper.own) H.HookHost) (running service.now self.now) result }
+        ensures { TellsNow (promises N.Sockets C.Clocks J.Journal (keeping K.Keeper) H.HookHost) (running service.now self.now) result }
     {
         let server = self.edge.server();
         Report {
@@ -58,7 +57,7 @@ impl<N: Sockets, C: Clocks, J: Journal, K: ImageKeeper, H: HookHost> Tools<N, C,
     // Where reports are wanted, the journal is told that the store was full, unless it was within a minute.
     fn tell_full(&mut self, service: &mut Service)
         requires wanted { IsSome service.old.limits.report }
-        ensures leads { SettlesAll (promises N.Sockets C.Clocks J.Journal (keeping K.Keeper K.ImageKeeper.own) H.HookHost) (running service.old self.old) (running service.new self.new) }
+        ensures leads { SettlesAll (promises N.Sockets C.Clocks J.Journal (keeping K.Keeper) H.HookHost) (running service.old self.old) (running service.new self.new) }
         ensures rest { OnlyTells service.old service.new }
         ensures report { service.new.told.report ≡ service.old.told.report }
     {
@@ -77,7 +76,7 @@ impl<N: Sockets, C: Clocks, J: Journal, K: ImageKeeper, H: HookHost> Tools<N, C,
     // And what there is to report, unless so many seconds have not passed.
     fn tell_report(&mut self, service: &mut Service, every: u64)
         requires wanted { service.old.limits.report ≡ Some every }
-        ensures leads { SettlesAll (promises N.Sockets C.Clocks J.Journal (keeping K.Keeper K.ImageKeeper.own) H.HookHost) (running service.old self.old) (running service.new self.new) }
+        ensures leads { SettlesAll (promises N.Sockets C.Clocks J.Journal (keeping K.Keeper) H.HookHost) (running service.old self.old) (running service.new self.new) }
         ensures rest { OnlyTells service.old service.new }
         ensures reported { IsReported service.new }
     {
@@ -91,7 +90,7 @@ impl<N: Sockets, C: Clocks, J: Journal, K: ImageKeeper, H: HookHost> Tools<N, C,
 
     /// Where reports are wanted, the journal is told what is due.
     pub(crate) fn tell(&mut self, service: &mut Service)
-        ensures leads { SettlesAll (promises N.Sockets C.Clocks J.Journal (keeping K.Keeper K.ImageKeeper.own) H.HookHost) (running service.old self.old) (running service.new self.new) }
+        ensures leads { SettlesAll (promises N.Sockets C.Clocks J.Journal (keeping K.Keeper) H.HookHost) (running service.old self.old) (running service.new self.new) }
         ensures rest { OnlyTells service.old service.new }
         ensures reported { IsReported service.new }
     {
@@ -104,7 +103,7 @@ impl<N: Sockets, C: Clocks, J: Journal, K: ImageKeeper, H: HookHost> Tools<N, C,
 
     /// Where reports are wanted, there is a last one.
     pub(crate) fn tell_last(&mut self, service: &Service)
-        ensures { LeadsLast (promises N.Sockets C.Clocks J.Journal (keeping K.Keeper K.ImageKeeper.own) H.HookHost) (running service.now self.old) (running service.now self.new) }
+        ensures { LeadsLast (promises N.Sockets C.Clocks J.Journal (keeping K.Keeper) H.HookHost) (running service.now self.old) (running service.now self.new) }
     {
         let Some(_every) = service.limits.report else {
             return;

@@ -2,7 +2,7 @@
 pub use crate::clocks::Clocks;
 pub use crate::journal::Journal;
 pub use crate::sockets::Sockets;
-pub use endpoints::ImageKeeper;
+pub use change_codec::Keeper;
 pub use hook_host::HookHost;
 use http_edge::Edge;
 use rand_chacha::ChaCha20Rng;

@@ -5,12 +5,12 @@ ghost use Rattle.event_loop.specs.Goes.{NobodyIsSilent, HearsOf, LeadsToHearing,
 use crate::limits::PLACES;
 use crate::service::Service;
 use crate::sockets::{Ready, Sockets};
-use crate::tools::{Clocks, HookHost, ImageKeeper, Journal, Tools};
+use crate::tools::{Clocks, HookHost, Journal, Keeper, Tools};
 
-impl<N: Sockets, C: Clocks, J: Journal, K: ImageKeeper, H: HookHost> Tools<N, C, J, K, H> {
+impl<N: Sockets, C: Clocks, J: Journal, K: Keeper, H: HookHost> Tools<N, C, J, K, H> {
     // What was found ready is noted.
     fn hear(&self, service: &mut Service, ready: Ready)
-        ensures hears { HearsOf (promises N.Sockets C.Clocks J.Journal (keeping K.Keeper K.ImageKeeper.own) H.HookHost) ready (running service.old self.now) (running service.new self.now) }
+        ensures hears { HearsOf (promises N.Sockets C.Clocks J.Journal (keeping K.Keeper) H.HookHost) ready (running service.old self.now) (running service.new self.now) }
         ensures within { NobodyIsSilent service.old → NobodyIsSilent service.new }
     {
         match ready {
@@ -33,7 +33,7 @@ impl<N: Sockets, C: Clocks, J: Journal, K: ImageKeeper, H: HookHost> Tools<N, C,
 
     /// All that was found ready is noted.
     pub(crate) fn hear_all(&self, service: &mut Service, found: &[Ready])
-        ensures hears { LeadsToHearing (promises N.Sockets C.Clocks J.Journal (keeping K.Keeper K.ImageKeeper.own) H.HookHost) found.now (running service.old self.now) [] (running service.new self.now) }
+        ensures hears { LeadsToHearing (promises N.Sockets C.Clocks J.Journal (keeping K.Keeper) H.HookHost) found.now (running service.old self.now) [] (running service.new self.now) }
         ensures within { NobodyIsSilent service.old → NobodyIsSilent service.new }
     {
         for index in 0..found.len() {
@@ -43,7 +43,7 @@ impl<N: Sockets, C: Clocks, J: Journal, K: ImageKeeper, H: HookHost> Tools<N, C,
 
     /// Each connection where something may be due is read once, where it may be.
     pub(crate) fn read_all(&mut self, service: &mut Service)
-        ensures { LeadsReading (promises N.Sockets C.Clocks J.Journal (keeping K.Keeper K.ImageKeeper.own) H.HookHost) 64 (running service.old self.old) (running service.new self.new) }
+        ensures { LeadsReading (promises N.Sockets C.Clocks J.Journal (keeping K.Keeper) H.HookHost) 64 (running service.old self.old) (running service.new self.new) }
     {
         for k in 0..service.due.end() {
             if !service.due.is_at(k) {
@@ -55,7 +55,7 @@ impl<N: Sockets, C: Clocks, J: Journal, K: ImageKeeper, H: HookHost> Tools<N, C,
 
     /// Each connection where something may be due is written to once, where it may be, and closed where it is over.
     pub(crate) fn write_all(&mut self, service: &mut Service)
-        ensures { LeadsWriting (promises N.Sockets C.Clocks J.Journal (keeping K.Keeper K.ImageKeeper.own) H.HookHost) 64 (running service.old self.old) (running service.new self.new) }
+        ensures { LeadsWriting (promises N.Sockets C.Clocks J.Journal (keeping K.Keeper) H.HookHost) 64 (running service.old self.old) (running service.new self.new) }
     {
         for k in 0..service.due.end() {
             if !service.due.is_at(k) {

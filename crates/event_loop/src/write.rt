@@ -6,14 +6,14 @@ use crate::fault::ConnectionFault;
 use crate::place::{Place, Stage};
 use crate::service::Service;
 use crate::sockets::{Sent, Sockets};
-use crate::tools::{Clocks, HookHost, ImageKeeper, Journal, Tools};
+use crate::tools::{Clocks, HookHost, Journal, Keeper, Tools};
 use http_edge::ConnectionNo;
 
-impl<N: Sockets, C: Clocks, J: Journal, K: ImageKeeper, H: HookHost> Tools<N, C, J, K, H> {
+impl<N: Sockets, C: Clocks, J: Journal, K: Keeper, H: HookHost> Tools<N, C, J, K, H> {
     /// Writes to a connection once, where there is output and the socket may take it.
     pub(crate) fn write(&mut self, service: &mut Service, k: u32)
         requires bound { k < 64 }
-        ensures acts { LeadsToActs (promises N.Sockets C.Clocks J.Journal (keeping K.Keeper K.ImageKeeper.own) H.HookHost) (to_write k) (running service.old self.old) (running service.new self.new) }
+        ensures acts { LeadsToActs (promises N.Sockets C.Clocks J.Journal (keeping K.Keeper) H.HookHost) (to_write k) (running service.old self.old) (running service.new self.new) }
         ensures due { service.new.due ≡ service.old.due }
     {
         let i = k as usize;

@@ -1,15 +1,15 @@
 -- What a crash leaves of a life whose loop served.
-use Rattle.std.proofs.Common.{◌≡◌, ◌≤◌, ◌⊎◌, ⊎_elim, inl, inr, ℕ, List, [], Some, refl, sym, ap, subst, ◌∙◌, arith}
+use Rattle.std.proofs.Common.{◌≡◌, ◌≤◌, ◌⊎◌, ⊎_elim, inl, inr, ℕ, List, [], Option, Some, refl, sym, ap, subst, ◌∙◌, arith}
 use Rattle.lifetime.proofs.Names.{recovered, HoldsBasis, IsFrontOf, Rules, TellsBasis, Event, AllRight, IsBounded, HostRun, Outset, outset_of, Carries, KeeperHolds, Onward, StandsBetween}
 use Rattle.lifetime.proofs.Names.{front_then, same_front, served_on, served_onward, HasServed, LoopState, Served, begins, Tools, Named, SeenEdge, Journey, Reached, SeenKeeper, StandFor, StandsFor}
 use Rattle.lifetime.proofs.Names.{IsPutOn, Tell, TellsRules, rules_of, Given, LifePromises, in_loop, HasLived, IsWhole, Leaves, LeavesKept, LosesNothing, loop_of, Begun, Ending}
 use Rattle.change_codec.specs.Keeping as keeping
-use Rattle.state_file.specs.Knowing.{MayBe}
+use Rattle.state_keeper.specs.Seen.{AreDrafted, MayBe}
 use Rattle.hook_chain.specs.contracts.chain.ChainHookHost.TheImpl as chain
 use Rattle.lifetime.proofs.Losing.{Bears, leaves_then, more_loses, old_or_loses, whole_by}
 use Rattle.event_loop.proofs.Fronts.{served_front}
 use Rattle.event_loop.specs.EndsLaws.{blamed_failed}
-use Rattle.state_file.proofs.Put.{leaves_weaker}
+use Rattle.state_keeper.proofs.Put.{leaves_weaker}
 
 module _ {D N C J : Type 0} (p : LifePromises D N C J) (only_now : (d : D) (c : List ℕ) → p.device.left_since d (p.device.moment d) c → p.device.may_leave d c)
     (given : Given D N C J) (begun : Begun D N C J) (before : List Event) (put : IsPutOn p.device begun.outlook.plan.prepared.batches given.device begun.keeper)
@@ -21,6 +21,11 @@ module _ {D N C J : Type 0} (p : LifePromises D N C J) (only_now : (d : D) (c : 
   put_left : (c : List ℕ) → p.device.may_leave begun.keeper.file.device c ⊎ (c ≡ p.device.seen begun.keeper.file.device) → recovered c ≡ begun.outlook.plan.prepared.batches
   put_left c left = ap recovered (⊎_elim (put.durable c) (λ same. same) left) ∙ put.seen
 
+  -- no shortening is on the way
+  undrafted : (c : List ℕ) → AreDrafted begun.keeper.front (recovered (p.device.seen begun.keeper.file.device)) (recovered c) → ⊥
+  undrafted c draft =
+      subst (λ (front : Option (List (List ℕ))). AreDrafted front (recovered (p.device.seen begun.keeper.file.device)) (recovered c)) put.unbegun draft
+
   module _ (edge : SeenEdge (List Named)) (ending : Ending N C J (SeenKeeper D))
       (served : HasServed (in_loop p) (loop_of given begun edge before) ending.fault ending.tools) where
     first_keeper : served.first.keeper ≡ begun.keeper
@@ -30,7 +35,8 @@ module _ {D N C J : Type 0} (p : LifePromises D N C J) (only_now : (d : D) (c : 
     first_kept = ap (λ (j : Journey (List Named)). j.world.kept) served.journey_is
 
     first_left : (c : List ℕ) → MayBe p.device served.first.keeper c → recovered c ≡ begun.outlook.plan.prepared.batches
-    first_left c left = put_left c (⊎_elim (λ may. inl may) (λ same. inr same.1) (subst (λ (k : SeenKeeper D). MayBe p.device k c) first_keeper left))
+    first_left c left =
+        put_left c (⊎_elim (λ may. inl may) (λ read. ⊎_elim (λ same. inr same) (λ draft. absurd (undrafted c draft)) read.1) (subst (λ (k : SeenKeeper D). MayBe p.device k c) first_keeper left))
 
     first_holds : KeeperHolds (in_loop p) served.first
     first_holds kept is c left =

@@ -3,7 +3,7 @@ use Rattle.std.proofs.Common.{◌≡◌, ⊎_elim, inl, inr, ℕ, List, [], refl
 use Rattle.lifetime.proofs.Names.{recovered, IsFrontOf, RegistryRecord, Event, AllRight, HostRun, Named, StandFor, StandsFor, IsOldOr, Tell, TellsRules, rules_of, Given, LifePromises}
 use Rattle.lifetime.proofs.Names.{IsWhole, Leaves, LosesNothing, front_then, same_front}
 use Rattle.state_file.specs.ReplayingLaws.{front_run}
-use Rattle.state_file.proofs.Put.{leaves_weaker}
+use Rattle.state_keeper.proofs.Put.{leaves_weaker}
 use Rattle.state_file.specs.ResumingLaws.{right_before}
 use Rattle.hook_chain.specs.contracts.chain.ChainHookHost.TheImpl as chain
 

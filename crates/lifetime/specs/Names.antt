@@ -1,9 +1,9 @@
 -- The names of types and of other crates that more than one file of these definitions uses.
 pub use Rattle.batch_file.specs.Crashes.{LeavesOnly}
+pub use Rattle.change_codec.specs.Keepers.{Keeping, keeping}
 pub use Rattle.change_codec.specs.Keeping.{IsFrontOf}
 pub use Rattle.clients.specs.RegistryRecord.{RegistryRecord}
 pub use Rattle.consent.specs.History.{Event}
-pub use Rattle.endpoints.specs.Keeping.{Keeping, keeping}
 pub use Rattle.endpoints.specs.Server.{Outset, outset_of, SeenServer}
 pub use Rattle.event_loop.specs.Durable.{Onward}
 pub use Rattle.event_loop.specs.Ends.{Beginning, HasServed, ServesNothing}
@@ -17,9 +17,9 @@ pub use Rattle.http_edge.specs.Reached.{new_journey, Reached, resumed_journey, J
 pub use Rattle.rules_codec.specs.Facts.{HookFact}
 pub use Rattle.lifetime.specs.declared.life.LifeEnd.{LifeEnd}
 pub use Rattle.lifetime.specs.declared.life.LifeEnd.TheVariants.{Refused, Stopped, Unopened}
-pub use Rattle.state_file.specs.Knowing.{SeenKeeper, IsLongFile, file_crashes}
+pub use Rattle.state_keeper.specs.Seen.{SeenKeeper, IsLongFile, ShortensFile, file_crashes}
 pub use Rattle.state_file.specs.Runs.{WasLived, OfEachRun}
 pub use Rattle.state_file.specs.Standing.{StandsFor, IsMomentTold, until_of}
-pub use Rattle.state_file.specs.Starting.{IsOfDisk, IsUntouched, IsOldOr, IsPutOn}
+pub use Rattle.state_keeper.specs.Starting.{IsOfDisk, IsUntouched, IsOldOr, IsPutOn}
 pub use Rattle.state_file.specs.Telling.{TellsRules, rules_of, Tell}
 pub use Rattle.state_file.specs.declared.fault.StateFault.{StateFault}

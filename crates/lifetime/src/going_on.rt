@@ -1,7 +1,7 @@
 //! A server that serves its connections until it can't go on.
 
 ghost use Rattle.std.specs.Prelude.{◌≢◌};
-ghost use Rattle.endpoints.specs.Keeping.{keeping};
+ghost use Rattle.change_codec.specs.Keepers.{keeping};
 ghost use Rattle.event_loop.specs.Ends.{RunEnds};
 ghost use Rattle.event_loop.specs.LoopStates.{promises};
 ghost use Rattle.event_loop.specs.declared.fault.LoopFault.TheVariants.{Keep};
@@ -9,9 +9,9 @@ ghost use Rattle.lifetime.specs.Anew.{IsLifeAnew, keeping_nothing};
 ghost use Rattle.lifetime.specs.Serving.{tools_of};
 
 use crate::means::Means;
-use change_codec::NoKeeper;
+use change_codec::{Keeper, NoKeeper};
 use clients::Registry;
-use endpoints::{ImageKeeper, Server};
+use endpoints::Server;
 use event_loop::{Clocks, Journal, LoopFault, Sockets, Tools, serve_all};
 use hook_chain::Chain;
 use hook_host::HookHost;
@@ -28,12 +28,12 @@ pub(crate) struct Ending<N, C, J, K> {
 }
 
 /// Serves up to 64 connections at once, by an edge and with what it is handed, until it can't go on.
-pub(crate) fn serve_by<N: Sockets, C: Clocks, J: Journal, K: ImageKeeper>(
+pub(crate) fn serve_by<N: Sockets, C: Clocks, J: Journal, K: Keeper>(
     edge: Edge<Chain>,
     keeper: K,
     means: Means<N, C, J>,
 ) -> Ending<N, C, J, K>
-    ensures { RunEnds (promises N.Sockets C.Clocks J.Journal (keeping K.Keeper K.ImageKeeper.own) ⟦<Chain as HookHost>⟧)
+    ensures { RunEnds (promises N.Sockets C.Clocks J.Journal (keeping K.Keeper) ⟦<Chain as HookHost>⟧)
         means.limits (tools_of means keeper edge) result.fault result.tools }
 {
     let limits = means.limits;

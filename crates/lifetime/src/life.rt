@@ -18,7 +18,8 @@ use clients::Registry;
 use event_loop::{Clocks, Journal, LoopFault, Sockets};
 use http_edge::Edge;
 use rules_codec::KeptHook;
-use state_file::{NotStarted, Started, StateFault};
+use state_file::StateFault;
+use state_keeper::{NotStarted, Started};
 use std::alloc::Global;
 
 /// Why a life ended.

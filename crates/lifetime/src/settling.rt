@@ -3,14 +3,15 @@
 ghost use Rattle.std.specs.Prelude.{◌≡◌, IfOk, IfErr, OnOk, OnErr};
 ghost use Rattle.batch_file.specs.Crashes.{LeavesOnly};
 ghost use Rattle.lifetime.specs.Starts.{MayReport, ReportsAll, ahead_notices, ended_notices, start_notices, torn_notices};
-ghost use Rattle.state_file.specs.Starting.{IsOfDisk, IsOldOr, IsPutOn, IsUntouched};
+ghost use Rattle.state_keeper.specs.Starting.{IsOfDisk, IsOldOr, IsPutOn, IsUntouched};
 
 use crate::clock::seconds_ahead;
 use crate::plan::Plan;
 use batch_file::device::{Device, DeviceFault};
 use event_loop::{Journal, Notice, Times};
 use hook_chain::Chain;
-use state_file::{NotStarted, Started, StateFault};
+use state_file::StateFault;
+use state_keeper::{NotStarted, Started};
 
 /// A state that is no more seconds ahead of the clock is not told: a horizon of its moment may be as many.
 const QUIET: u64 = 10;
@@ -77,7 +78,7 @@ pub(crate) fn settle<D: Device + Drop, J: Journal>(
         return Err(NotStarted { fault, device });
     }
     let ahead = seconds_ahead(now, plan.prepared.moment());
-    let started = plan.prepared.settle(device)?;
+    let started = state_keeper::settle(plan.prepared, device)?;
     tell_ended(plan.ended, journal);
     tell_ahead(ahead, journal);
     Ok(started)

@@ -1,7 +1,7 @@
 //! A file of batches over files without a system: which calls are made of them, and in which order.
 
 use batch_file::appending::BatchFile;
-use batch_file::device::Device;
+use batch_file::device::{Device, ReplaceFault};
 use batch_file::disk_file::{DiskFile, Opened, SystemFile, make};
 use batch_file::frames::Frames;
 use std::alloc::{AllocError, Allocator, Global};
@@ -61,8 +61,8 @@ impl Alloc for Machine<'_> {
     }
 }
 
-/// What a file has for one who reads at a place.
-const THERE: [u8; 3] = *b"abc";
+/// What a file has for one who reads at a place: a file of the batch `abc`.
+const THERE: [u8; 41] = *b"oauthd state v3\n\xff\0\0\0\x03UpJO_\x04\xac\xab`6\xb0\x84}f*\xbaabc\0";
 
 /// An open file or folder. It goes by the name under which it was opened, also once it was renamed.
 #[derive(Drop)]
@@ -120,8 +120,9 @@ impl FileExt for Open<'_> {
     fn read_at(&self, buf: &mut [u8], offset: u64) -> io::Result<usize> {
         let call = format!(in self.machine.alloc; "read at {offset}")?;
         self.machine.try_call(&call, &self.path)?;
-        let size = buf.len().min(THERE.len());
-        buf[..size].copy_from_slice(&THERE[..size]);
+        let at = (offset as usize).min(THERE.len());
+        let size = buf.len().min(THERE.len() - at);
+        buf[..size].copy_from_slice(&THERE[at..at + size]);
         Ok(size)
     }
 
@@ -205,6 +206,7 @@ enum Call {
     Append,
     Read,
     Replace,
+    PutNext,
     SetAside,
     Make,
 }
@@ -228,15 +230,29 @@ fn told_bytes<E: Debug + Drop>(
     }
 }
 
-/// Opens a file. For another call it then puts one of no batch in its place, and does that, over a disk that refuses a sync
-/// or a read once so many have succeeded. It gives how the call ended.
+/// Writes a next file in two pieces, each on the disk before what follows, and puts it in the place of a file.
+fn put_next<D: Device>(device: &mut D) -> Result<(), ReplaceFault> {
+    device.begin_next()?;
+    device.add_to_next(b"ab")?;
+    device.sync_next()?;
+    device.add_to_next(b"c")?;
+    device.sync_next()?;
+    device.place_next()
+}
+
+/// Opens a file. For another call it then puts one in its place, of a batch where that is to be read, else of none, and does
+/// that, over a disk that refuses a sync or a read once so many have succeeded. It gives how the call ended.
 fn ended(machine: Machine<'_>, call: Call, successes: usize) -> Result<String, Fail> {
     let Machine { alloc, calls } = machine;
     let opened = DiskFile::open(&machine, "state")?;
     if let Call::Open = call {
         return Ok(String::from_str(alloc, "done")?);
     }
-    let Ok(mut file) = BatchFile::place(opened.device, Frames::new(alloc)?) else {
+    let mut frames = Frames::new(alloc)?;
+    if let Call::Read = call {
+        frames.add(b"abc")?;
+    }
+    let Ok(mut file) = BatchFile::place(opened.device, frames) else {
         return Err(Fail::from("no file is put there"));
     };
     if let Ok(mut rows) = calls.rows.try_borrow_mut() {
@@ -246,8 +262,9 @@ fn ended(machine: Machine<'_>, call: Call, successes: usize) -> Result<String, F
     Ok(match call {
         Call::Open => String::new(alloc),
         Call::Append => told(alloc, file.append(b"abc"))?,
-        Call::Read => told_bytes(alloc, file.read(alloc))?,
+        Call::Read => told_bytes(alloc, file.read_batch(alloc, 16))?,
         Call::Replace => told(alloc, file.replace(Frames::new(alloc)?))?,
+        Call::PutNext => told(alloc, put_next(&mut file.device))?,
         Call::SetAside => told(alloc, file.device.set_aside(b"abc"))?,
         Call::Make => told(alloc, make(&machine, "other", b"abc"))?,
     })
@@ -267,7 +284,8 @@ const APPENDED: [&str; 6] = [
     "sync_data state.next",
 ];
 
-const READ: [&str; 1] = ["read at 0 state.next"];
+/// What stands before the batch, and the batch.
+const READ: [&str; 2] = ["read at 16 state.next", "read at 37 state.next"];
 
 /// The next file is on the disk before it has the name, and the name before it is acknowledged.
 const REPLACED: [&str; 7] = [
@@ -275,6 +293,19 @@ const REPLACED: [&str; 7] = [
     "make state.next",
     "set_permissions state.next",
     "write state.next 6f61757468642073746174652076330a00",
+    "sync_all state.next",
+    "rename state.next to state",
+    "sync_all .",
+];
+
+/// All of the next file is on the disk before it has the name, and the name before it is acknowledged.
+const NEXT_PUT: [&str; 9] = [
+    "remove state.next",
+    "make state.next",
+    "set_permissions state.next",
+    "write state.next 6162",
+    "sync_all state.next",
+    "write state.next 63",
     "sync_all state.next",
     "rename state.next to state",
     "sync_all .",
@@ -300,6 +331,8 @@ const FAILED: &str = "Failed(InputOutput)";
 
 const UNPLACED: &str = "remove state.next\nUnplaced(InputOutput)";
 
+const NOT_KEPT: &str = "remove state.next\nFailed(InputOutput)";
+
 const NOT_ASIDE: &str = "remove state.torn\nFailed(InputOutput)";
 
 const UNMADE: &str = "remove other\nMake(InputOutput)";
@@ -307,16 +340,21 @@ const UNMADE: &str = "remove other\nMake(InputOutput)";
 #[test]
 fn what_is_acknowledged_is_on_the_disk(rt: HostRuntime) -> Result<(), Fail> {
     let alloc = rt.alloc();
-    let cases: [(Call, usize, &[&str], &str); 15] = [
+    let cases: [(Call, usize, &[&str], &str); 20] = [
         (Call::Open, 9, &OPENED, "done"),
         (Call::Append, 9, &APPENDED, "done"),
         (Call::Append, 0, &APPENDED[..4], FAILED),
         (Call::Append, 1, &APPENDED, FAILED),
         (Call::Read, 9, &READ, "616263"),
-        (Call::Read, 0, &READ, FAILED),
+        (Call::Read, 0, &READ[..1], FAILED),
+        (Call::Read, 1, &READ, FAILED),
         (Call::Replace, 9, &REPLACED, "done"),
         (Call::Replace, 0, &REPLACED[..5], UNPLACED),
         (Call::Replace, 1, &REPLACED, FAILED),
+        (Call::PutNext, 9, &NEXT_PUT, "done"),
+        (Call::PutNext, 0, &NEXT_PUT[..5], NOT_KEPT),
+        (Call::PutNext, 1, &NEXT_PUT[..7], NOT_KEPT),
+        (Call::PutNext, 2, &NEXT_PUT, FAILED),
         (Call::SetAside, 9, &SET_ASIDE, "done"),
         (Call::SetAside, 0, &SET_ASIDE[..4], NOT_ASIDE),
         (Call::SetAside, 1, &SET_ASIDE, NOT_ASIDE),

@@ -1,12 +1,10 @@
 //! A client whose requests come one a round, some of which change something, over a keeper that fails after so many batches.
 
 use super::sockets::{Count, Ticking, edge_that_notes, limits};
-use change_codec::{Batch, KeepFault, Keeper, decode};
+use change_codec::{Batch, KeepFault, Keeper, Length, ShortenFault, decode};
 use clients::ConfigFault;
 use consent::Moment;
-use endpoints::{ImageFault, ImageKeeper, Server};
 use event_loop::{Accepted, LoopFault, Ready, Received, Sent, Sockets, Tools, serve_all};
-use hook_host::HookHost;
 use rand_chacha::ChaCha20Rng;
 use rand_core::SeedableRng;
 use std::alloc::Global;
@@ -100,15 +98,17 @@ struct Patient<'t> {
     changes: Vec<usize>,
     /// How often it was told the moment.
     moments: usize,
-    /// How often it was asked for an image.
-    images: &'t Cell<usize>,
-    /// Whether it has to refuse them.
-    is_long: bool,
+    /// How often it was to shorten what it keeps.
+    asked: &'t Cell<usize>,
+    /// How many slices are to be gone over.
+    slices: usize,
+    /// Whether it refuses them.
+    is_refusing: bool,
     has_failed: bool,
 }
 
 impl Keeper for Patient<'_> {
-    ghost use Rattle.std.specs.Prelude.{◌≡◌, ⊤, None, true};
+    ghost use Rattle.std.specs.Prelude.{◌≡◌, ◌<◌, ⊤, None, true};
 
     ghost stands_for = { λ _ _. ⊤ };
 
@@ -123,6 +123,12 @@ impl Keeper for Patient<'_> {
     ghost size_of = { λ _. None };
 
     ghost has_failed = { λ keeper. keeper.has_failed ≡ true };
+
+    ghost is_long = { λ keeper. 0 < keeper.slices };
+
+    ghost to_go = { λ keeper. keeper.slices };
+
+    ghost shortens = { λ _ _. ⊥ };
 
     fn keep_moment(&mut self, _now: Moment) -> Result<(), KeepFault> {
         if self.has_failed {
@@ -148,37 +154,30 @@ impl Keeper for Patient<'_> {
         Ok(())
     }
 
+    #[tactic(auto, using(std::proofs::lemmas::Nat::le_or_l))]
+    fn shorten_some(&mut self) -> Result<Length, ShortenFault> {
+        if self.has_failed {
+            return Err(ShortenFault::Failed);
+        }
+        self.asked.set(self.asked.get().wrapping_add(1));
+        if self.slices == 0 {
+            return Ok(Length::Short);
+        }
+        if self.is_refusing {
+            return Err(ShortenFault::Unwritten);
+        }
+        self.slices -= 1;
+        if self.slices == 0 {
+            return Ok(Length::Short);
+        }
+        Ok(Length::Long)
+    }
+
     fn size(&self) -> Option<u64> {
         None
     }
 
     ghost only_now = { λ keeper c left. left };
-}
-
-impl ImageKeeper for Patient<'_> {
-    ghost use Rattle.std.specs.Prelude.{◌≡◌, ⊤, true};
-
-    ghost is_long = { λ keeper. keeper.is_long ≡ true };
-
-    ghost shortens = { λ _ _. ⊤ };
-
-    fn put_image<H: HookHost>(&mut self, server: &Server<H>) -> Result<(), ImageFault> {
-        if self.has_failed {
-            return Err(ImageFault::Failed);
-        }
-        match server.unkept() {
-            Some(batch) if !batch.is_empty() => {
-                self.has_failed = true;
-                return Err(ImageFault::Failed);
-            }
-            _ => self.images.set(self.images.get().wrapping_add(1)),
-        }
-        if self.is_long {
-            Err(ImageFault::Unwritten)
-        } else {
-            Ok(())
-        }
-    }
 }
 
 /// What came of the requests, where so many batches can be kept.
@@ -188,18 +187,21 @@ struct Outcome {
     writes: Vec<usize>,
     changes: Vec<usize>,
     moments: usize,
-    images: usize,
+    asked: usize,
+    slices: usize,
     refusals: u64,
 }
 
+/// Where so many slices are to be gone over, and the keeper refuses that or not.
 fn outcome_of(
     alloc: Global,
     requests: &[&str],
     most: usize,
-    is_long: bool,
+    slices: usize,
+    is_refusing: bool,
 ) -> Result<Outcome, ConfigFault> {
     let kept = Cell::new(0);
-    let images = Cell::new(0);
+    let asked = Cell::new(0);
     let mut tools = Tools {
         sockets: OneClient {
             requests,
@@ -222,8 +224,9 @@ fn outcome_of(
             kept: &kept,
             changes: Vec::new(alloc),
             moments: 0,
-            images: &images,
-            is_long,
+            asked: &asked,
+            slices,
+            is_refusing,
             has_failed: false,
         },
     };
@@ -233,37 +236,52 @@ fn outcome_of(
         writes: tools.sockets.writes,
         changes: tools.keeper.changes,
         moments: tools.keeper.moments,
-        images: images.get(),
+        asked: asked.get(),
+        slices: tools.keeper.slices,
         refusals: tools.journal.refusals,
     })
 }
 
 #[test]
 fn what_changes_is_kept_before_the_reply(rt: HostRuntime) -> Result<(), Fail> {
-    // A round without changes keeps nothing, and where keeping fails, nothing of that round is written. Before each wait an
-    // image is asked for, and behind each the moment is kept.
+    // A round without changes keeps nothing, and where keeping fails, nothing of that round is written. Before each wait the
+    // keeper may shorten what it keeps, and behind each the moment is kept.
     let rows: [(usize, LoopFault, &[usize], &[usize], (usize, usize)); 3] = [
         (9, LoopFault::Wait, &[1, 1, 2], &[1, 1], (5, 4)),
         (1, LoopFault::Keep, &[1, 1], &[1], (4, 4)),
         (0, LoopFault::Keep, &[], &[], (2, 2)),
     ];
-    for (most, fault, writes, changes, (images, moments)) in rows {
-        let outcome = outcome_of(rt.alloc(), &[ASKS, STRAYS, ASKS], most, false)?;
+    for (most, fault, writes, changes, (asked, moments)) in rows {
+        let outcome = outcome_of(rt.alloc(), &[ASKS, STRAYS, ASKS], most, 0, false)?;
         assert_eq!(rt; outcome.fault, fault, "most {most}");
         assert_eq!(rt; outcome.writes.as_slice(), writes, "most {most}");
         assert_eq!(rt; outcome.changes.as_slice(), changes, "most {most}");
-        assert_eq!(rt; outcome.images, images, "most {most}");
+        assert_eq!(rt; outcome.asked, asked, "most {most}");
         assert_eq!(rt; outcome.moments, moments, "most {most}");
     }
     Ok(())
 }
 
 #[test]
-fn a_refused_image_is_tried_each_minute_and_told_once(rt: HostRuntime) -> Result<(), Fail> {
-    let outcome = outcome_of(rt.alloc(), &[STRAYS; 200], 9, true)?;
+fn what_is_kept_is_shortened_while_requests_are_answered(rt: HostRuntime) -> Result<(), Fail> {
+    // By a slice in each of five rounds.
+    let writes: &[usize] = &[1, 1, 2];
+    let rows: [(usize, usize); 2] = [(3, 0), (7, 2)];
+    for (slices, left) in rows {
+        let outcome = outcome_of(rt.alloc(), &[ASKS, STRAYS, ASKS], 9, slices, false)?;
+        assert_eq!(rt; outcome.writes.as_slice(), writes, "slices {slices}");
+        assert_eq!(rt; outcome.asked, 5, "slices {slices}");
+        assert_eq!(rt; outcome.slices, left, "slices {slices}");
+    }
+    Ok(())
+}
+
+#[test]
+fn a_refusal_to_shorten_is_tried_each_minute_and_told_once(rt: HostRuntime) -> Result<(), Fail> {
+    let outcome = outcome_of(rt.alloc(), &[STRAYS; 200], 9, 1, true)?;
     assert_eq!(rt; outcome.fault, LoopFault::Wait);
     // In the seconds 1, 61, 121 and 181.
-    assert_eq!(rt; outcome.images, 4);
+    assert_eq!(rt; outcome.asked, 4);
     assert_eq!(rt; outcome.refusals, 1);
     Ok(())
 }

@@ -284,7 +284,7 @@ impl Clocks for Ticking {
     }
 }
 
-/// How many reports were told, and the last one, and how often that an image is refused.
+/// How many reports were told, and the last one, and how often that shortening is refused.
 #[derive(Drop)]
 pub(super) struct Count {
     pub(super) reports: u64,
@@ -307,7 +307,7 @@ impl Journal for Count {
                 self.reports = self.reports.saturating_add(1);
                 self.last = Some(*report);
             }
-            Notice::ImageRefused => self.refusals = self.refusals.saturating_add(1),
+            Notice::ShorteningRefused => self.refusals = self.refusals.saturating_add(1),
             _ => {}
         }
     }

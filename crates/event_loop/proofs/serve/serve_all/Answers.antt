@@ -13,7 +13,7 @@ returns-in_default g c = λ journey reached. inr (record { is_clock = refl; cloc
 
 pub returns : goal.returns
 returns g c = λ journey reached.
-    let p = promises g.N.Sockets g.C.Clocks g.J.Journal (keeping g.K.Keeper g.K.ImageKeeper) g.H.HookHost in
+    let p = promises g.N.Sockets g.C.Clocks g.J.Journal (keeping g.K.Keeper) g.H.HookHost in
     let past : Past g.row.H.Denot = record { calls = []; journey = journey } in
     let first : LoopState g.row.N.Denot g.row.C.Denot g.row.J.Denot g.row.K.Denot g.row.H.Denot = state_of (running c.new-service.result (record c.args.tools.now { clocks = c.read.new.self })) [] past in
     let held : c.new-service.result.held ≡ journey.world.greatest = c.new-service.ensures.held ∙ c.moment.ensures ∙ (rw c.server.ensures reached.server.greatest_is) in
@@ -26,7 +26,7 @@ returns g c = λ journey reached.
       calm = record { idle = nobody _; crowded = λ waits. nobody _; tried = λ since barred. (let not : Empty ≡ Barred since = sym c.new-service.ensures.queue ∙ barred in absurd (cc)) };
       reported = λ every wanted. inl (ap (λ (l : LastTold). l.report) is_first.told);
     } in
-    let wrong = c.rounds-fault.ensures first past (begins is_first) ready in
+    let wrong = c.rounds-fault.ensures first past (begins is_first) ready (λ done. done) in
     let failed = state_of (running c.rounds-fault.new.service c.rounds-fault.new.self) wrong.found wrong.next in
     let last_reached = (served_answered p first wrong.last wrong.served).reached in
     let shut = c.leave_all.ensures.shut failed wrong.found wrong.next stops ((fails_does p wrong.last failed _ wrong.fails).reached last_reached) in

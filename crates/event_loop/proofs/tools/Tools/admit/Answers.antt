@@ -3,7 +3,7 @@ use Rattle.event_loop.proofs.Names.{IsPlaceAtRest, Opened, connection_at, fresh,
 use Rattle.event_loop.specs.Coming.{fails}
 use Rattle.event_loop.specs.declared.sockets.Accepted.TheVariants as accepted
 use Rattle.event_loop.specs.Calls as call
-use Rattle.event_loop.proofs.Doing.{one_more, done_then}
+use Rattle.event_loop.proofs.Doing.{one_more, not_of_kind, done_then}
 use Rattle.event_loop.proofs.Leading.{goes_still}
 use Rattle.event_loop.proofs.Putting.{put_within}
 use Rattle.event_loop.proofs.Others.{opens_other}
@@ -14,7 +14,7 @@ use Rattle.event_loop.proofs.tools.Tools.admit.Goals as goal
 
 pub returns-in-Ok-clause-leads : goal.returns-in-Ok-clause-leads
 returns-in-Ok-clause-leads g c = λ found first past h settled.
-    let reached = (served_answered (promises g.N.Sockets g.C.Clocks g.J.Journal (keeping g.K.Keeper g.K.ImageKeeper) g.H.HookHost) first _ h).reached in
+    let reached = (served_answered (promises g.N.Sockets g.C.Clocks g.J.Journal (keeping g.K.Keeper) g.H.HookHost) first _ h).reached in
     let k = c.args.k in
     let place = fresh_place c.args.service.now.times.steady in
     let on = rw c.new.ensures at (c.in-Ok.ensures.done past.journey reached) in
@@ -28,22 +28,23 @@ returns-in-Ok-clause-leads g c = λ found first past h settled.
         served = rw c.saturating_add-service.ensures (goes h (comes _ c.requires.told (opens k c.accept.new.self c.event.new.self on c.requires.bound c.requires.free c.in-Taken.ensures)));
         settled =
             all_settled k c.args.service.now past service next (put_others k c.args.service.now service place past.journey.world on.world refl (λ j other. refl) (λ j other. opens_other past.journey.world on.world k j on.happens other))
-            (one_more _ _ refl refl (λ kind t. inr t)) settled (put_settled k c.args.service.now service place next refl rests (λ e. omega arith));
-        done = one_more _ _ refl refl (λ kind t. inr t);
+            (one_more _ _ refl refl (λ kind t. inr t) (not_of_kind _ _ (λ is. absurd (cc)))) settled (put_settled k c.args.service.now service place next refl rests (λ e. omega arith));
+        done = one_more _ _ refl refl (λ kind t. inr t) (not_of_kind _ _ (λ is. absurd (cc)));
       };
       tried = λ _. inl refl;
     }
 
 pub returns-in-Err-clause-leads : goal.returns-in-Err-clause-leads
 returns-in-Err-clause-leads g c = λ found first past h settled.
-    let p = promises g.N.Sockets g.C.Clocks g.J.Journal (keeping g.K.Keeper g.K.ImageKeeper) g.H.HookHost in
+    let p = promises g.N.Sockets g.C.Clocks g.J.Journal (keeping g.K.Keeper) g.H.HookHost in
     let reached = (served_answered p first _ h).reached in
     let k = c.args.k in
     let refused = rw c.new.ensures at (c.in-Err.ensures.refused past.journey reached) in
     rw c.in-Err.ensures.err
     (record {
       goes = goes_still p first found past (record past { calls = call.Closed k ∷ call.Tried k accepted.Taken ∷ past.calls }) c.args.service.now _ _ refl refl refl
-          (done_then _ (call.Tried k accepted.Taken ∷ past.calls) _ (one_more _ _ refl refl (λ kind t. inr t)) (one_more _ _ refl refl (λ kind t. inr t)))
+          (done_then _ (call.Tried k accepted.Taken ∷ past.calls) _ (one_more _ _ refl refl (λ kind t. inr t) (not_of_kind call.Shortening past.calls (λ is. absurd (cc))))
+          (one_more _ _ refl refl (λ kind t. inr t) (not_of_kind call.Shortening (call.Tried k accepted.Taken ∷ past.calls) (λ is. absurd (cc)))))
           (goes h (comes _ c.requires.told
           (denies k c.accept.new.self c.close.new.self c.in-Err.fault (noted_in c.note.new.journal c.note.new.noted) c.requires.bound c.requires.free c.in-Taken.ensures refused c.close.ensures c.note.ensures))) settled;
       tried = λ _. inr (inl refl);
@@ -51,13 +52,13 @@ returns-in-Err-clause-leads g c = λ found first past h settled.
 
 pub returns-in-Later-clause-leads : goal.returns-in-Later-clause-leads
 returns-in-Later-clause-leads g c = λ found first past h settled. record {
-  goes = record { next = record past { calls = call.Tried c.args.k accepted.Later ∷ past.calls }; served = goes h (comes _ c.requires.told (finds_nobody c.args.k c.accept.new.self c.in-Later.ensures)); settled = settled_then c.args.service.now past _ _ refl refl refl (one_more _ _ refl refl (λ kind t. inr t)) settled; done = one_more _ _ refl refl (λ kind t. inr t) };
+  goes = record { next = record past { calls = call.Tried c.args.k accepted.Later ∷ past.calls }; served = goes h (comes _ c.requires.told (finds_nobody c.args.k c.accept.new.self c.in-Later.ensures)); settled = settled_then c.args.service.now past _ _ refl refl refl (one_more _ _ refl refl (λ kind t. inr t) (not_of_kind _ _ (λ is. absurd (cc)))) settled; done = one_more _ _ refl refl (λ kind t. inr t) (not_of_kind _ _ (λ is. absurd (cc))) };
   tried = λ _. inl refl;
 }
 
 pub returns-in-Failed-clause-leads : goal.returns-in-Failed-clause-leads
 returns-in-Failed-clause-leads g c = λ found first past h settled. record {
-  goes = record { next = record past { calls = call.Tried c.args.k accepted.Failed ∷ past.calls }; served = goes h (comes _ c.requires.told (fails c.args.k c.accept.new.self (noted_in c.note-in-Failed.new.journal c.note-in-Failed.new.noted) c.in-Failed.ensures c.note-in-Failed.ensures)); settled = settled_then c.args.service.now past _ _ refl refl refl (one_more _ _ refl refl (λ kind t. inr t)) settled; done = one_more _ _ refl refl (λ kind t. inr t) };
+  goes = record { next = record past { calls = call.Tried c.args.k accepted.Failed ∷ past.calls }; served = goes h (comes _ c.requires.told (fails c.args.k c.accept.new.self (noted_in c.note-in-Failed.new.journal c.note-in-Failed.new.noted) c.in-Failed.ensures c.note-in-Failed.ensures)); settled = settled_then c.args.service.now past _ _ refl refl refl (one_more _ _ refl refl (λ kind t. inr t) (not_of_kind _ _ (λ is. absurd (cc)))) settled; done = one_more _ _ refl refl (λ kind t. inr t) (not_of_kind _ _ (λ is. absurd (cc))) };
   tried = λ _. inl refl;
 }
 

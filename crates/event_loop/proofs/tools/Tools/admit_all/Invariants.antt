@@ -4,6 +4,6 @@ use Rattle.event_loop.proofs.tools.Tools.admit_all.Given as goal
 
 abbrev pub invariant-loop-nth : goal.invariant-loop-nth
 invariant-loop-nth g l = record {
-  leads : LeadsToAccepts (promises g.N.Sockets g.C.Clocks g.J.Journal (keeping g.K.Keeper g.K.ImageKeeper) g.H.HookHost) (0 < l._nth) (running l.initial.service l.initial.self) (running l.service l.self);
+  leads : LeadsToAccepts (promises g.N.Sockets g.C.Clocks g.J.Journal (keeping g.K.Keeper) g.H.HookHost) (0 < l._nth) (running l.initial.service l.initial.self) (running l.service l.self);
   calm : IsCalm l.initial.service → IsCalm l.service;
 }

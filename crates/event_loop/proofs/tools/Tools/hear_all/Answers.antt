@@ -10,7 +10,7 @@ loop-index-preserved g c =
     let i = c.loop-index.index in
     let all = c.args.found.now in
     let cons : drop i all ≡ _ ∷ drop (i + 1) all = rw add-one (drop-cons all i _ (omega (arith, c.loop-index-test.true))) in
-    let P : List Ready → Type 0 = λ l. LeadsToHearing (promises g.N.Sockets g.C.Clocks g.J.Journal (keeping g.K.Keeper g.K.ImageKeeper) g.H.HookHost) c.args.found.now (running c.args.service.now c.args.self.now) l (running c.loop-index.service c.args.self.now) in
+    let P : List Ready → Type 0 = λ l. LeadsToHearing (promises g.N.Sockets g.C.Clocks g.J.Journal (keeping g.K.Keeper) g.H.HookHost) c.args.found.now (running c.args.service.now c.args.self.now) l (running c.loop-index.service c.args.self.now) in
     let before = subst P cons c.loop-index.invariant.hears in
     record {
       hears = λ first past h rested.
@@ -21,7 +21,7 @@ loop-index-preserved g c =
 
 pub returns-clause-hears : goal.returns-clause-hears
 returns-clause-hears g c =
-    let P : List Ready → Type 0 = λ l. LeadsToHearing (promises g.N.Sockets g.C.Clocks g.J.Journal (keeping g.K.Keeper g.K.ImageKeeper) g.H.HookHost) c.args.found.now (running c.args.service.now c.args.self.now) l (running c.loop-index.service c.args.self.now) in
+    let P : List Ready → Type 0 = λ l. LeadsToHearing (promises g.N.Sockets g.C.Clocks g.J.Journal (keeping g.K.Keeper) g.H.HookHost) c.args.found.now (running c.args.service.now c.args.self.now) l (running c.loop-index.service c.args.self.now) in
     subst P (drop_all c.loop-index.index c.args.found.now c.loop-index-test.false) c.loop-index.invariant.hears
 
 pub returns-clause-within : goal.returns-clause-within

@@ -4,6 +4,6 @@ use Rattle.event_loop.proofs.tools.Tools.hear_all.Given as goal
 
 abbrev pub invariant-loop-index : goal.invariant-loop-index
 invariant-loop-index g l = record {
-  hears : LeadsToHearing (promises g.N.Sockets g.C.Clocks g.J.Journal (keeping g.K.Keeper g.K.ImageKeeper) g.H.HookHost) l.found (running l.initial.service l.self) (drop l.index l.found) (running l.service l.self);
+  hears : LeadsToHearing (promises g.N.Sockets g.C.Clocks g.J.Journal (keeping g.K.Keeper) g.H.HookHost) l.found (running l.initial.service l.self) (drop l.index l.found) (running l.service l.self);
   within : NobodyIsSilent l.initial.service → NobodyIsSilent l.service;
 }

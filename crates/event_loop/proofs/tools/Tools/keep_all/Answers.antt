@@ -1,7 +1,7 @@
 use Rattle.std.proofs.Common.{arith, inr, ◌∷◌, [], refl}
 use Rattle.event_loop.proofs.Names.{Kept, led_on, goes, keeps, not_kept}
 use Rattle.event_loop.specs.Calls as call
-use Rattle.event_loop.proofs.Doing.{none_more, not_another}
+use Rattle.event_loop.proofs.Doing.{none_more, not_another, not_of_kind}
 use Rattle.event_loop.proofs.Kept.{kept_connections, all_kept_now}
 use Rattle.event_loop.proofs.tools.Tools.keep_all.Goals as goal
 
@@ -27,9 +27,9 @@ returns-clause-kept g c = λ first found service past undone h reached.
     let on = c.forget_unkept.ensures.kept past.journey reached in
     record {
       next = record { calls = call.Kept ∷ past.calls; journey = led_on past.journey (Kept ∷ []) on.world };
-      served = goes h (keeps c.keep.new.self c.forget_unkept.new.self unkept.0 on undone (c.in-Ok.ensures.kept unkept.0.kept past.journey.world.history unkept.1) c.in-Ok.ensures.basis);
+      served = goes h (keeps c.keep.new.self c.forget_unkept.new.self unkept.0 on undone (c.in-Ok.ensures.kept unkept.0.kept past.journey.world.history unkept.1) c.in-Ok.ensures.basis c.in-Ok.ensures.no_further);
       kept = all_kept_now past.journey.world on.world on.happens;
       connections = kept_connections past.journey.world on.world on.happens;
-      done = record { waits = refl; grows = omega arith; keeps = λ kind t. inr t };
+      done = record { more = record { waits = refl; grows = omega arith; keeps = λ kind t. inr t }; alone = not_of_kind _ _ (λ is. absurd (cc)) };
       alone = λ other differs not. not_another call.Keeping other past.calls differs not;
     }

@@ -23,7 +23,7 @@ loop-k-preserved g c = record {
       record {
         next = away.next;
         shuts = shuts c.loop-k.k c.place_at-place.result before.shuts c.place_at-place.ensures (c.is_taken.ensures.taken c.if-not-is_taken.false) away.closes;
-        reached = closes_reached (promises g.N.Sockets g.C.Clocks g.J.Journal (keeping g.K.Keeper g.K.ImageKeeper) g.H.HookHost) c.loop-k.k c.place_at-place.result _ _ away.closes;
+        reached = closes_reached (promises g.N.Sockets g.C.Clocks g.J.Journal (keeping g.K.Keeper) g.H.HookHost) c.loop-k.k c.place_at-place.result _ _ away.closes;
       };
   size = ap (λ (s : Service). length s.places) c.leave.ensures.rest ∙ length-set c.loop-k.service.places c.loop-k.k (record c.place_at-place.result { stage = Free }) ∙ c.loop-k.invariant.size;
   free = subst (λ (s : Service). (j : ℕ) → j < c.loop-k.k + 1 → IsFreeAt s.places j) (sym c.leave.ensures.rest)

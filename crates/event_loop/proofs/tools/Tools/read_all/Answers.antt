@@ -10,7 +10,7 @@ pub loop-k-init : goal.loop-k-init
 loop-k-init g c = record {
   due = refl;
   reads = λ first found past undone rested h.
-      record { on = on_still (promises g.N.Sockets g.C.Clocks g.J.Journal (keeping g.K.Keeper g.K.ImageKeeper) g.H.HookHost) first _ h; rested = rested; heard = λ j less. absurd (omega (arith, less)); unread = λ j from. undone _; unwritten = λ j. undone _; not_kept = undone _ };
+      record { on = on_still (promises g.N.Sockets g.C.Clocks g.J.Journal (keeping g.K.Keeper) g.H.HookHost) first _ h; rested = rested; heard = λ j less. absurd (omega (arith, less)); unread = λ j from. undone _; unwritten = λ j. undone _; not_kept = undone _ };
 }
 
 pub loop-k-preserved-then-not-is_at : goal.loop-k-preserved-then-not-is_at
@@ -34,7 +34,7 @@ pub loop-k-preserved : goal.loop-k-preserved
 loop-k-preserved g c = record {
   due = c.read.ensures.due ∙ c.loop-k.invariant.due;
   reads = λ first found past undone rested h.
-      let p = promises g.N.Sockets g.C.Clocks g.J.Journal (keeping g.K.Keeper g.K.ImageKeeper) g.H.HookHost in
+      let p = promises g.N.Sockets g.C.Clocks g.J.Journal (keeping g.K.Keeper) g.H.HookHost in
       let k = c.loop-k.k in
       let before = c.loop-k.invariant.reads first found past undone rested h in
       let x = c.read.ensures.acts first found before.on.next (before.unread k (omega arith)) tt before.on.served (served_answered p first _ before.on.served).reached in

@@ -1,83 +1,83 @@
-use Rattle.std.proofs.Common.{rules, add-one, ap, ◌≤◌, ◌-◌, ◌∷◌, take, arith, length, ◌≡◌, subst, sym, ◌∙◌, [], Some, None, ℕ}
-use Rattle.event_loop.proofs.Names.{eqb-true, promises, Service, Accepting, IsDone, goes, Past, running, state_of, Served, no_wait, no_time, no_moment, too_far, keeping}
+use Rattle.std.proofs.Common.{rules, ap, ◌≤◌, ◌-◌, ◌∷◌, take, arith, length, ◌≡◌, subst, refl, sym, ◌∙◌, [], Some, None, ℕ}
+use Rattle.event_loop.proofs.Names.{eqb-true, LoopState, DoneAfter, GoesRound, promises, Service, Accepting, IsDone, goes, Past, running, state_of, Served, no_wait, no_time, no_moment, too_far, keeping}
 use Rattle.event_loop.specs.Served.{waits}
 use Rattle.event_loop.specs.Calls as call
 use Rattle.event_loop.specs.Moments.{seconds_too_far}
 use Rattle.event_loop.proofs.Answering.{served_answered}
 use Rattle.event_loop.proofs.Leading.{to_then, kept_then}
-use Rattle.event_loop.proofs.Leaving.{may_wait, calm_told, told_or_not}
+use Rattle.event_loop.proofs.Leaving.{ComesToWait, may_wait, round_done, one_wait, calm_told, told_or_not}
 use Rattle.event_loop.proofs.tools.Tools.round.Goals as goal
 
-pub returns-in_default-wait-clause-wrong : goal.returns-in_default-wait-clause-wrong
-returns-in_default-wait-clause-wrong g c = λ first past begun was_ready.
+pub returns-in_default-clause-wrong : goal.returns-in_default-clause-wrong
+returns-in_default-clause-wrong g c = λ first past begun was_ready unshortened.
     let size : length c.args.service.now.places ≡ 64 = search rules in
     let room : 65 ≤ length c.wait.new.found = search (rules, arith, c.requires.room) in
-    let may = may_wait (promises g.N.Sockets g.C.Clocks g.J.Journal (keeping g.K.Keeper g.K.ImageKeeper) g.H.HookHost) c.args.service.now c.put_image.new.service c.args.self.now c.put_image.new.self c.wait_limit-limit.result (length c.wait.new.found) size c.in_default.ensures.same c.wait_limit-limit.ensures room c.in_default.ensures.put first past begun was_ready in
+    let may = may_wait (promises g.N.Sockets g.C.Clocks g.J.Journal (keeping g.K.Keeper) g.H.HookHost) c.args.service.now c.shorten_some.new.service c.args.self.now c.shorten_some.new.self c.in-Ok.told c.wait_limit-limit.result (length c.wait.new.found) size c.in-Ok.ensures.same c.wait_limit-limit.ensures room c.in-Ok.ensures.shorter first past begun was_ready unshortened in
     record {
-      last = state_of (running c.put_image.new.service c.put_image.new.self) [] past;
-      served = may.0;
+      last = state_of (running c.shorten_some.new.service c.shorten_some.new.self) [] may.next;
+      served = may.served;
       found = [];
-      next = record past { calls = call.WaitFailed c.wait_limit-limit.result (length c.wait.new.found) ∷ past.calls };
-      fails = no_wait c.wait_limit-limit.result (length c.wait.new.found) c.wait.new.self may.1.1 c.in_default-wait.ensures.done;
+      next = record may.next { calls = call.WaitFailed c.wait_limit-limit.result (length c.wait.new.found) ∷ may.next.calls };
+      fails = no_wait c.wait_limit-limit.result (length c.wait.new.found) c.wait.new.self may.may c.in_default.ensures.done;
     }
 
 pub returns-in_default-read-clause-wrong : goal.returns-in_default-read-clause-wrong
-returns-in_default-read-clause-wrong g c = λ first past begun was_ready.
+returns-in_default-read-clause-wrong g c = λ first past begun was_ready unshortened.
     let heard = take c.in-Some.count c.wait.new.found in
     let size : length c.args.service.now.places ≡ 64 = search rules in
     let room : 65 ≤ length c.wait.new.found = search (rules, arith, c.requires.room) in
-    let may = may_wait (promises g.N.Sockets g.C.Clocks g.J.Journal (keeping g.K.Keeper g.K.ImageKeeper) g.H.HookHost) c.args.service.now c.put_image.new.service c.args.self.now c.put_image.new.self c.wait_limit-limit.result (length c.wait.new.found) size c.in_default.ensures.same c.wait_limit-limit.ensures room c.in_default.ensures.put first past begun was_ready in
+    let may = may_wait (promises g.N.Sockets g.C.Clocks g.J.Journal (keeping g.K.Keeper) g.H.HookHost) c.args.service.now c.shorten_some.new.service c.args.self.now c.shorten_some.new.self c.in-Ok.told c.wait_limit-limit.result (length c.wait.new.found) size c.in-Ok.ensures.same c.wait_limit-limit.ensures room c.in-Ok.ensures.shorter first past begun was_ready unshortened in
     record {
-      last = state_of (running c.put_image.new.service c.put_image.new.self) [] past;
-      served = may.0;
+      last = state_of (running c.shorten_some.new.service c.shorten_some.new.self) [] may.next;
+      served = may.served;
       found = heard;
-      next = record past { calls = call.Waited c.wait_limit-limit.result (length c.wait.new.found) heard ∷ past.calls };
-      fails = no_time c.wait_limit-limit.result (length c.wait.new.found) heard c.wait.new.self c.read.new.self may.1.1 c.in-Some.ensures.done c.in_default-read.ensures;
+      next = record may.next { calls = call.Waited c.wait_limit-limit.result (length c.wait.new.found) heard ∷ may.next.calls };
+      fails = no_time c.wait_limit-limit.result (length c.wait.new.found) heard c.wait.new.self c.read.new.self may.may c.in-Some.ensures.done c.in_default-read.ensures;
     }
 
 pub returns-in-Some-seconds_too_far-clause-wrong : goal.returns-in-Some-seconds_too_far-clause-wrong
-returns-in-Some-seconds_too_far-clause-wrong g c = λ first past begun was_ready.
+returns-in-Some-seconds_too_far-clause-wrong g c = λ first past begun was_ready unshortened.
     let heard = take c.in-Some.count c.wait.new.found in
     let size : length c.args.service.now.places ≡ 64 = search rules in
     let room : 65 ≤ length c.wait.new.found = search (rules, arith, c.requires.room) in
-    let may = may_wait (promises g.N.Sockets g.C.Clocks g.J.Journal (keeping g.K.Keeper g.K.ImageKeeper) g.H.HookHost) c.args.service.now c.put_image.new.service c.args.self.now c.put_image.new.self c.wait_limit-limit.result (length c.wait.new.found) size c.in_default.ensures.same c.wait_limit-limit.ensures room c.in_default.ensures.put first past begun was_ready in
+    let may = may_wait (promises g.N.Sockets g.C.Clocks g.J.Journal (keeping g.K.Keeper) g.H.HookHost) c.args.service.now c.shorten_some.new.service c.args.self.now c.shorten_some.new.self c.in-Ok.told c.wait_limit-limit.result (length c.wait.new.found) size c.in-Ok.ensures.same c.wait_limit-limit.ensures room c.in-Ok.ensures.shorter first past begun was_ready unshortened in
     record {
-      last = state_of (running c.put_image.new.service c.put_image.new.self) [] past;
-      served = may.0;
+      last = state_of (running c.shorten_some.new.service c.shorten_some.new.self) [] may.next;
+      served = may.served;
       found = heard;
-      next = record past { calls = call.Waited c.wait_limit-limit.result (length c.wait.new.found) heard ∷ past.calls };
-      fails = too_far c.wait_limit-limit.result (length c.wait.new.found) heard c.wait.new.self c.in-Some-read.times c.read.new.self c.in-Some-seconds_too_far.seconds may.1.1 c.in-Some.ensures.done c.in-Some-read.ensures (search rules);
+      next = record may.next { calls = call.Waited c.wait_limit-limit.result (length c.wait.new.found) heard ∷ may.next.calls };
+      fails = too_far c.wait_limit-limit.result (length c.wait.new.found) heard c.wait.new.self c.in-Some-read.times c.read.new.self c.in-Some-seconds_too_far.seconds may.may c.in-Some.ensures.done c.in-Some-read.ensures (search rules);
     }
 
 pub returns-in_default-keep_moment-clause-wrong : goal.returns-in_default-keep_moment-clause-wrong
-returns-in_default-keep_moment-clause-wrong g c = λ first past begun was_ready.
+returns-in_default-keep_moment-clause-wrong g c = λ first past begun was_ready unshortened.
     let heard = take c.in-Some.count c.wait.new.found in
     let size : length c.args.service.now.places ≡ 64 = search rules in
     let room : 65 ≤ length c.wait.new.found = search (rules, arith, c.requires.room) in
-    let may = may_wait (promises g.N.Sockets g.C.Clocks g.J.Journal (keeping g.K.Keeper g.K.ImageKeeper) g.H.HookHost) c.args.service.now c.put_image.new.service c.args.self.now c.put_image.new.self c.wait_limit-limit.result (length c.wait.new.found) size c.in_default.ensures.same c.wait_limit-limit.ensures room c.in_default.ensures.put first past begun was_ready in
-    let near : seconds_too_far c.put_image.new.service.limits.ahead (Some c.in-Some-read.times) c.put_image.new.service.held ≡ None = search rules in
+    let may = may_wait (promises g.N.Sockets g.C.Clocks g.J.Journal (keeping g.K.Keeper) g.H.HookHost) c.args.service.now c.shorten_some.new.service c.args.self.now c.shorten_some.new.self c.in-Ok.told c.wait_limit-limit.result (length c.wait.new.found) size c.in-Ok.ensures.same c.wait_limit-limit.ensures room c.in-Ok.ensures.shorter first past begun was_ready unshortened in
+    let near : seconds_too_far c.shorten_some.new.service.limits.ahead (Some c.in-Some-read.times) c.shorten_some.new.service.held ≡ None = search rules in
     record {
-      last = state_of (running c.put_image.new.service c.put_image.new.self) [] past;
-      served = may.0;
+      last = state_of (running c.shorten_some.new.service c.shorten_some.new.self) [] may.next;
+      served = may.served;
       found = heard;
-      next = record past { calls = call.Waited c.wait_limit-limit.result (length c.wait.new.found) heard ∷ past.calls };
-      fails = no_moment c.wait_limit-limit.result (length c.wait.new.found) heard c.wait.new.self c.in-Some-read.times c.read.new.self c.keep_moment.new.self may.1.1 c.in-Some.ensures.done c.in-Some-read.ensures near c.in_default-keep_moment.ensures.lost c.keep_moment.ensures.meanwhile c.in_default-keep_moment.ensures.fails;
+      next = record may.next { calls = call.Waited c.wait_limit-limit.result (length c.wait.new.found) heard ∷ may.next.calls };
+      fails = no_moment c.wait_limit-limit.result (length c.wait.new.found) heard c.wait.new.self c.in-Some-read.times c.read.new.self c.keep_moment.new.self may.may c.in-Some.ensures.done c.in-Some-read.ensures near c.in_default-keep_moment.ensures.lost c.keep_moment.ensures.meanwhile c.in_default-keep_moment.ensures.fails;
     }
 
 pub returns-in-Err-keep_all-clause-wrong : goal.returns-in-Err-keep_all-clause-wrong
-returns-in-Err-keep_all-clause-wrong g c = λ first past begun was_ready.
+returns-in-Err-keep_all-clause-wrong g c = λ first past begun was_ready unshortened.
     let heard = take c.in-Some.count c.wait.new.found in
     let size : length c.args.service.now.places ≡ 64 = search rules in
     let room : 65 ≤ length c.wait.new.found = search (rules, arith, c.requires.room) in
-    let may = may_wait (promises g.N.Sockets g.C.Clocks g.J.Journal (keeping g.K.Keeper g.K.ImageKeeper) g.H.HookHost) c.args.service.now c.put_image.new.service c.args.self.now c.put_image.new.self c.wait_limit-limit.result (length c.wait.new.found) size c.in_default.ensures.same c.wait_limit-limit.ensures room c.in_default.ensures.put first past begun was_ready in
-    let near : seconds_too_far c.put_image.new.service.limits.ahead (Some c.in-Some-read.times) c.put_image.new.service.held ≡ None = search rules in
-    let stepped = goes may.0 (waits c.wait_limit-limit.result (length c.wait.new.found) heard c.wait.new.self c.in-Some-read.times c.read.new.self c.keep_moment.new.self may.1.1 c.in-Some.ensures.done c.in-Some-read.ensures near (record { holds = c.in-Ok.ensures.kept; basis = c.in-Ok.ensures.basis; told = c.in-Ok.ensures.told })) in
-    let since : Past g.row.H.Denot = record past { calls = call.Waited c.wait_limit-limit.result (length c.wait.new.found) heard ∷ past.calls } in
-    let waited = subst (λ (m : ℕ). Served (promises g.N.Sockets g.C.Clocks g.J.Journal (keeping g.K.Keeper g.K.ImageKeeper) g.H.HookHost) first
-    (state_of (running (record c.put_image.new.service { times = c.in-Some-read.times; held = m })
-    (record c.put_image.new.self { sockets = c.wait.new.self; clocks = c.read.new.self; keeper = c.keep_moment.new.self })) heard since))
+    let may = may_wait (promises g.N.Sockets g.C.Clocks g.J.Journal (keeping g.K.Keeper) g.H.HookHost) c.args.service.now c.shorten_some.new.service c.args.self.now c.shorten_some.new.self c.in-Ok.told c.wait_limit-limit.result (length c.wait.new.found) size c.in-Ok.ensures.same c.wait_limit-limit.ensures room c.in-Ok.ensures.shorter first past begun was_ready unshortened in
+    let near : seconds_too_far c.shorten_some.new.service.limits.ahead (Some c.in-Some-read.times) c.shorten_some.new.service.held ≡ None = search rules in
+    let stepped = goes may.served (waits c.wait_limit-limit.result (length c.wait.new.found) heard c.wait.new.self c.in-Some-read.times c.read.new.self c.keep_moment.new.self may.may c.in-Some.ensures.done c.in-Some-read.ensures near (record { holds = c.in-Ok-keep_moment.ensures.kept; basis = c.in-Ok-keep_moment.ensures.basis; told = c.in-Ok-keep_moment.ensures.told }) c.in-Ok-keep_moment.ensures.no_further) in
+    let since : Past g.row.H.Denot = record may.next { calls = call.Waited c.wait_limit-limit.result (length c.wait.new.found) heard ∷ may.next.calls } in
+    let waited = subst (λ (m : ℕ). Served (promises g.N.Sockets g.C.Clocks g.J.Journal (keeping g.K.Keeper) g.H.HookHost) first
+    (state_of (running (record c.shorten_some.new.service { times = c.in-Some-read.times; held = m })
+    (record c.shorten_some.new.self { sockets = c.wait.new.self; clocks = c.read.new.self; keeper = c.keep_moment.new.self })) heard since))
     (sym c.later-service.ensures) stepped in
-    let told = c.hear_all.ensures.hears first since waited (λ k less. (may.1.0.settled k less).rested) in
+    let told = c.hear_all.ensures.hears first since waited (λ k less. (may.ready.settled k less).rested) in
     let read = c.read_all.ensures first [] since (λ kind is. is) told.1 told.0 in
     record {
       last = state_of (running c.read_all.new.service c.read_all.new.self) [] read.on.next;
@@ -88,39 +88,47 @@ returns-in-Err-keep_all-clause-wrong g c = λ first past begun was_ready.
     }
 
 pub returns-clause-goes : goal.returns-clause-goes
-returns-clause-goes g c = λ first past begun was_ready.
-    let p = promises g.N.Sockets g.C.Clocks g.J.Journal (keeping g.K.Keeper g.K.ImageKeeper) g.H.HookHost in
-    let heard = take c.in-Some.count c.wait.new.found in
+returns-clause-goes g c = λ first past begun was_ready unshortened.
     let size : length c.args.service.now.places ≡ 64 = search rules in
     let room : 65 ≤ length c.wait.new.found = search (rules, arith, c.requires.room) in
-    let may = may_wait (promises g.N.Sockets g.C.Clocks g.J.Journal (keeping g.K.Keeper g.K.ImageKeeper) g.H.HookHost) c.args.service.now c.put_image.new.service c.args.self.now c.put_image.new.self c.wait_limit-limit.result (length c.wait.new.found) size c.in_default.ensures.same c.wait_limit-limit.ensures room c.in_default.ensures.put first past begun was_ready in
-    let near : seconds_too_far c.put_image.new.service.limits.ahead (Some c.in-Some-read.times) c.put_image.new.service.held ≡ None = search rules in
-    let stepped = goes may.0 (waits c.wait_limit-limit.result (length c.wait.new.found) heard c.wait.new.self c.in-Some-read.times c.read.new.self c.keep_moment.new.self may.1.1 c.in-Some.ensures.done c.in-Some-read.ensures near (record { holds = c.in-Ok.ensures.kept; basis = c.in-Ok.ensures.basis; told = c.in-Ok.ensures.told })) in
-    let since : Past g.row.H.Denot = record past { calls = call.Waited c.wait_limit-limit.result (length c.wait.new.found) heard ∷ past.calls } in
-    let waited = subst (λ (m : ℕ). Served (promises g.N.Sockets g.C.Clocks g.J.Journal (keeping g.K.Keeper g.K.ImageKeeper) g.H.HookHost) first
-    (state_of (running (record c.put_image.new.service { times = c.in-Some-read.times; held = m })
-    (record c.put_image.new.self { sockets = c.wait.new.self; clocks = c.read.new.self; keeper = c.keep_moment.new.self })) heard since))
-    (sym c.later-service.ensures) stepped in
-    let told = c.hear_all.ensures.hears first since waited (λ k less. (may.1.0.settled k less).rested) in
-    let read = c.read_all.ensures first [] since (λ kind is. is) told.1 told.0 in
-    let written = kept_then p first [] since _ c.read_all.new.service c.write_all.new.service _ c.read_all.new.self c.keep_all.new.self c.write_all.new.self read c.in_default-keep_all.ensures.kept c.write_all.ensures in
-    let on = to_then p [] [] [] _ _ _ _ _ _ (c.tidy.ensures.leads []) (c.make_room.ensures.leads []) first written.on.next written.on.served written.below in
-    let admitted = c.admit_all.ensures.leads [] first on.next on.served on.settled in
-    let last = c.tell.ensures.leads [] first admitted.goes.next admitted.goes.served admitted.goes.settled in
-    let queue : c.tell.new.service.queue ≡ c.admit_all.new.service.queue = ap (λ (s : Service). s.queue) c.tell.ensures.rest in
-    let idle = c.tidy.ensures.within (λ same. written.on.within (c.hear_all.ensures.within (λ k place here taken. subst (λ now. now - place.since ≤ c.put_image.new.service.limits.idle) (sym (eqb-true _ _ same)) (may.1.0.calm.idle k place here taken)))) in
-    record {
-      next = last.next;
-      served = last.served;
-      ready = record {
-        settled = last.settled;
-        queue = told_or_not {P = IsDone Accepting last.next.calls} c.tell.new.service.queue (λ told. last.done.keeps Accepting (admitted.tried (sym queue ∙ told)));
-        calm = calm_told c.admit_all.new.service c.tell.new.service c.tell.ensures.rest (c.admit_all.ensures.calm (c.make_room.ensures.calm idle c.tidy.ensures.tried));
-        reported = c.tell.ensures.reported;
-      };
-      waits_are = last.done.waits ∙ admitted.goes.done.waits ∙ on.done.waits ∙ written.on.done.waits ∙ sym (add-one (call.waits past.calls));
-    }
+    on_from first past (may_wait (promises g.N.Sockets g.C.Clocks g.J.Journal (keeping g.K.Keeper) g.H.HookHost) c.args.service.now c.shorten_some.new.service c.args.self.now c.shorten_some.new.self c.in-Ok.told c.wait_limit-limit.result (length c.wait.new.found) size c.in-Ok.ensures.same c.wait_limit-limit.ensures room c.in-Ok.ensures.shorter first past begun was_ready unshortened)
+  where
+    -- from the wait on
+    on_from : (first : LoopState g.row.N.Denot g.row.C.Denot g.row.J.Denot g.row.K.Denot g.row.H.Denot) (past : Past g.row.H.Denot) →
+        ComesToWait (promises g.N.Sockets g.C.Clocks g.J.Journal (keeping g.K.Keeper) g.H.HookHost) first past (running c.shorten_some.new.service c.shorten_some.new.self) c.wait_limit-limit.result (length c.wait.new.found) →
+        GoesRound (promises g.N.Sockets g.C.Clocks g.J.Journal (keeping g.K.Keeper) g.H.HookHost) first 1 past (running c.tell.new.service c.tell.new.self)
+    on_from first past may =
+        let p = promises g.N.Sockets g.C.Clocks g.J.Journal (keeping g.K.Keeper) g.H.HookHost in
+        let heard = take c.in-Some.count c.wait.new.found in
+        let near : seconds_too_far c.shorten_some.new.service.limits.ahead (Some c.in-Some-read.times) c.shorten_some.new.service.held ≡ None = search rules in
+        let stepped = goes may.served (waits c.wait_limit-limit.result (length c.wait.new.found) heard c.wait.new.self c.in-Some-read.times c.read.new.self c.keep_moment.new.self may.may c.in-Some.ensures.done c.in-Some-read.ensures near (record { holds = c.in-Ok-keep_moment.ensures.kept; basis = c.in-Ok-keep_moment.ensures.basis; told = c.in-Ok-keep_moment.ensures.told }) c.in-Ok-keep_moment.ensures.no_further) in
+        let since : Past g.row.H.Denot = record may.next { calls = call.Waited c.wait_limit-limit.result (length c.wait.new.found) heard ∷ may.next.calls } in
+        let waited = subst (λ (m : ℕ). Served p first
+        (state_of (running (record c.shorten_some.new.service { times = c.in-Some-read.times; held = m })
+        (record c.shorten_some.new.self { sockets = c.wait.new.self; clocks = c.read.new.self; keeper = c.keep_moment.new.self })) heard since))
+        (sym c.later-service.ensures) stepped in
+        let told = c.hear_all.ensures.hears first since waited (λ k less. (may.ready.settled k less).rested) in
+        let read = c.read_all.ensures first [] since (λ kind is. is) told.1 told.0 in
+        let written = kept_then p first [] since _ c.read_all.new.service c.write_all.new.service _ c.read_all.new.self c.keep_all.new.self c.write_all.new.self read c.in_default-keep_all.ensures.kept c.write_all.ensures in
+        let on = to_then p [] [] [] _ _ _ _ _ _ (c.tidy.ensures.leads []) (c.make_room.ensures.leads []) first written.on.next written.on.served written.below in
+        let admitted = c.admit_all.ensures.leads [] first on.next on.served on.settled in
+        let last = c.tell.ensures.leads [] first admitted.goes.next admitted.goes.served admitted.goes.settled in
+        let queue : c.tell.new.service.queue ≡ c.admit_all.new.service.queue = ap (λ (s : Service). s.queue) c.tell.ensures.rest in
+        let idle = c.tidy.ensures.within (λ same. written.on.within (c.hear_all.ensures.within (λ k place here taken. subst (λ now. now - place.since ≤ c.shorten_some.new.service.limits.idle) (sym (eqb-true _ _ same)) (may.ready.calm.idle k place here taken)))) in
+        let done : DoneAfter since.calls last.next.calls = round_done since.calls written.on.next.calls on.next.calls admitted.goes.next.calls last.next.calls written.on.done on.done admitted.goes.done last.done in
+        record {
+          next = last.next;
+          served = last.served;
+          ready = record {
+            settled = last.settled;
+            queue = told_or_not {P = IsDone Accepting last.next.calls} c.tell.new.service.queue (λ told. last.done.more.keeps Accepting (admitted.tried (sym queue ∙ told)));
+            calm = calm_told c.admit_all.new.service c.tell.new.service c.tell.ensures.rest (c.admit_all.ensures.calm (c.make_room.ensures.calm idle c.tidy.ensures.tried));
+            reported = c.tell.ensures.reported;
+          };
+          unshortened = done.alone;
+          waits_are = one_wait past.calls may.next.calls since.calls last.next.calls may.waits_are refl done;
+        }
 
 pub returns-in-Err-clause-wrong : goal.returns-in-Err-clause-wrong
-returns-in-Err-clause-wrong g c = λ first past h ready.
-    record { last = state_of (running c.args.service.now c.args.self.now) [] past; served = h; found = []; next = past; fails = c.in-Err.ensures.failed first [] past h (served_answered _ first _ h).reached }
+returns-in-Err-clause-wrong g c = λ first past h ready unshortened.
+    record { last = state_of (running c.args.service.now c.args.self.now) [] past; served = h; found = []; next = past; fails = c.in-Err.ensures.failed first [] past unshortened h (served_answered _ first _ h).reached }

@@ -3,20 +3,20 @@ use Rattle.event_loop.proofs.Names.{running, state_of, no_more}
 use Rattle.event_loop.proofs.tools.Tools.rounds.Goals as goal
 
 pub loop-nth-init : goal.loop-nth-init
-loop-nth-init g c = λ first past h ready. record { next = past; served = h; ready = ready; waits_are = omega arith }
+loop-nth-init g c = λ first past h ready unshortened. record { next = past; served = h; ready = ready; unshortened = unshortened; waits_are = omega arith }
 
 pub returns-in-Err : goal.returns-in-Err
-returns-in-Err g c = λ first past h ready.
-    let all = c.loop-nth.invariant first past h ready in
-    c.in-Err.ensures.wrong first all.next all.served all.ready
+returns-in-Err g c = λ first past h ready unshortened.
+    let all = c.loop-nth.invariant first past h ready unshortened in
+    c.in-Err.ensures.wrong first all.next all.served all.ready all.unshortened
 
 pub loop-nth-preserved : goal.loop-nth-preserved
-loop-nth-preserved g c = λ first past h ready.
-    let all = c.loop-nth.invariant first past h ready in
-    let one = c.in_default.ensures.goes first all.next all.served all.ready in
-    record { next = one.next; served = one.served; ready = one.ready; waits_are = omega (arith, all.waits_are, one.waits_are) }
+loop-nth-preserved g c = λ first past h ready unshortened.
+    let all = c.loop-nth.invariant first past h ready unshortened in
+    let one = c.in_default.ensures.goes first all.next all.served all.ready all.unshortened in
+    record { next = one.next; served = one.served; ready = one.ready; unshortened = one.unshortened; waits_are = omega (arith, all.waits_are, one.waits_are) }
 
 pub returns : goal.returns
-returns g c = λ first past h ready.
-    let all = c.loop-nth.invariant first past h ready in
+returns g c = λ first past h ready unshortened.
+    let all = c.loop-nth.invariant first past h ready unshortened in
     record { last = state_of (running c.loop-nth.service c.loop-nth.self) [] all.next; served = all.served; found = []; next = all.next; fails = no_more (omega (arith, all.waits_are, c.loop-nth-test.false)) }

@@ -7,7 +7,7 @@ use Rattle.event_loop.proofs.tools.Tools.sweep.Goals as goal
 
 pub loop-k-init : goal.loop-k-init
 loop-k-init g c = record {
-  leads = λ found. nowhere (promises g.N.Sockets g.C.Clocks g.J.Journal (keeping g.K.Keeper g.K.ImageKeeper) g.H.HookHost) found _ _;
+  leads = λ found. nowhere (promises g.N.Sockets g.C.Clocks g.J.Journal (keeping g.K.Keeper) g.H.HookHost) found _ _;
   below = λ j less. absurd (omega (arith, less));
   size = refl;
 }
@@ -32,7 +32,7 @@ loop-k-preserved-then-saturating_sub-service g c = record {
 
 pub loop-k-preserved : goal.loop-k-preserved
 loop-k-preserved g c =
-    let p = promises g.N.Sockets g.C.Clocks g.J.Journal (keeping g.K.Keeper g.K.ImageKeeper) g.H.HookHost in
+    let p = promises g.N.Sockets g.C.Clocks g.J.Journal (keeping g.K.Keeper) g.H.HookHost in
     let place = c.place_at-place.result in
     let long : c.loop-k.service.limits.idle < c.loop-k.service.times.steady - place.since = omega (arith, c.saturating_sub.ensures, c.if-saturating_sub-service.false) in
     record {
@@ -59,7 +59,7 @@ returns-clause-within g c = λ was j place here taken.
     c.loop-k.invariant.below j (omega (arith, size, same, within, c.loop-k-test.false)) place here taken
 
 pub returns-then-is_same_second-clause-leads : goal.returns-then-is_same_second-clause-leads
-returns-then-is_same_second-clause-leads g c = λ found. nowhere (promises g.N.Sockets g.C.Clocks g.J.Journal (keeping g.K.Keeper g.K.ImageKeeper) g.H.HookHost) found _ _
+returns-then-is_same_second-clause-leads g c = λ found. nowhere (promises g.N.Sockets g.C.Clocks g.J.Journal (keeping g.K.Keeper) g.H.HookHost) found _ _
 
 pub returns-then-is_same_second-clause-within : goal.returns-then-is_same_second-clause-within
 returns-then-is_same_second-clause-within g c = λ was. was c.if-is_same_second.true

@@ -5,12 +5,12 @@ use Rattle.event_loop.proofs.Leading.{goes_still, nowhere}
 use Rattle.event_loop.proofs.tools.Tools.tell_full.Goals as goal
 
 pub returns-then-full-service-clause-leads : goal.returns-then-full-service-clause-leads
-returns-then-full-service-clause-leads g c = λ found. nowhere (promises g.N.Sockets g.C.Clocks g.J.Journal (keeping g.K.Keeper g.K.ImageKeeper) g.H.HookHost) found _ _
+returns-then-full-service-clause-leads g c = λ found. nowhere (promises g.N.Sockets g.C.Clocks g.J.Journal (keeping g.K.Keeper) g.H.HookHost) found _ _
 
 pub returns-then-not-is_long_ago-clause-leads : goal.returns-then-not-is_long_ago-clause-leads
 returns-then-not-is_long_ago-clause-leads g c = λ found first past h settled.
-    goes_still (promises g.N.Sockets g.C.Clocks g.J.Journal (keeping g.K.Keeper g.K.ImageKeeper) g.H.HookHost) first found past past c.args.service.now _ _ refl refl refl (none_more past.calls) h settled
+    goes_still (promises g.N.Sockets g.C.Clocks g.J.Journal (keeping g.K.Keeper) g.H.HookHost) first found past past c.args.service.now _ _ refl refl refl (none_more past.calls) h settled
 
 pub returns-clause-leads : goal.returns-clause-leads
 returns-clause-leads g c = λ found first past h settled.
-    goes_still (promises g.N.Sockets g.C.Clocks g.J.Journal (keeping g.K.Keeper g.K.ImageKeeper) g.H.HookHost) first found past past c.args.service.now _ _ refl refl refl (none_more past.calls) (goes h (reports _ _ c.report.new.self (full c.requires.wanted (sym c.is_long_ago.ensures ∙ c.if-not-is_long_ago.false)) c.report.ensures)) settled
+    goes_still (promises g.N.Sockets g.C.Clocks g.J.Journal (keeping g.K.Keeper) g.H.HookHost) first found past past c.args.service.now _ _ refl refl refl (none_more past.calls) (goes h (reports _ _ c.report.new.self (full c.requires.wanted (sym c.is_long_ago.ensures ∙ c.if-not-is_long_ago.false)) c.report.ensures)) settled

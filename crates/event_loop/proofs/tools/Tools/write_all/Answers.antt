@@ -9,7 +9,7 @@ pub loop-k-init : goal.loop-k-init
 loop-k-init g c = record {
   due = c.end-k-end.ensures.none;
   writes = λ first found past rested heard unwritten kept h. record {
-    on = on_still (promises g.N.Sockets g.C.Clocks g.J.Journal (keeping g.K.Keeper g.K.ImageKeeper) g.H.HookHost) first _ h;
+    on = on_still (promises g.N.Sockets g.C.Clocks g.J.Journal (keeping g.K.Keeper) g.H.HookHost) first _ h;
     below = λ j less. absurd (omega (arith, less));
     rested = λ j from less. rested j less;
     heard = λ j from less. heard j less;
@@ -41,9 +41,9 @@ loop-k-preserved g c = record {
   writes = λ first found past rested heard unwritten kept h.
       let k = c.loop-k.k in
       let before = c.loop-k.invariant.writes first found past rested heard unwritten kept h in
-      let turn = turn_then (promises g.N.Sockets g.C.Clocks g.J.Journal (keeping g.K.Keeper g.K.ImageKeeper) g.H.HookHost) k c.loop-k.service c.write.new.service c.settle.new.service c.loop-k.self c.write.new.self c.settle.new.self c.write.ensures.acts c.settle.ensures.tidies first found before.on.next (before.heard k (omega arith) (omega (arith, c.loop-k-test.true))) (before.unwritten k (omega arith)) before.kept before.on.served in
+      let turn = turn_then (promises g.N.Sockets g.C.Clocks g.J.Journal (keeping g.K.Keeper) g.H.HookHost) k c.loop-k.service c.write.new.service c.settle.new.service c.loop-k.self c.write.new.self c.settle.new.self c.write.ensures.acts c.settle.ensures.tidies first found before.on.next (before.heard k (omega arith) (omega (arith, c.loop-k-test.true))) (before.unwritten k (omega arith)) before.kept before.on.served in
       record {
-        on = on_then (promises g.N.Sockets g.C.Clocks g.J.Journal (keeping g.K.Keeper g.K.ImageKeeper) g.H.HookHost) first _ _ _ before.on turn.goes.on;
+        on = on_then (promises g.N.Sockets g.C.Clocks g.J.Journal (keeping g.K.Keeper) g.H.HookHost) first _ _ _ before.on turn.goes.on;
         below = below_more (λ j. IsSettledAt j c.settle.new.service turn.goes.on.next) k
             (λ j less. settled_other k j c.loop-k.service before.on.next c.settle.new.service turn.goes.on.next turn.goes.others turn.goes.on.done (λ is. absurd (omega (arith, less, is))) (before.below j less)) turn.settled;
         rested = λ j from less. rested_other k j c.loop-k.service before.on.next.journey.world c.settle.new.service turn.goes.on.next.journey.world turn.goes.others (λ is. absurd (omega (arith, from, is))) (before.rested j (omega (arith, from)) less);
