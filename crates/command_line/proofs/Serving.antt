@@ -1,20 +1,29 @@
 -- How a service fails.
-use Rattle.std.proofs.Common.{◌≡◌, inl, inr, ℕ, List, Option, None, Some, Result, Ok, Err, subst, sym}
-use Rattle.command_line.specs.Names.{HoldsRegistry, Announces, ListenFault}
-use Rattle.command_line.proofs.Names.{RegistryRecord, IsUntouched, Output, Outputs, HookFact, FailsService, HasAll, HasEnded, ServeEnded, ServiceFiles, handed, registry_bytes}
-use Rattle.command_line.proofs.Names.{address_of, limits_of, EndsAnew, EndsOn, EndsStart, Startings, CommandFault, ServeWords, Service, Serve}
+use Rattle.std.proofs.Common.{◌≡◌, ◌≢◌, inl, inr, ℕ, List, Option, None, Some, Result, Ok, Err, subst, sym}
+use Rattle.command_line.specs.Names.{HoldsRegistry, Announces, CannotWrite, ListenFault}
+use Rattle.command_line.proofs.Names.{RegistryRecord, IsUntouched, Output, Outputs, HookFact, FailsService, HasAll, HasEnded, HasFiles, IsMute, ServeEnded, ServiceFiles, handed, registry_bytes}
+use Rattle.command_line.proofs.Names.{address_of, limits_of, EndsAnew, EndsOn, EndsStart, Startings, CommandFault, ServeWords, Service, Serve, Start}
 use Rattle.std.specs.Prelude.{OnOk, IfErr}
 use Rattle.daemon.specs.ByCount.{handed_count}
 use Rattle.daemon.specs.Starts.{handed_anew, handed_on}
 use Rattle.daemon.specs.declared.fault.OpeningFault.{OpeningFault}
 use Rattle.event_loop.specs.declared.limits.Limits.{Limits}
-use Rattle.command_line.specs.Faults.{IsOfOpening, IsOfService, IsOfServing}
+use Rattle.command_line.specs.Faults.{IsOfListening, IsOfOpening, IsOfService, IsOfServing}
+use Rattle.daemon.specs.declared.fault.ListenFault.TheVariants.{Unwritten}
+
+-- `start` has its files, where it has all
+pub has_files : (service : Service) (files : ServiceFiles) → HasAll service files → HasFiles service files
+has_files (Start given) files all = all
+has_files (Serve given) files all = let is = all.service_is in absurd (cc)
+
+-- where the fault is no failed write, none failed
+pub all_written : (address : List ℕ) (cause : ListenFault) (fault : CommandFault) → IsOfListening address cause fault → fault ≢ CannotWrite → cause ≢ Unwritten
+all_written address cause fault is other same = other (subst (λ (c : ListenFault). IsOfListening address c fault) same is)
 
 -- its server does not listen
-pub not_heard : {W E : Type 0} (starts : Startings) (service : Service) (files : ServiceFiles) (fault : CommandFault) (to : Outputs W E) (registry : RegistryRecord)
-    (cause : ListenFault) → HoldsRegistry (registry_bytes files) registry → IsUntouched to.err → IsOfService service cause fault → FailsService starts service files fault to
-not_heard starts service files fault to registry cause held told is =
-    inl (told, inr (inr (inl (record { registry = registry; held = held; cause = cause; fault_is = is }))))
+pub not_heard : {W E : Type 0} (starts : Startings) (service : Service) (files : ServiceFiles) (fault : CommandFault) (to : Outputs W E) (cause : ListenFault) →
+    HasFiles service files → IsUntouched to.err → IsMute service fault to.out → IsOfService service cause fault → FailsService starts service files fault to
+not_heard starts service files fault to cause ready told mute is = inl (told, inr (record { ready = ready; cause = cause; fault_is = is; mute = mute }))
 
 -- so many connections were served, or none
 pub served : {W T : Type 0} (r : Result T CommandFault) (starts : Startings) (service : Service) (files : ServiceFiles) (out : Output W) (registry : RegistryRecord)
@@ -29,7 +38,7 @@ pub not_served : {W E T : Type 0} (r : Result T CommandFault) (starts : Starting
     IfErr r (λ fault. (cause : ListenFault) × IsOfServing cause fault) → IfErr r (λ fault. FailsService starts service files fault to)
 not_served (Ok u) starts service files to registry given held is same deaf = tt
 not_served (Err f) starts service files to registry given held is same deaf =
-    not_heard starts service files f to registry deaf.0 held same (rw is deaf.1)
+    not_heard starts service files f to deaf.0 (rw is (registry, held)) same (rw is tt) (rw is deaf.1)
 
 -- it was started anew, by all that it has
 pub ended_anew : {W : Type 0} (starts : Startings) (service : Service) (files : ServiceFiles) (fault : CommandFault) (out : Output W) (all : HasAll service files)
@@ -55,7 +64,7 @@ ended_on starts service files fault out all path codes limits named codes_are li
 
 -- that file was not opened
 pub not_opened : {W E : Type 0} (starts : Startings) (service : Service) (files : ServiceFiles) (fault : CommandFault) (to : Outputs W E) (all : HasAll service files)
-    (address path : List ℕ) (cause : OpeningFault) → address_of service ≡ address → all.given.options.state ≡ Some path → IsUntouched to.err →
+    (address path : List ℕ) (cause : OpeningFault) → address_of service ≡ address → all.given.options.state ≡ Some path → IsUntouched to.err → IsUntouched to.out →
     IsOfOpening address path cause fault → FailsService starts service files fault to
-not_opened starts service files fault to all address path cause there named told is =
-    inl (told, inr (inr (inr (record { all = all; path = path; named = named; refused = inr (cause, subst (λ (a : List ℕ). IsOfOpening a path cause fault) (sym there) is) }))))
+not_opened starts service files fault to all address path cause there named told mute is =
+    inl (told, inl (mute, inr (inr (record { all = all; path = path; named = named; refused = inr (cause, subst (λ (a : List ℕ). IsOfOpening a path cause fault) (sym there) is) }))))

@@ -1,6 +1,6 @@
 -- How a service serves, or why it doesn't, or no longer.
-use Rattle.std.specs.Prelude.{◌≡◌, ◌⊎◌, ℕ, List, [], map, Option, Some}
-use Rattle.command_line.specs.Names.{RegistryRecord, Announces, ListenFault, CommandFault, OutOfMemory, Status, Done, StartWords, Serve, Start, HoldsNoRegistry, HoldsRegistry, Named, HookFact}
+use Rattle.std.specs.Prelude.{◌≡◌, ◌≢◌, ◌⊎◌, ⊤, ℕ, List, [], map, Option, Some}
+use Rattle.command_line.specs.Names.{RegistryRecord, Announces, ListenFault, CommandFault, CannotWrite, OutOfMemory, Status, Done, StartWords, Serve, Start, HoldsNoRegistry, HoldsRegistry, Named, HookFact}
 use Rattle.command_line.specs.Names.{IsUntouched, Output, Outputs, TellsFault}
 use Rattle.commands.specs.NamedFiles.{bytes_in}
 use Rattle.command_line.specs.declared.call_files.CallFiles.{CallFiles}
@@ -40,13 +40,6 @@ pub record ServeEnded {W : Type 0} (starts : Startings) (service : Service) (fil
   pub service_is : service ≡ Serve given
   pub served : starts.by_count (handed_count listened.registry given.seed given.count)
 
--- a service's file holds a registry, and its server does not listen at its address, for this fault
-pub record IsDeaf (service : Service) (file : File) (fault : CommandFault) : Type 0 where
-  pub registry : RegistryRecord
-  pub held : HoldsRegistry file registry
-  pub cause : ListenFault
-  pub fault_is : IsOfService service cause fault
-
 -- the hooks of `start` are not all taken, and this is the first one's fault
 pub record LacksHook (service : Service) (files : ServiceFiles) (fault : CommandFault) : Type 0 where
   pub registry : RegistryRecord
@@ -69,17 +62,38 @@ pub record HasAll (service : Service) (files : ServiceFiles) : Type 0 where
 abbrev pub handed : {service : Service} {files : ServiceFiles} → HasAll service files → Handed
 handed all = record { registry = all.registry; hooks = all.hooks; codes = all.codes; options = all.given.options }
 
--- it has, and no socket, or the file of its state is not opened; or memory is refused before
+-- a service has what comes before its socket: its registry and, where it is `start`, its hooks
+abbrev pub HasFiles : Service → ServiceFiles → Type 0
+HasFiles (Serve given) files = (registry : RegistryRecord) × HoldsRegistry (registry_bytes files) registry
+HasFiles (Start given) files = HasAll (Start given) files
+
+-- what `start` prints where it has no socket: nothing, but for a write that failed
+abbrev pub IsMute : {W : Type 0} → Service → CommandFault → Output W → Type 0
+IsMute (Serve given) fault out = ⊤
+IsMute (Start given) fault out = fault ≢ CannotWrite → IsUntouched out
+
+-- a service has its files, and its server does not listen at its address, for this fault
+pub record IsDeaf {W : Type 0} (service : Service) (files : ServiceFiles) (out : Output W) (fault : CommandFault) : Type 0 where
+  pub ready : HasFiles service files
+  pub cause : ListenFault
+  pub fault_is : IsOfService service cause fault
+  pub mute : IsMute service fault out
+
+-- `start` has all, and no socket, or the file of its state is not opened; or memory is refused before
 pub record LacksState (service : Service) (files : ServiceFiles) (fault : CommandFault) : Type 0 where
   pub all : HasAll service files
   pub path : List ℕ
   pub named : all.given.options.state ≡ Some path
   pub refused : (fault ≡ OutOfMemory) ⊎ IsNotOpened (address_of service) path fault
 
--- why a service serves nothing: its registry comes first, then its hooks, then its socket, and then the file of its state
-abbrev pub CannotServe : Service → ServiceFiles → CommandFault → Type 0
-CannotServe service files fault =
-    HoldsNoRegistry (config_of service) (registry_bytes files) fault ⊎ LacksHook service files fault ⊎ IsDeaf service (registry_bytes files) fault ⊎ LacksState service files fault
+-- a service has no registry, not all of its hooks, or no file of its state
+abbrev pub LacksFile : Service → ServiceFiles → CommandFault → Type 0
+LacksFile service files fault = HoldsNoRegistry (config_of service) (registry_bytes files) fault ⊎ LacksHook service files fault ⊎ LacksState service files fault
+
+-- why a service serves nothing: its registry comes first, then its hooks, then its socket, and then the file of its state. Where it
+-- lacks a file, it prints nothing.
+abbrev pub CannotServe : {W : Type 0} → Service → ServiceFiles → Output W → CommandFault → Type 0
+CannotServe service files out fault = (IsUntouched out × LacksFile service files fault) ⊎ IsDeaf service files out fault
 
 -- `start` had all, and its server, on the file of its state where one is named, ended with this fault
 pub record HasEnded {W : Type 0} (starts : Startings) (service : Service) (files : ServiceFiles) (fault : CommandFault) (out : Output W) : Type 0 where
@@ -88,7 +102,7 @@ pub record HasEnded {W : Type 0} (starts : Startings) (service : Service) (files
 
 -- A service ends with a fault: it serves nothing, and has told nothing, or its server ended.
 abbrev pub FailsService : {W E : Type 0} → Startings → Service → ServiceFiles → CommandFault → Outputs W E → Type 0
-FailsService starts service files fault to = (IsUntouched to.err × CannotServe service files fault) ⊎ HasEnded starts service files fault to.out
+FailsService starts service files fault to = (IsUntouched to.err × CannotServe service files to.out fault) ⊎ HasEnded starts service files fault to.out
 
 -- so it did, which is told behind the lines of its journal, and the status is that of the fault
 pub record TellsEnd {W E : Type 0} (starts : Startings) (service : Service) (files : ServiceFiles) (status : Status) (to : Outputs W E) : Type 0 where
@@ -101,4 +115,4 @@ pub record TellsEnd {W E : Type 0} (starts : Startings) (service : Service) (fil
 -- A service ends, with what it prints and what it tells: it served, or it is told why it serves nothing, or its server ended.
 abbrev pub EndsService : {W E : Type 0} → Startings → Service → ServiceFiles → Status → Outputs W E → Type 0
 EndsService starts service files status to =
-    ((status ≡ Done) × ServeEnded starts service files to.out) ⊎ TellsFault (CannotServe service files) status to.err ⊎ TellsEnd starts service files status to
+    ((status ≡ Done) × ServeEnded starts service files to.out) ⊎ TellsFault (CannotServe service files to.out) status to.err ⊎ TellsEnd starts service files status to

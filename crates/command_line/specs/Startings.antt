@@ -1,6 +1,6 @@
 -- How a server is started: anew, or on the file of its state.
-use Rattle.std.specs.Prelude.{◌≡◌, ⊤, ℕ, List, map, Option, Some, None}
-use Rattle.command_line.specs.Names.{RegistryRecord, Output, Announces, IsToldBy, Named, HookFact, hook_fact, LifeEnd, Said, CommandFault, ListenFault, Stopped}
+use Rattle.std.specs.Prelude.{◌≡◌, ◌≢◌, ⊤, ℕ, List, map, Option, Some, None}
+use Rattle.command_line.specs.Names.{RegistryRecord, Output, Announces, IsToldBy, Named, HookFact, hook_fact, LifeEnd, Said, CommandFault, CannotWrite, ListenFault, Stopped}
 use Rattle.std.specs.declared.fs.File.{File}
 use Rattle.batch_file.specs.declared.device.Device.{Ghosts as Device}
 use Rattle.batch_file.specs.declared.disk_file.DiskFile.{DiskFile}
@@ -55,12 +55,13 @@ EndsAnew starts handed fault out =
 abbrev pub EndsOn : {W : Type 0} → Startings → List ℕ → HandedOn → CommandFault → Output W → Type 0
 EndsOn starts path handed fault out = (end : LifeEnd) × starts.on_state handed end × IsOfEnd path end fault × IsToldBy out.seen out.old end out.new
 
--- no socket is had where it is to listen; or the file of its state is not opened
-abbrev pub IsNotHeard : Terms → CommandFault → Type 0
-IsNotHeard terms fault = (cause : ListenFault) × IsOfListening terms.address.now cause fault
+-- no socket is had where it is to listen, and nothing is printed, but for a write that failed
+abbrev pub IsNotHeard : {W : Type 0} → Terms → W → W → CommandFault → Type 0
+IsNotHeard terms old new fault = (fault ≢ CannotWrite → new ≡ old) × (cause : ListenFault) × IsOfListening terms.address.now cause fault
 
-abbrev pub IsUnopened : Terms → StateTerms → CommandFault → Type 0
-IsUnopened terms state fault = IsNotOpened terms.address.now state.path.now fault
+-- or no file of its state is opened, and nothing is printed
+abbrev pub NoState : {W : Type 0} → Terms → StateTerms → W → W → CommandFault → Type 0
+NoState terms state old new fault = (new ≡ old) × IsNotOpened terms.address.now state.path.now fault
 
 -- what a server is handed by a registry, by where and how it serves, and by the file of its state
 abbrev pub handed_by : RegistryRecord → Terms → StateTerms → HandedOn

@@ -10,7 +10,7 @@ ghost use Rattle.command_line.specs.Listening.{EndsService, FailsService, files_
 ghost use Rattle.commands.specs.Outputs.{output, outputs};
 ghost use Rattle.commands.specs.Performed.{IsUnwritten};
 ghost use Rattle.command_line.specs.Services.{limits_of};
-ghost use Rattle.command_line.specs.Startings.{EndsAnew, EndsOn, IsNotHeard, IsUnopened, handed_by, startings};
+ghost use Rattle.command_line.specs.Startings.{EndsAnew, EndsOn, IsNotHeard, NoState, handed_by, startings};
 
 use crate::call::Call;
 use crate::call_files::{CallFiles, read_files};
@@ -86,7 +86,7 @@ fn start_anew<
     out: &mut W,
     err: &mut E,
 ) -> CommandFault<'w>
-    ensures { ((err.new ≡ err.old) × IsNotHeard terms.entry result)
+    ensures { ((err.new ≡ err.old) × IsNotHeard terms.entry out.old out.new result)
         ⊎ EndsAnew (startings ⟦<DiskFile<'r, R> as Device>⟧ ⟦<Lines<'e, E> as Journal>⟧ ⟦<R::Stream as Stream>⟧)
         (handed_anew registry hooks terms.entry.limits) result (output W.contents W.writes out.old out.new) }
 {
@@ -112,7 +112,7 @@ fn start_on_state<
     out: &mut W,
     err: &mut E,
 ) -> CommandFault<'w>
-    ensures { ((err.new ≡ err.old) × IsUnopened terms.entry state.entry result)
+    ensures { ((err.new ≡ err.old) × NoState terms.entry state.entry out.old out.new result)
         ⊎ EndsOn (startings ⟦<DiskFile<'r, R> as Device>⟧ ⟦<Lines<'e, E> as Journal>⟧ ⟦<R::Stream as Stream>⟧) state.entry.path.now
         (handed_by registry terms.entry state.entry) result (output W.contents W.writes out.old out.new) }
 {

@@ -24,13 +24,13 @@ IsAnsweredOfHook command file (Ok answer) = ⊥
 IsAnsweredOfHook command file (Err (faults.HookCommand fault)) = IsHookAnsweredBy command file (Err fault)
 IsAnsweredOfHook command file (Err fault) = ⊥
 
--- what a command answers, where this is its file; a state file is looked at at some moment
-abbrev pub IsAnsweredBy : Command → Option NamedFile → Result Answer CommandFault → Type 0
-IsAnsweredBy (commands.Hook command) file outcome = IsAnsweredOfHook command (bytes_in file) outcome
-IsAnsweredBy (commands.Registry path) file outcome = IsRegistryTold path.now file outcome
-IsAnsweredBy (commands.State path) file outcome = (now : Option ℕ) × IsStateTold path.now (bytes_in file) now outcome
-IsAnsweredBy (commands.StateFront path) file outcome = (now : Option ℕ) × IsFrontTold path.now (bytes_in file) now outcome
-IsAnsweredBy (commands.Replay path) file outcome = IsReplayedAs path.now (bytes_in file) outcome
-IsAnsweredBy (commands.Help word) file outcome = IsPage PAGE.now outcome
-IsAnsweredBy (commands.Explain name) file outcome = IsNameExplained name.now outcome
-IsAnsweredBy commands.Version file outcome = IsPage VERSION.now outcome
+-- what a command answers, where this is its file, and the moment, where it is known, at which a state file is looked at
+abbrev pub IsAnsweredBy : Command → Option NamedFile → Option ℕ → Result Answer CommandFault → Type 0
+IsAnsweredBy (commands.Hook command) file now outcome = IsAnsweredOfHook command (bytes_in file) outcome
+IsAnsweredBy (commands.Registry path) file now outcome = IsRegistryTold path.now file outcome
+IsAnsweredBy (commands.State path) file now outcome = IsStateTold path.now (bytes_in file) now outcome
+IsAnsweredBy (commands.StateFront path) file now outcome = IsFrontTold path.now (bytes_in file) now outcome
+IsAnsweredBy (commands.Replay path) file now outcome = IsReplayedAs path.now (bytes_in file) outcome
+IsAnsweredBy (commands.Help word) file now outcome = IsPage PAGE.now outcome
+IsAnsweredBy (commands.Explain name) file now outcome = IsNameExplained name.now outcome
+IsAnsweredBy commands.Version file now outcome = IsPage VERSION.now outcome

@@ -1,5 +1,5 @@
 -- How a command that answers ends: what is written, and the status that then comes.
-use Rattle.std.specs.Prelude.{◌≡◌, ◌⊎◌, IfSome, Option, Ok, Err}
+use Rattle.std.specs.Prelude.{◌≡◌, ◌⊎◌, IfSome, ℕ, Option, Ok, Err}
 use Rattle.commands.specs.declared.answer.Answer.{Answer}
 use Rattle.commands.specs.declared.answer.Answer.TheVariants as answers
 use Rattle.commands.specs.declared.command.Command.{Command}
@@ -34,9 +34,9 @@ abbrev pub IsUnwritten : {W E : Type 0} → Status → Outputs W E → Type 0
 IsUnwritten status to = (IsCutOff to.out × IsTold CannotWrite status to.err) ⊎ IsUntold status to.err
 
 -- what a command answers is printed, and it is done, or a program is refused
-pub record PrintsAnswer {W : Type 0} (command : Command) (file : Option NamedFile) (status : Status) (out : Output W) : Type 0 where
+pub record PrintsAnswer {W : Type 0} (command : Command) (file : Option NamedFile) (now : Option ℕ) (status : Status) (out : Output W) : Type 0 where
   pub answer : Answer
-  pub answered : IsAnsweredBy command file (Ok answer)
+  pub answered : IsAnsweredBy command file now (Ok answer)
   pub done : status ≡ status_of_answer answer
   pub printed : IsPrinted answer out
 
@@ -46,7 +46,8 @@ pub record TellsFault {E : Type 0} (ComesAbout : CommandFault → Type 0) (statu
   pub cause : ComesAbout fault
   pub told : IsTold fault status err
 
--- A command ends: it is done, and tells nothing; or it tells why it has no answer, and prints nothing.
-abbrev pub EndsCommand : {W E : Type 0} → Command → Option NamedFile → Status → Outputs W E → Type 0
-EndsCommand command file status to =
-    (IsUntouched to.err × PrintsAnswer command file status to.out) ⊎ (IsUntouched to.out × TellsFault (λ fault. IsAnsweredBy command file (Err fault)) status to.err)
+-- A command ends, on its file and at this moment: it is done, and tells nothing; or it tells why it has no answer, and prints nothing.
+abbrev pub EndsCommand : {W E : Type 0} → Command → Option NamedFile → Option ℕ → Status → Outputs W E → Type 0
+EndsCommand command file now status to =
+    (IsUntouched to.err × PrintsAnswer command file now status to.out) ⊎
+    (IsUntouched to.out × TellsFault (λ fault. IsAnsweredBy command file now (Err fault)) status to.err)

@@ -139,7 +139,7 @@ impl<'w> Command<'w> {
         file: Option<&NamedFile>,
         now: Option<Moment>,
     ) -> Result<Answer, CommandFault<'w>>
-        ensures { IsAnsweredBy self.entry (option_copied file.entry) result }
+        ensures { IsAnsweredBy self.entry (option_copied file.entry) now result }
     {
         match self {
             Command::Hook(command) => match command.answer(alloc, bytes_in(file)) {

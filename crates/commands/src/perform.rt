@@ -25,7 +25,7 @@ pub fn perform_command<W: Printer, E: Printer>(
     err: &mut E,
 ) -> Status
     ensures { let to = outputs (output W.contents W.writes out.old out.new) (output E.contents E.writes err.old err.new) in
-        IsUnwritten result to ⊎ EndsCommand command.entry (option_copied file.entry) result to }
+        IsUnwritten result to ⊎ EndsCommand command.entry (option_copied file.entry) now result to }
 {
     match command.answer(alloc, file, now) {
         Ok(answer) => match answer.write_to(out) {

@@ -1,6 +1,6 @@
 use Rattle.std.proofs.Common.{◌≡◌, ◌∙◌, [], None, Some, ap, inl, inr, map, refl, rules, subst}
 use Rattle.command_line.proofs.Names.{hook_fact, AreFactsOf, TakesHooks, hook_fact_of, in_file, HasAll, files_in, output, outputs}
-use Rattle.command_line.proofs.Serving.{ended_anew, ended_on, not_heard, not_opened, not_served, served}
+use Rattle.command_line.proofs.Serving.{has_files, ended_anew, ended_on, not_heard, not_opened, not_served, served}
 use Rattle.command_line.proofs.performing.serve_as.Goals as goal
 
 pub returns-in-Serve-clause-done : goal.returns-in-Serve-clause-done
@@ -29,8 +29,8 @@ returns-in_default-clause-fault g c =
     } in
     elim c.start_anew.ensures [
       | inl not ↦ not_heard _ c.args.service.now (files_in c.args.files) c.start_anew.result
-          (outputs (output g.W.Write.contents g.W.Printer.writes c.args.out.now c.start_anew.new.out) (output g.E.Write.contents g.E.Printer.writes c.args.err.now c.start_anew.new.err)) c.in_ok-registry.registry not.1.0
-          c.in_ok-registry.ensures.found not.0 (rw c.in-Start.is not.1.1)
+          (outputs (output g.W.Write.contents g.W.Printer.writes c.args.out.now c.start_anew.new.out) (output g.E.Write.contents g.E.Printer.writes c.args.err.now c.start_anew.new.err)) not.1.1
+          (has_files c.args.service.now (files_in c.args.files) all) not.0 (rw c.in-Start.is not.1.0) (rw c.in-Start.is not.1.2)
       | inr ends ↦ inr (ended_anew _ c.args.service.now (files_in c.args.files) c.start_anew.result (output g.W.Write.contents g.W.Printer.writes c.args.out.now c.start_anew.new.out) all c.limits_of.result none c.limits_of.ensures ends)
     ]
 
@@ -51,8 +51,8 @@ returns-clause-fault g c =
     } in
     elim c.start_on_state.ensures [
       | inl not ↦ not_opened _ c.args.service.now (files_in c.args.files) c.start_on_state.result
-          (outputs (output g.W.Write.contents g.W.Printer.writes c.args.out.now c.start_on_state.new.out) (output g.E.Write.contents g.E.Printer.writes c.args.err.now c.start_on_state.new.err)) all c.in-Start.given.address.now c.in-Some.path.now not.1.0
-          (rw c.in-Start.is) named not.0 not.1.1
+          (outputs (output g.W.Write.contents g.W.Printer.writes c.args.out.now c.start_on_state.new.out) (output g.E.Write.contents g.E.Printer.writes c.args.err.now c.start_on_state.new.err)) all c.in-Start.given.address.now c.in-Some.path.now not.1.1.0
+          (rw c.in-Start.is) named not.0 not.1.0 not.1.1.1
       | inr ends ↦ inr (ended_on _ c.args.service.now (files_in c.args.files) c.start_on_state.result (output g.W.Write.contents g.W.Printer.writes c.args.out.now c.start_on_state.new.out) all c.in-Some.path.now _ c.limits_of.result named
           (ap (map hook_fact) kept ∙ c.in_ok-hooks.ensures ∙ ap (map hook_fact_of) same) c.limits_of.ensures ends)
     ]
