@@ -1,9 +1,11 @@
 #!/usr/bin/env python3
-"""How long a start takes on a state file of 65,536 records and 100,000 changes, and on what that start leaves of it:
-from the call of the program to the line that it listens. Words: a folder on the disk that is to be measured (the current one),
-and how many rounds (5). The variable OAUTHD names another program than crates/oauthd/out/oauthd."""
+"""How long a start takes on a state file of 65,536 records and 100,000 changes, and on what is left of it once the server has
+shortened it: from the call of the program to the line that it listens; and how long the longest reply took meanwhile. Words: a
+folder on the disk that is to be measured (the current one), and how many rounds (5). The variable OAUTHD names another program
+than crates/oauthd/out/oauthd."""
 
 import hashlib
+import http.client
 import json
 import os
 import shutil
@@ -40,18 +42,39 @@ def changes():
         yield now, consented(2, 1, 1 + number % 2)
 
 
-def start(program, registry, path):
-    """A start, in milliseconds."""
+def peak(server):
+    """The most memory that a program had so far, in megabytes."""
+    return next(int(line.split()[1]) for line in open(f"/proc/{server.pid}/status") if line.startswith("VmHWM")) / 1024
+
+
+def longest_reply(address, path):
+    """How long the longest reply takes while the file gets short, and all of that, in milliseconds."""
+    host, _, port = address.rpartition(":")
+    connection = http.client.HTTPConnection(host, int(port))
+    headers = {"Authorization": "Basic Ym90OmIwdA==", "Content-Type": "application/x-www-form-urlencoded"}
+    long, began, longest = os.path.getsize(path), time.monotonic(), 0
+    while os.path.getsize(path) >= long and time.monotonic() - began < 60:
+        asked = time.monotonic()
+        connection.request("POST", "/introspect", "token=none", headers)
+        connection.getresponse().read()
+        longest = max(longest, time.monotonic() - asked)
+    return longest * 1000, (time.monotonic() - began) * 1000
+
+
+def start(program, registry, path, shortens):
+    """A start, in milliseconds, the most memory that it took, in megabytes, and where it then shortens the file, how that went."""
     began = time.monotonic()
-    server = subprocess.Popen([program, "start", "127.0.0.1:0", registry, "--state", path], stdout=subprocess.PIPE)
+    server = subprocess.Popen([program, "start", "127.0.0.1:0", registry, "--state", path], stdout=subprocess.PIPE, text=True)
     line = server.stdout.readline()
-    taken = time.monotonic() - began
-    peak = next(line.split()[1] for line in open(f"/proc/{server.pid}/status") if line.startswith("VmHWM")) if line else "0"
-    server.kill()
-    server.wait()
+    taken = (time.monotonic() - began) * 1000
     if not line:
         sys.exit("the server did not start")
-    return taken * 1000, int(peak) / 1024
+    at_start = peak(server)
+    replies = longest_reply(line.split()[-1], path) if shortens else (0, 0)
+    row = taken, at_start, *replies, peak(server)
+    server.kill()
+    server.wait()
+    return row
 
 
 def main():
@@ -69,10 +92,12 @@ def main():
             sizes = []
             for rows in told.values():
                 sizes.append(os.path.getsize(f"{room}/state"))
-                rows.append(start(program, registry, f"{room}/state"))
+                rows.append(start(program, registry, f"{room}/state", rows is told["changes"]))
         for (what, rows), size in zip(told.items(), sizes):
-            taken, peak = (statistics.median(column) for column in zip(*rows))
-            print(f"{what:8} {size / 1e6:5.1f} MB: {taken:5.0f} ms, {peak:5.1f} MB of memory at most")
+            taken, most, longest, shortening, at_last = (statistics.median(column) for column in zip(*rows))
+            print(f"{what:8} {size / 1e6:5.1f} MB: {taken:5.0f} ms, {most:5.1f} MB of memory at most")
+            if shortening:
+                print(f"shortened within {shortening:5.0f} ms: the longest reply {longest:4.1f} ms, {at_last:5.1f} MB of memory at most")
 
 
 if __name__ == "__main__":

@@ -4,9 +4,10 @@ preloaded (clock.c)."""
 import os
 import shutil
 import subprocess
+import time
 
 from crashes import consents
-from state_disks import LONG, grows_to
+from state_disks import LONG, SLICES, grows_to
 from state_format import MARK, batches_of
 from state_trials import LIFE, bytes_of, gone
 
@@ -108,6 +109,7 @@ def tries_moved_before_it_is_shortened(trials):
     with open(ahead, "w") as to:
         to.write("-100")
     client.is_active(token)
+    time.sleep(SLICES)
     os.rmdir(f"{path}.next")
     kept = bytes_of(path)
     os.rename(path, f"{path}.away")

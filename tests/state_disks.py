@@ -15,6 +15,8 @@ from state_trials import bytes_of, is_named
 
 # It is told once that the file cannot be shortened.
 LONG = "oauthd: state: the file cannot be shortened; it grows until that works"
+# In so many seconds a server that nobody asks has gone over a file of a megabyte.
+SLICES = 5
 
 # A hook that is as long as one may be: it takes 32,768 bytes in the file.
 LONGEST_HOOK = bytes.fromhex("b700000001000000") * 4095 + bytes.fromhex("9500000000000000")
@@ -134,6 +136,17 @@ def grows_to(client, path, size):
         removes(client, "passing")
 
 
+def gets_short(trials, what, path, size):
+    """A server on the file shortens it, some of it in each round, to fewer bytes."""
+    begun, _ = trials.served(what, path)
+    until = time.monotonic() + 20
+    while os.path.getsize(path) > size and time.monotonic() < until:
+        time.sleep(0.1)
+    told = begun.end()
+    if told or os.path.getsize(path) > size or os.path.exists(f"{path}.next"):
+        trials.wrong(what, f"{told!r}, still {os.path.getsize(path)} bytes")
+
+
 def tries_a_full_disk(trials, _):
     """On a full disk the server stops, says so, and what it acknowledged is there once there is room."""
     with disk_of(trials, "64k") as disk:
@@ -152,7 +165,7 @@ def tries_a_full_disk(trials, _):
 
 
 def tries_no_room_to_shorten(trials, _):
-    """Where there is no room for a shorter file, the server says so once and goes on appending; the next start has room, and shortens."""
+    """Where there is no room for a shorter file, the server says so once and goes on appending; once there is room, it gets short."""
     with disk_of(trials, "1200k") as disk:
         path = trials.make(f"{disk}/state")
         begun, client = trials.served("a disk for a shorter file", path)
@@ -168,8 +181,7 @@ def tries_no_room_to_shorten(trials, _):
             trials.wrong("no room to shorten", f"{begun_at} bytes, then {os.path.getsize(path)}; {os.listdir(disk)}")
         resize(disk, "4m")
         asks_again(trials, "no room to shorten, and then room", path, client)
-        if os.path.getsize(path) > 500000:
-            trials.wrong("room to shorten", f"still {os.path.getsize(path)} bytes")
+        gets_short(trials, "room to shorten", path, 500000)
 
 
 def tries_a_file_mounted_by_itself(trials, content):
@@ -188,13 +200,13 @@ def tries_a_file_mounted_by_itself(trials, content):
         grows_to(client, path, 1300000)
         for _ in range(20):
             client.begin()
+        time.sleep(SLICES)
         subprocess.run(["umount", path], check=True)
         told = begun.end().splitlines()
         if told != [LONG] or os.path.getsize(path) < 1300000 or os.path.exists(f"{path}.next"):
             trials.wrong("a file mounted while it is in use", f"{told}, {os.path.getsize(path)} bytes")
+        gets_short(trials, "a file that was mounted by itself", path, 100000)
         asks_again(trials, "a file that was mounted by itself", path, client)
-        if os.path.getsize(path) > 100000:
-            trials.wrong("a file that was mounted by itself", f"still {os.path.getsize(path)} bytes")
 
 
 def all_trials():
