@@ -11,9 +11,10 @@ nginx passes /login on, and asks /owner itself before each /authorize (deploy/ng
     200 with X-Owner-Key          signed in, and all that is asked for is allowed: nginx passes the key on to oauthd
     200 without it                oauthd shall answer for nobody: the user has denied, or the request is faulty
 
-So an owner's key goes from here to nginx and to oauthd, and never to a browser. Sessions are in memory: a restart signs
-all out. What owners have allowed is kept in a file, and told to oauthd again whenever it counts, for oauthd forgets it
-when it is restarted. A user who denies changes nothing at oauthd: the client hears access_denied, once.
+So an owner's key goes from here to nginx and to oauthd, and never to a browser. A session is a cookie that is signed with
+the key in KEPT.key, so it outlives a restart; it ends after eight hours, when its user signs out, which KEPT.ended tells, and
+when the user gets another password or goes. What owners have allowed is kept in KEPT, and told to oauthd again whenever it
+counts, for oauthd may have forgotten it. A user who denies changes nothing at oauthd: the client hears access_denied, once.
 """
 import base64
 import hashlib
@@ -31,7 +32,9 @@ import urllib.parse
 
 COOKIE = "__Host-login"     # this prefix: browsers take it over TLS alone, for this host alone
 SESSION_LIFE = 8 * 3600     # in seconds
-SESSIONS = 10000            # more are refused
+DENIALS = 10000             # of more, the oldest is forgotten: its user is asked again
+TRIES_OF_USER = (10, 30)    # wrong passwords for one user from one address: so many at once, then one in so many seconds
+TRIES = (100, 2)            # and for all users from it
 HEADERS = (
     ("Cache-Control", "no-store"),
     ("Content-Security-Policy", "default-src 'none'; style-src 'unsafe-inline'; base-uri 'none'; frame-ancestors 'none'"),
@@ -84,13 +87,49 @@ def renew(config_file):
         print(name, password)
 
 
-class Session:
-    """A browser whose user has signed in."""
+def write_whole(path, data):
+    """Puts a file with these bytes in the place of the one at that path: a crash leaves the one or the other."""
+    with open(path + ".new", "wb", opener=lambda name, flags: os.open(name, flags, 0o600)) as file:
+        file.write(data)
+        file.flush()
+        os.fsync(file.fileno())
+    os.replace(path + ".new", path)
 
-    def __init__(self, user):
+
+class Session:
+    """A browser whose user has signed in: its number, and until when, in seconds since 1970."""
+
+    def __init__(self, user, ends, number):
         self.user = user
-        self.ends = time.monotonic() + SESSION_LIFE
-        self.denied = None      # the request that was denied last: it goes to oauthd without a key, once
+        self.ends = ends
+        self.number = number
+
+
+class Tries:
+    """How many wrong passwords there may be, by whom: so many at once, and then one in so many seconds."""
+
+    def __init__(self, at_once, seconds):
+        self.at_once = at_once
+        self.seconds = seconds
+        self.free = {}          # by whom: the moment at which all that were wrong are forgiven
+        self.lock = threading.Lock()
+
+    def take(self, who):
+        """Takes one, if one is left. It is given back where the password is right."""
+        now = time.monotonic()
+        with self.lock:
+            free = max(self.free.get(who, now), now)
+            if free - now > (self.at_once - 1) * self.seconds:
+                return False
+            if len(self.free) > 10000:
+                self.free = {w: at for w, at in self.free.items() if at > now}
+            self.free[who] = free + self.seconds
+            return True
+
+    def give_back(self, who):
+        with self.lock:
+            if who in self.free:
+                self.free[who] -= self.seconds
 
 
 class Login:
@@ -103,50 +142,108 @@ class Login:
         self.clients = config["clients"]
         self.scopes = config["scopes"]
         self.kept_file = kept_file
-        self.key = secrets.token_bytes(32)
-        self.sessions = {}
+        self.key = self.kept_key()
+        self.denied = {}        # by a session's number, the request that was denied last: it goes to oauthd without a key, once
+        self.tries_of_user = Tries(*TRIES_OF_USER)
+        self.tries = Tries(*TRIES)
         self.sessions_lock = threading.Lock()
         self.kept_lock = threading.RLock()
         self.at_once = threading.Semaphore(4)       # passwords that are looked at: each takes 16 MB
         self.nobody = kept_form(secrets.token_urlsafe(16))
+        self.kept = self.read(kept_file)
+        self.ended = self.read(kept_file + ".ended")    # the sessions that were left, and until when they would have lasted
+
+    def read(self, path):
         try:
-            with open(kept_file, encoding="utf-8") as file:
-                self.kept = json.load(file)
+            with open(path, encoding="utf-8") as file:
+                return json.load(file)
         except FileNotFoundError:
-            self.kept = {}
+            return {}
+
+    def kept_key(self):
+        """The key of KEPT.key, which is made where there is none."""
+        try:
+            with open(self.kept_file + ".key", "rb") as file:
+                key = file.read()
+        except FileNotFoundError:
+            key = b""
+        if len(key) != 32:
+            key = secrets.token_bytes(32)
+            write_whole(self.kept_file + ".key", key)
+        return key
 
     # Sessions
 
     def token(self, name):
         """What each form carries that is shown to the browser with this cookie: other sites do not know it."""
-        return hmac.new(self.key, name.encode(), "sha256").hexdigest()
+        return hmac.new(self.key, b"form " + name.encode(), "sha256").hexdigest()
+
+    def signature(self, user, ends, number):
+        """Of a session. Another password of its user gives another one."""
+        told = json.dumps([user, ends, number, self.users[user]["password"]])
+        return hmac.new(self.key, b"session " + told.encode(), "sha256").hexdigest()
 
     def begin(self, user):
-        """The name of a new session, or None where there are too many."""
-        with self.sessions_lock:
-            now = time.monotonic()
-            for name in [n for n, session in self.sessions.items() if session.ends <= now]:
-                del self.sessions[name]
-            if len(self.sessions) >= SESSIONS:
-                return None
-            name = secrets.token_urlsafe(32)
-            self.sessions[name] = Session(user)
-            return name
+        """The name of a new session."""
+        ends = int(time.time()) + SESSION_LIFE
+        number = secrets.token_urlsafe(16)
+        told = base64.urlsafe_b64encode(json.dumps([user, ends, number]).encode()).decode().rstrip("=")
+        return told + "." + self.signature(user, ends, number)
 
     def session(self, name):
-        with self.sessions_lock:
-            session = self.sessions.get(name)
-            return session if session and session.ends > time.monotonic() else None
+        """The session of this name, if it is one that was begun here and has not ended."""
+        told, _, signature = name.partition(".")
+        try:
+            user, ends, number = json.loads(base64.urlsafe_b64decode(told + "=" * (-len(told) % 4)))
+            good = user in self.users and hmac.compare_digest(signature, self.signature(user, ends, number))
+        except (ValueError, TypeError):
+            return None
+        return Session(user, ends, number) if good and ends > time.time() and number not in self.ended else None
 
     def end(self, name):
+        session = self.session(name)
+        if session is None:
+            return
         with self.sessions_lock:
-            self.sessions.pop(name, None)
+            now = time.time()
+            self.denied.pop(session.number, None)
+            self.ended = {number: ends for number, ends in self.ended.items() if ends > now}
+            self.ended[session.number] = session.ends
+            write_whole(self.kept_file + ".ended", json.dumps(self.ended).encode())
 
-    def entered(self, user, password):
+    def deny(self, session, back):
+        with self.sessions_lock:
+            self.denied.pop(session.number, None)
+            self.denied[session.number] = back
+            if len(self.denied) > DENIALS:
+                del self.denied[next(iter(self.denied))]
+
+    def was_denied(self, session, back):
+        """Was this request denied last? It is asked once."""
+        with self.sessions_lock:
+            if self.denied.get(session.number) != back:
+                return False
+            del self.denied[session.number]
+            return True
+
+    def may_try(self, user, address):
+        """Takes a try of this address for this user, if it has one."""
+        if not self.tries_of_user.take((user, address)):
+            return False
+        if self.tries.take(address):
+            return True
+        self.tries_of_user.give_back((user, address))
+        return False
+
+    def entered(self, user, password, address):
         """Is this the user's password? Takes as long for users that there are not."""
         form = self.users.get(user, {}).get("password", self.nobody)
         with self.at_once:
-            return matches(password, form) and user in self.users
+            right = matches(password, form) and user in self.users
+        if right:
+            self.tries_of_user.give_back((user, address))
+            self.tries.give_back(address)
+        return right
 
     # What is asked of oauthd
 
@@ -192,21 +289,15 @@ class Login:
             if not self.consent(user, client, scopes):
                 return False
             self.kept.setdefault(user, {})[client] = scopes
-            with open(self.kept_file + ".new", "w", encoding="utf-8") as file:
-                json.dump(self.kept, file)
-                file.flush()
-                os.fsync(file.fileno())
-            os.replace(self.kept_file + ".new", self.kept_file)
+            write_whole(self.kept_file, json.dumps(self.kept).encode())
             return True
 
     def owner_key(self, session, back):
         """The answer of /owner: a key, None for no key, or False where the user has to see a page first."""
         if session is None:
             return False
-        with self.sessions_lock:
-            if session.denied == back:
-                session.denied = None
-                return None
+        if self.was_denied(session, back):
+            return None
         asked = self.asked(back)
         if asked is None:
             return None
@@ -329,13 +420,13 @@ class Handler(http.server.BaseHTTPRequestHandler):
         do = form.get("do", "")
         if do == "enter":
             user = form.get("user", "")
-            if not login.entered(user, form.get("password", "")):
+            address = self.headers.get("X-Address", "")         # nginx's word
+            if not login.may_try(user, address):
+                return self.page("Too many tries", "<p>Wait for a minute, and try again.</p>", 429)
+            if not login.entered(user, form.get("password", ""), address):
                 return self.show(None, name, back, "Name and password do not belong together.")
             login.end(name)                         # and a new name: nobody else can have set it
-            name = login.begin(user)
-            if name is None:
-                return self.page("Too many visitors", "<p>Try again in some minutes.</p>", 503)
-            return self.send(back or "/login", self.cookie(name))
+            return self.send(back or "/login", self.cookie(login.begin(user)))
         if session is None:
             return self.show(None, name, back)
         if do == "leave":
@@ -354,8 +445,7 @@ class Handler(http.server.BaseHTTPRequestHandler):
                 if not login.allow(session.user, client, kept + [s for s in scopes if s not in kept]):
                     return self.page("Not now", "<p>The server could not keep this. Try again later.</p>", 503)
         elif do == "deny" and back:
-            with login.sessions_lock:
-                session.denied = back               # oauthd tells the client
+            login.deny(session, back)               # oauthd tells the client
         self.send(back or "/login")
 
 
