@@ -63,6 +63,10 @@ signed_in() { status -b /run/cookies -d do=enter -d "user=$1" --data-urlencode "
 check password-of-the-example 403 "$(signed_in ann ann-password)"
 check password-of-ann 303 "$(signed_in ann "$(password_of ann)")"
 check password-of-bob 303 "$(signed_in bob "$(password_of bob)")"
+begins() { rm -f /run/cookies; status "$auth$request"; signed_in "$1" "$2"; }
+check office '40 302303' "$(for _ in $(seq 40); do begins bob "$(password_of bob)"; echo; done | sort | uniq -c | xargs)"
+check guesses '[19]* 403 [23] 429' "$(for _ in $(seq 12); do signed_in ann guessed; echo; done | sort | uniq -c | xargs)"
+check guesses-of-another-one 303 "$(signed_in bob "$(password_of bob)")"
 check passwords-are-root-s '600 root' "$(stat -c '%a %U' /root/oauthd-passwords)"
 
 # Many connections at once: each is answered
@@ -227,5 +231,5 @@ print("\n".join([registry["operator"], *registry["owners"], *(client["secret"] f
 PY
 cut -d ' ' -f 2 /root/oauthd-passwords)
 check secrets-in-logs 0 "$( (journalctl --no-pager; cat /var/log/nginx/*) | grep -cF "$secrets")"
-[ "$tried" = 62 ] || differs 'wanted 62 checks'
+[ "$tried" = 65 ] || differs 'wanted 65 checks'
 end_with checks
