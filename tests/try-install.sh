@@ -230,6 +230,6 @@ registry = json.load(open("/etc/oauthd/registry.json"))
 print("\n".join([registry["operator"], *registry["owners"], *(client["secret"] for client in registry["clients"])]))
 PY
 cut -d ' ' -f 2 /root/oauthd-passwords)
-check secrets-in-logs 0 "$( (journalctl --no-pager; cat /var/log/nginx/*) | grep -cF "$secrets")"
+check secrets-in-logs 0 "$( (journalctl --no-pager; cat /var/log/nginx/*) | grep -cF -e "$secrets")"
 [ "$tried" = 65 ] || differs 'wanted 65 checks'
 end_with checks
