@@ -139,6 +139,7 @@ try:
     left = command("GET", browser + "/cookie")[0]
     press("leave")
     check("signed-out", "Who are you?", seen())
+    del left["domain"]
     command("POST", browser + "/cookie", {"cookie": left})
     visit("https://auth.example/login")
     check("signed-out-with-the-old-cookie", "Who are you?", seen())
