@@ -196,7 +196,7 @@ class Login:
         try:
             user, ends, number = json.loads(base64.urlsafe_b64decode(told + "=" * (-len(told) % 4)))
             good = user in self.users and hmac.compare_digest(signature, self.signature(user, ends, number))
-        except (ValueError, TypeError):
+        except (ValueError, TypeError, RecursionError):     # no session's name
             return None
         return Session(user, ends, number) if good and ends > time.time() and number not in self.ended else None
 
