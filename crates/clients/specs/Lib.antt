@@ -16,6 +16,7 @@ pub mod Clients
 pub mod RegistryRecord
 pub mod Registry
 pub mod RegistryRules
+pub mod Bounds
 -- What only the contracts of this crate's own parts and their proofs cite.
 pub mod FaultsParts
 -- Laws, each proved: a reader may skip them.

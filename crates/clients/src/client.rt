@@ -1,19 +1,22 @@
 //! The clients of a registry (RFC 6749, section 2).
 
-ghost use Rattle.std.specs.Prelude.{◌≡◌, ◌<◌, ◌≤◌, [], ◌∷◌, ◌++◌, length, map, string_bytes, None, Some, IfSome, IsOk, IsTrue, option_copied, OnOk, OnErr, List};
+ghost use Rattle.std.specs.Prelude.{◌≡◌, ◌<◌, ◌≤◌, ◌^◌, [], ◌∷◌, ◌++◌, length, map, string_bytes, None, Some, IfSome, IsOk, IsTrue, option_copied, IfOk, OnOk, OnErr, All, List, false};
 ghost use Rattle.std.specs.List.{list_any};
 ghost use Rattle.std.specs.Str.{bytes_eq};
 ghost use Rattle.serde_json.specs.View.{view, items_view};
 ghost use Rattle.clients.specs.Faults.{GivesUnless};
 ghost use Rattle.clients.specs.FaultsParts.{seen_by};
+ghost use Rattle.params.specs.Form.{any_twice};
+ghost use Rattle.clients.specs.Bounds.{client_had, client_said};
 ghost use Rattle.clients.specs.Limits.{client_limit, identifier_limit, redirect_limit};
 ghost use Rattle.clients.specs.Grants.{has_grant};
 ghost use Rattle.clients.specs.Numbers.{number_among, IsIndex};
 ghost use Rattle.clients.specs.Clients.{ids, has_secret, has_redirect, id_member, secret_member, redirects_member, scope_member, grants_member, client_at, client_of, clients_after};
 ghost use Rattle.clients.specs.declared.fault.Refusal.TheVariants as refusal;
 ghost use Rattle.clients.specs.ClientRecord.{ClientRecord};
-ghost use Rattle.clients.specs.RegistryRules.{IsClient};
+ghost use Rattle.clients.specs.RegistryRules.{IsClient, IsClientOf};
 
+use crate::bounds::ClientBounds;
 use crate::digest::sent_digest;
 use crate::fault::{ConfigFault, Refusal, located};
 use crate::grant::{GrantType, Grants, grant_set};
@@ -22,7 +25,7 @@ use crate::redirect::redirect_list;
 use crate::scope::scope;
 use crate::secret::{Secrets, client_secrets};
 use crate::spot::{ClientSpot, Spot};
-use crate::text::identifier;
+use crate::text::{identifier, is_identifier};
 use consent::{ClientNo, ScopeSet};
 use params::Catalogue;
 use serde_json::Value;
@@ -30,7 +33,11 @@ use std::alloc::{AllocError, Global};
 use std::collections::BTreeMap;
 use std::marker::Model;
 
+const MOST_CLIENTS: usize = 256;
+
 const MOST_REDIRECTS: usize = 8;
+
+const MOST_SCOPES: usize = 64;
 
 fn stands_among(text: &str, strings: &[String]) -> bool
     ensures { result ≡ list_any (λ s. bytes_eq text.now (string_bytes s)) strings.now }
@@ -154,6 +161,20 @@ impl Clients {
         &self.list[number.get() as usize - 1]
     }
 
+    // What bounds the grants of each.
+    pub(crate) fn bounds(&self, alloc: Global) -> Result<Vec<ClientBounds<'_>>, AllocError>
+        ensures { IfOk result (λ bounds. map client_said bounds.items ≡ map client_had self.now) }
+    {
+        let mut bounds = Vec::new(alloc);
+        for client in &self.list {
+            bounds.extend_from_slice(&[ClientBounds {
+                name: client.id(),
+                allowed: client.allowed(),
+            }])?;
+        }
+        Ok(bounds)
+    }
+
     // How many clients there are.
     pub(crate) fn count(&self) -> usize
         ensures { result ≡ length self.now }
@@ -269,6 +290,69 @@ pub(crate) fn client_list(
     let mut clients = Clients::new(alloc);
     for value in list {
         clients.push(alloc, read_client(alloc, catalogue, &clients, value)?)?;
+    }
+    Ok(clients)
+}
+
+// Whether the mask has no bit past the first ones.
+fn has_no_bit_past(bits: u64, count: usize) -> bool
+    ensures { IsTrue result → bits < 2 ^ count }
+{
+    count >= MOST_SCOPES || bits < 1 << count
+}
+
+// Whether a client may be allowed the scope, where the registry has these scope names: one at least, and no other.
+fn may_be_allowed(catalogue: &Catalogue, scope: ScopeSet) -> bool
+    ensures { IsTrue result → (0 < scope) × (scope < 2 ^ length catalogue.now) }
+{
+    !scope.is_empty() && has_no_bit_past(scope.bits(), catalogue.names().len())
+}
+
+// A client of these bounds after the others, which has one secret that nobody knows, and may do nothing.
+fn client_within(
+    alloc: Global,
+    catalogue: &Catalogue,
+    clients: &Clients,
+    bounds: &ClientBounds<'_>,
+) -> Result<Client, ConfigFault>
+    ensures bounds { IfOk result (λ client. client_had client ≡ client_said bounds.now) }
+    ensures right { IfOk result (IsClientOf catalogue.now) }
+    ensures new { IfOk result (λ client. number_among client.id (ids clients.now) ≡ None) }
+{
+    if !is_identifier(bounds.name) {
+        return Err(ConfigFault::OutOfRange);
+    }
+    if clients.number(bounds.name).is_some() {
+        return Err(ConfigFault::Twice);
+    }
+    if !may_be_allowed(catalogue, bounds.allowed) {
+        return Err(ConfigFault::BadScope);
+    }
+    Ok(Client {
+        id: String::from_str(alloc, bounds.name)?,
+        secrets: Secrets::unknown(),
+        redirects: Vec::new(alloc),
+        allowed: bounds.allowed,
+        grants: Grants::none(),
+    })
+}
+
+// Clients of these bounds, which have secrets that nobody knows, and may do nothing.
+pub(crate) fn clients_within(
+    alloc: Global,
+    catalogue: &Catalogue,
+    bounds: &[ClientBounds<'_>],
+) -> Result<Clients, ConfigFault>
+    ensures bounds { IfOk result (λ clients. map client_had clients ≡ map client_said bounds.now) }
+    ensures right { IfOk result (All (IsClientOf catalogue.now)) }
+    ensures distinct { IfOk result (λ clients. any_twice (ids clients) ≡ false) }
+{
+    if bounds.len() > MOST_CLIENTS {
+        return Err(ConfigFault::OutOfRange);
+    }
+    let mut clients = Clients::new(alloc);
+    for bound in bounds {
+        clients.push(alloc, client_within(alloc, catalogue, &clients, bound)?)?;
     }
     Ok(clients)
 }

@@ -31,6 +31,14 @@ pub(crate) fn sent_digest(sent: &[u8]) -> Option<Digest>
     }
 }
 
+// A digest for each number, of which nobody knows a key.
+pub(crate) fn unknown_digest(number: u32) -> Digest {
+    let mut bytes = [0; 32];
+    let [a, b, c, d] = number.to_be_bytes();
+    (bytes[0], bytes[1], bytes[2], bytes[3]) = (a, b, c, d);
+    Digest::new(bytes)
+}
+
 // Whether the digests are the same. All their bytes are compared, so that the time tells nothing of them.
 pub(crate) fn are_same(one: &Digest, other: &Digest) -> bool
     ensures { result ≡ bytes_eq one.now other.now }

@@ -49,7 +49,7 @@ pub(crate) struct Grants {
 
 impl Grants {
     // The set without members.
-    fn none() -> Grants
+    pub(crate) fn none() -> Grants
         ensures { result ≡ no_grants }
     {
         Grants {

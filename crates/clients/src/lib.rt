@@ -1,6 +1,7 @@
 //! The registry of owners, scopes and clients (RFC 6749, sections 1.1, 2 and 3.3).
 #![tactic(auto)]
 
+mod bounds;
 mod client;
 mod digest;
 mod fault;
@@ -14,6 +15,7 @@ mod secret;
 mod spot;
 mod text;
 
+pub use bounds::{Bounds, ClientBounds};
 pub use client::Client;
 pub use consent::{ClientNo, OwnerNo};
 pub use fault::ConfigFault;

@@ -1,6 +1,6 @@
 //! The owners of a registry.
 
-ghost use Rattle.std.specs.Prelude.{◌≡◌, ◌<◌, ◌≤◌, [], ◌∷◌, ◌++◌, length, map, string_bytes, option_map, option_copied, bytes_eq, is_some, None, IfSome, OnOk, OnErr, List};
+ghost use Rattle.std.specs.Prelude.{◌≡◌, ◌<◌, ◌≤◌, [], ◌∷◌, ◌++◌, length, map, string_bytes, option_map, option_copied, bytes_eq, is_some, None, IfSome, IfOk, OnOk, OnErr, List};
 ghost use Rattle.serde_json.specs.View.{view, items_view};
 ghost use Rattle.clients.specs.Limits.{owner_limit, key_limit};
 ghost use Rattle.clients.specs.Faults.{GivesUnless};
@@ -12,7 +12,7 @@ ghost use Rattle.clients.specs.declared.fault.Refusal.TheVariants as refusal;
 ghost use Rattle.clients.specs.OwnerRecord.{OwnerRecord};
 ghost use Rattle.clients.specs.RegistryRules.{IsOwner};
 
-use crate::digest::{are_same, key_digest, sent_digest};
+use crate::digest::{are_same, key_digest, sent_digest, unknown_digest};
 use crate::fault::{ConfigFault, Refusal, located};
 use crate::spot::Spot;
 use crate::text::key;
@@ -20,6 +20,8 @@ use consent::{Digest, OwnerNo};
 use serde_json::Value;
 use std::alloc::{AllocError, Global};
 use std::marker::Model;
+
+const MOST_OWNERS: u32 = 4096;
 
 // An owner of what is protected (RFC 6749, section 1.1).
 #[derive(Drop)]
@@ -136,6 +138,23 @@ impl Owners {
         };
         Ok(())
     }
+}
+
+// As many owners, each with another key, which nobody knows.
+pub(crate) fn unknown_owners(alloc: Global, count: u32) -> Result<Owners, ConfigFault>
+    ensures { IfOk result (λ owners. length owners ≡ count) }
+{
+    if count > MOST_OWNERS {
+        return Err(ConfigFault::OutOfRange);
+    }
+    let mut owners = Owners::new(alloc);
+    for i in 0..count {
+        owners.push(Owner {
+            key: unknown_digest(i),
+            sub: None,
+        })?;
+    }
+    Ok(owners)
 }
 
 // The key of an owner: its member `key`, or the value itself.

@@ -1,6 +1,6 @@
 //! The registry: owners, scope names and clients, and the lives of tokens.
 
-ghost use Rattle.std.specs.Prelude.{◌≡◌, ◌<◌, ◌≤◌, length, Some, IfOk, OnOk, OnErr, IfSome, option_copied, IsUtf8};
+ghost use Rattle.std.specs.Prelude.{◌≡◌, ◌<◌, ◌≤◌, length, map, string_bytes, Some, IfOk, OnOk, OnErr, IfSome, option_copied, IsUtf8};
 ghost use Rattle.serde_json.specs.View.{view};
 ghost use Rattle.clients.specs.Faults.{GivesUnless};
 ghost use Rattle.clients.specs.FaultsParts.{seen_by};
@@ -10,15 +10,17 @@ ghost use Rattle.clients.specs.Owners.{owner_with, sub_of};
 ghost use Rattle.clients.specs.Clients.{ids, client_at};
 ghost use Rattle.clients.specs.Registry.{IsReadable, AreLivesAndOperatorRight, owners_member, scopes_member, clients_member, registry_of, data_of, registry_in, spot_in, is_operator_key, has_operator_among_owners};
 ghost use Rattle.clients.specs.declared.fault.Refusal.TheVariants as refusal;
-ghost use Rattle.clients.specs.RegistryRules.{IsRegistry};
+ghost use Rattle.clients.specs.Bounds.{HasBounds};
+ghost use Rattle.clients.specs.RegistryRules.{IsLife, IsRegistry};
 ghost use Rattle.clients.specs.RegistryRecord.{RegistryRecord};
 
-use crate::client::{Client, Clients, client_list};
-use crate::digest::{are_same, key_digest, sent_digest};
+use crate::bounds::Bounds;
+use crate::client::{Client, Clients, client_list, clients_within};
+use crate::digest::{are_same, key_digest, sent_digest, unknown_digest};
 use crate::fault::{ConfigFault, Refusal, located};
 use crate::json::{items, life, member};
-use crate::owner::{Owners, owner_list};
-use crate::scope::scope_list;
+use crate::owner::{Owners, owner_list, unknown_owners};
+use crate::scope::{catalogue_of, scope_list};
 use crate::spot::Spot;
 use consent::{ClientNo, Digest, OwnerNo};
 use params::Catalogue;
@@ -101,6 +103,41 @@ impl Registry {
             Err(ConfigFault::Memory) => Err(AllocError),
             Err(_) => Ok(None),
         }
+    }
+
+    /// A registry of these bounds, if there is one: its keys and secrets are such that nobody knows them, and its clients may do nothing.
+    pub fn within(alloc: Global, bounds: &Bounds<'_>) -> Result<Registry, ConfigFault>
+        ensures bounds { IfOk result (λ registry. HasBounds registry bounds.now) }
+        ensures registry { IfOk result IsRegistry }
+    {
+        let access_life = life_within(bounds.access_life)?;
+        let refresh_life = life_within(bounds.refresh_life)?;
+        let owners = unknown_owners(alloc, bounds.owners)?;
+        let catalogue = catalogue_of(alloc, bounds.scopes.as_slice())?;
+        let clients = clients_within(alloc, &catalogue, bounds.clients.as_slice())?;
+        Ok(Registry {
+            access_life,
+            refresh_life,
+            operator: unknown_digest(0),
+            owners,
+            catalogue,
+            clients,
+        })
+    }
+
+    /// The part that bounds grants. Its texts lie in the registry.
+    pub fn bounds(&self, alloc: Global) -> Result<Bounds<'_>, AllocError>
+        ensures { IfOk result (HasBounds self.now) }
+    {
+        let scopes = names_of(alloc, self.catalogue.names())?;
+        let clients = self.clients.bounds(alloc)?;
+        Ok(Bounds {
+            scopes,
+            owners: self.owners.count() as u32,
+            clients,
+            access_life: self.access_life,
+            refresh_life: self.refresh_life,
+        })
     }
 
     /// How many owners there are.
@@ -196,6 +233,27 @@ impl Registry {
     {
         &self.catalogue
     }
+}
+
+// The life, where a registry may have it.
+fn life_within(life: u32) -> Result<u32, ConfigFault>
+    ensures { IfOk result (λ same. (same ≡ life) × IsLife life) }
+{
+    match life {
+        1..=31_536_000 => Ok(life),
+        _ => Err(ConfigFault::OutOfRange),
+    }
+}
+
+// The texts of these names.
+fn names_of(alloc: Global, names: &[String]) -> Result<Vec<&str>, AllocError>
+    ensures { IfOk result (λ texts. map (λ s. s.now) texts.items ≡ map string_bytes names.now) }
+{
+    let mut texts = Vec::new(alloc);
+    for name in names {
+        texts.extend_from_slice(&[name.as_str()])?;
+    }
+    Ok(texts)
 }
 
 // The JSON data of the text.

@@ -1,6 +1,6 @@
 //! The scope names of a registry, and the scope of a client (RFC 6749, section 3.3).
 
-ghost use Rattle.std.specs.Prelude.{◌≡◌, ◌<◌, ◌⊎◌, [], length, Ok, Err, OnOk, IfErr};
+ghost use Rattle.std.specs.Prelude.{◌≡◌, ◌<◌, ◌⊎◌, [], length, map, Ok, Err, OnOk, IfOk, IfErr};
 ghost use Rattle.serde_json.specs.View.{view, items_view};
 ghost use Rattle.clients.specs.Faults.{GivesUnless};
 ghost use Rattle.clients.specs.Scopes.{name_after, scopes_after, scope_of};
@@ -32,6 +32,17 @@ pub(crate) fn scope_list(alloc: Global, list: &[Value]) -> Result<Catalogue, Ref
     for value in list {
         located(Spot::Scopes(Some(number)), push_name(&mut catalogue, value))?;
         number += 1;
+    }
+    Ok(catalogue)
+}
+
+// The catalogue of these names.
+pub(crate) fn catalogue_of(alloc: Global, names: &[&str]) -> Result<Catalogue, ConfigFault>
+    ensures { IfOk result (λ catalogue. catalogue ≡ map (λ s. s.now) names.now) }
+{
+    let mut catalogue = Catalogue::new(alloc);
+    for name in names {
+        catalogue.push(name)?;
     }
     Ok(catalogue)
 }

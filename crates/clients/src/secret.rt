@@ -1,11 +1,11 @@
 //! The secrets of a client: one, or two while one takes the other's place.
 
-ghost use Rattle.std.specs.Prelude.{◌≡◌, bytes_eq, ℕ, List, ◌∷◌, option_to_list};
+ghost use Rattle.std.specs.Prelude.{◌≡◌, bytes_eq, ℕ, List, ◌∷◌, length, option_to_list};
 ghost use Rattle.std.specs.List.{list_any};
 ghost use Rattle.serde_json.specs.View.{view, items_view};
 ghost use Rattle.clients.specs.Clients.{one_or_two, secrets_of};
 
-use crate::digest::{are_same, key_digest};
+use crate::digest::{are_same, key_digest, unknown_digest};
 use crate::fault::ConfigFault;
 use consent::Digest;
 use serde_json::Value;
@@ -26,6 +26,16 @@ impl Model for Secrets {
 }
 
 impl Secrets {
+    // One secret, which nobody knows.
+    pub(crate) fn unknown() -> Secrets
+        ensures { length result ≡ 1 }
+    {
+        Secrets {
+            first: unknown_digest(0),
+            second: None,
+        }
+    }
+
     // Whether this is the digest of one of the secrets. It is compared with each.
     pub(crate) fn has(&self, digest: &Digest) -> bool
         ensures { result ≡ list_any (bytes_eq digest.now) self.now }

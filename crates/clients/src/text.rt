@@ -45,7 +45,8 @@ pub(crate) fn is_key(text: &[u8]) -> bool
     1 <= text.len() && text.len() <= LONGEST_KEY && are_visible(text)
 }
 
-fn is_identifier(text: &str) -> bool
+// Whether this has the form of a client identifier.
+pub(crate) fn is_identifier(text: &str) -> bool
     ensures { result ≡ is_identifier text.now }
 {
     1 <= text.len() && text.len() <= LONGEST_IDENTIFIER && are_identifier_bytes(text.as_bytes())

@@ -1,11 +1,11 @@
 -- What rules say, and what a server has, without where its texts lie in memory.
 use Rattle.std.specs.Prelude.{ℕ, List, map}
 use Rattle.change_codec.specs.Rules.{ClientFact, RulesFact}
+use Rattle.clients.specs.declared.bounds.Bounds.{Bounds}
+use Rattle.clients.specs.declared.bounds.ClientBounds.{ClientBounds}
 use Rattle.consent.specs.RecordFacts.{RecordFact, record_fact}
 use Rattle.consent.specs.declared.kept_consent.KeptConsent.{KeptConsent}
 use Rattle.consent.specs.declared.record_version.RecordVersion.{RecordVersion}
-use Rattle.rules_codec.specs.declared.rules.ClientRules.{ClientRules}
-use Rattle.rules_codec.specs.declared.rules.Rules.{Rules}
 use Rattle.rules_codec.specs.declared.standing.KeptHook.{KeptHook}
 use Rattle.rules_codec.specs.declared.standing.Standing.{Standing}
 
@@ -22,10 +22,10 @@ pub record StandingFact : Type 0 where
   pub consents : List KeptConsent
   pub hooks : List HookFact
 
-abbrev pub client_fact : ClientRules → ClientFact
+abbrev pub client_fact : ClientBounds → ClientFact
 client_fact c = record { name = c.name.now; allowed = c.allowed }
 
-abbrev pub rules_fact : Rules → RulesFact
+abbrev pub rules_fact : Bounds → RulesFact
 rules_fact r = record {
   scopes = map (λ s. s.now) r.scopes.items;
   owners = r.owners;

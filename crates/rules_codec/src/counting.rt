@@ -1,12 +1,14 @@
 //! What can be counted: how many there are of each list, and the bytes of each text, in four bytes.
 
-ghost use Rattle.std.specs.Prelude.{◌↔◌, ◌<◌, ◌^◌, length, map, IsTrue};
-ghost use Rattle.rules_codec.specs.Facts.{rules_fact};
+ghost use Rattle.std.specs.Prelude.{◌↔◌, ◌<◌, ◌^◌, ℕ, List, length, map, IsTrue};
+ghost use Rattle.change_codec.specs.Rules.{ClientFact};
+ghost use Rattle.rules_codec.specs.Facts.{client_fact, rules_fact};
+ghost use Rattle.rules_codec.specs.Formats.{client_format};
 ghost use Rattle.rules_codec.specs.Spelling.{RulesCount};
+ghost use Rattle.wire.specs.Format.{Format, text_format};
 ghost use Rattle.wire.specs.Lists.{list_of};
 
-use crate::rules::{ClientRules, Rules};
-use wire::Wire;
+use clients::{Bounds, ClientBounds};
 
 fn is_short(bytes: &[u8]) -> bool
     ensures { IsTrue result ↔ (length bytes.now < 2 ^ 32) }
@@ -15,26 +17,45 @@ fn is_short(bytes: &[u8]) -> bool
 }
 
 // What says whether all of it can be counted.
-trait Counted: Wire {
+trait Counted {
+    ghost Fact: { Type 0 };
+
+    ghost fact: { Self → Fact };
+
+    // How it is spelled.
+    ghost spelled: { Format Fact };
+
     fn counts(&self) -> bool
-        ensures { IsTrue result ↔ Self.format.Counts (Self.value self.now) };
+        ensures { IsTrue result ↔ spelled.Counts (fact self.now) };
 }
 
 impl Counted for &str {
+    ghost Fact = { List ℕ };
+
+    ghost fact = { λ s. s.now };
+
+    ghost spelled = { text_format };
+
     fn counts(&self) -> bool {
         is_short(self.as_bytes())
     }
 }
 
 #[tactic(auto, unfolding(crate::specs::Formats::client_format))]
-impl Counted for ClientRules<'_> {
+impl Counted for ClientBounds<'_> {
+    ghost Fact = { ClientFact };
+
+    ghost fact = { client_fact };
+
+    ghost spelled = { client_format };
+
     fn counts(&self) -> bool {
         is_short(self.name.as_bytes())
     }
 }
 
 fn list_counts<T: Counted>(items: &[T]) -> bool
-    ensures { IsTrue result ↔ (list_of T.format).Counts (map T.value items.now) }
+    ensures { IsTrue result ↔ (list_of T.spelled).Counts (map T.fact items.now) }
 {
     if items.len() >= 1 << 32 {
         return false;
@@ -49,7 +70,7 @@ fn list_counts<T: Counted>(items: &[T]) -> bool
 
 /// Whether the rules can be counted.
 #[tactic(auto, unfolding(crate::specs::Formats::rules_format))]
-pub fn rules_count(rules: &Rules) -> bool
+pub fn rules_count(rules: &Bounds) -> bool
     ensures { IsTrue result ↔ RulesCount (rules_fact rules.now) }
 {
     list_counts(rules.scopes.as_slice()) && list_counts(rules.clients.as_slice())

@@ -10,11 +10,10 @@
 
 mod counting;
 mod laws;
-mod rules;
+mod spelled;
 mod standing;
 mod whole;
 
 pub use laws::bytes_tell_one_rules;
-pub use rules::{ClientRules, Rules};
 pub use standing::{KeptHook, Standing};
 pub use whole::{decode_rules, encode_rules};

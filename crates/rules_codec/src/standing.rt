@@ -1,6 +1,6 @@
 //! What a server has, with the rules under which it has it.
 
-use crate::rules::Rules;
+use clients::Bounds;
 use consent::{KeptConsent, KeptRecord, Moment, RecordVersion};
 
 /// A hook by its name, with the version of its record and its code.
@@ -14,7 +14,7 @@ pub struct KeptHook<'a> {
 /// What a server has, with the rules under which it has it.
 #[derive(Drop)]
 pub struct Standing<'a> {
-    pub rules: Rules<'a>,
+    pub rules: Bounds<'a>,
     /// The greatest moment that a request was handed.
     pub greatest: Moment,
     /// The greatest number of a family so far, 0 where there is none.
