@@ -1,8 +1,9 @@
-mod Following
+pub mod Following
+pub mod Going
 mod Picking
 mod Reading
-mod Steps
+pub mod Steps
 mod Tearing
-mod Walking
+pub mod Walking
 mod Wholes
 mod Writing

@@ -5,22 +5,18 @@ use Rattle.std.specs.IoError.{error_kind, raw_os_error}
 use Rattle.std.specs.declared.io.Error.{Error}
 use Rattle.std.specs.declared.io.ErrorKind.{ErrorKind}
 use Rattle.std.specs.declared.io.ErrorKind.TheVariants as kinds
-use Rattle.std.specs.declared.fs.locks.TryLockError.{TryLockError}
-use Rattle.std.specs.declared.fs.locks.TryLockError.TheVariants as lock
 use Rattle.batch_file.specs.declared.system.SystemFault.{SystemFault}
 use Rattle.batch_file.specs.declared.system.SystemFault.TheVariants as system
 use Rattle.batch_file.specs.declared.device.DeviceFault.{DeviceFault}
 use Rattle.batch_file.specs.declared.device.DeviceFault.TheVariants as device
 use Rattle.batch_file.specs.declared.device.ReplaceFault.{ReplaceFault}
 use Rattle.batch_file.specs.declared.device.ReplaceFault.TheVariants as replacing
+use Rattle.batch_file.specs.declared.framing.ReadFault.{ReadFault}
+use Rattle.batch_file.specs.declared.framing.ReadFault.TheVariants as reading
 use Rattle.batch_file.specs.declared.appending.BatchFault.{BatchFault}
 use Rattle.batch_file.specs.declared.appending.BatchFault.TheVariants as batch
 use Rattle.batch_file.specs.declared.appending.RenewFault.{RenewFault}
 use Rattle.batch_file.specs.declared.appending.RenewFault.TheVariants as renewing
-use Rattle.batch_file.specs.declared.disk_file.OpenFault.{OpenFault}
-use Rattle.batch_file.specs.declared.disk_file.OpenFault.TheVariants as opening
-use Rattle.batch_file.specs.declared.disk_file.MakeFault.{MakeFault}
-use Rattle.batch_file.specs.declared.disk_file.MakeFault.TheVariants as making
 
 -- the fault of a kind of error
 abbrev pub fault_of_kind : ErrorKind → SystemFault
@@ -75,25 +71,12 @@ abbrev pub of_next : DeviceFault → RenewFault
 of_next device.Memory = renewing.Memory
 of_next (device.Failed reason) = renewing.Unplaced reason
 
--- why a file is not opened, by the error that the system gave; one that is not there has a name of its own
-abbrev pub of_kind : ErrorKind → SystemFault → OpenFault
-of_kind kinds.OutOfMemory reason = opening.Memory
-of_kind kinds.NotFound reason = opening.Missing
-of_kind kind reason = opening.Open reason
+-- where a source of bytes is not read, it is not known what the file has
+abbrev pub of_unread : DeviceFault → ReadFault
+of_unread device.Memory = reading.Memory
+of_unread (device.Failed reason) = reading.Unread reason
 
-abbrev pub of_error : Error → OpenFault
-of_error error = of_kind (error_kind error) (system_fault error)
-
--- a lock that another holds is InUse
-abbrev pub of_lock : TryLockError → OpenFault
-of_lock lock.WouldBlock = opening.InUse
-of_lock (lock.Error error) = of_error error
-
--- why a file is not made; where something is there, that has a name of its own
-abbrev pub of_making_kind : ErrorKind → SystemFault → MakeFault
-of_making_kind kinds.OutOfMemory reason = making.Memory
-of_making_kind kinds.AlreadyExists reason = making.Exists
-of_making_kind kind reason = making.Make reason
-
-abbrev pub of_making : Error → MakeFault
-of_making error = of_making_kind (error_kind error) (system_fault error)
+-- a device's fault where the old file is copied to the next one: the old one stands
+abbrev pub of_copying : DeviceFault → ReplaceFault
+of_copying device.Memory = replacing.Memory
+of_copying (device.Failed reason) = replacing.Unplaced reason

@@ -11,7 +11,7 @@ use Rattle.sha2.proofs.Facts256.{length-sha256}
 use Rattle.batch_file.specs.declared.appending.BatchFile.{BatchFile}
 use Rattle.batch_file.specs.declared.next.Next.{Next}
 use Rattle.batch_file.specs.declared.framing.ReadFault.{ReadFault}
-use Rattle.batch_file.specs.declared.framing.ReadFault.TheVariants.{Memory, NotState, Version, Damaged}
+use Rattle.batch_file.specs.declared.framing.ReadFault.TheVariants.{Memory, NotState, Version, Damaged, Unread}
 use Rattle.batch_file.specs.Frames.{header, body, seal, digest, sealed, size_at, batches_in, recovered, frames_size, IsSealed, IsFrame, AreFrames, HidesFrame, IsTorn, Spells, IsFileOf, IsReadable, IsVersion, IsNoFrame, IsRightFront, IsDamaged, RefusesFile, IsChance, AreNext}
 
 pub length-seal : (bytes : List ℕ) → length (seal bytes) ≡ 16
@@ -253,6 +253,7 @@ readable_is_kept file Memory readable refused = refused
 readable_is_kept file NotState readable refused = refused 3 (inl (omega arith, ap (λ (l : List ℕ). take 16 l) readable.1.is))
 readable_is_kept file (Version version) readable refused = refused.1 (other_version version _ file readable.1.is refused.0)
 readable_is_kept file (Damaged number) readable refused = damaged_is_none number file (recovered file) refused readable
+readable_is_kept file (Unread reason) readable refused = refused
 
 -- WHAT A DIGEST VOUCHES FOR
 

@@ -1,5 +1,5 @@
 -- Beside Frames: only the contracts of this crate's own parts and their proofs cite this, no public clause.
-use Rattle.std.specs.Prelude.{◌≡◌, ◌+◌, ℕ, List, ◌∷◌, ◌++◌, length, drop}
+use Rattle.std.specs.Prelude.{◌≡◌, ◌<◌, ◌+◌, ℕ, List, [], ◌∷◌, ◌++◌, length, drop}
 use Rattle.batch_file.specs.Frames.{header, AreFrames, IsNoFrame, IsTorn}
 
 -- the frames of these batches end there
@@ -20,3 +20,8 @@ IsOpenEnd last bytes = (torn : List ℕ) × (bytes ≡ 0 ∷ torn) × IsTorn las
 -- so it is read, and not refused
 abbrev pub IsFound : List (List ℕ) → List ℕ → ℕ → List ℕ → Type 0
 IsFound batches last end bytes = IsRead batches last end bytes × IsOpenEnd last (drop end bytes)
+
+-- The front and more are a file of so many bytes: a front that is shorter than a header is all of it.
+pub record Begins (front more : List ℕ) (len : ℕ) : Type 0 where
+  pub size : length (front ++ more) ≡ len
+  pub short : length front < 16 → more ≡ []

@@ -12,7 +12,7 @@ use crate::system::SystemFault;
 use std::fmt::{self, Display, Formatter, Write};
 
 /// Behind this many bytes nothing is added.
-pub(crate) const MAX_END: usize = 1 << 60;
+pub const MAX_END: usize = 1 << 60;
 
 /// An append of as many bytes or more is refused.
 pub(crate) const LIMIT: usize = 1 << 23;

@@ -1,6 +1,6 @@
 //! A file as a `BatchFile` sees it: what a read would return, and what a crash may leave.
 
-ghost use Rattle.std.specs.Prelude.{◌≡◌, ◌≤◌, ◌++◌, [], Bool, List, ℕ, length, take, drop, Option, Some, option_map, IfOk, OnOk, IfErr, IfSome};
+ghost use Rattle.std.specs.Prelude.{◌≡◌, ◌≤◌, ◌++◌, [], Bool, List, ℕ, length, take, drop, Option, Some, None, option_map, IfOk, OnOk, IfErr, IfSome};
 ghost use Rattle.batch_file.specs.declared.device.DeviceFault.TheVariants.{Memory};
 ghost use Rattle.batch_file.specs.declared.device.ReplaceFault.TheVariants as replacing;
 ghost use Rattle.batch_file.specs.Crashes.{Elapses, ComesOfStep, HasCause, IsBeside, IsFailure, IsUnplaced, IsReplaceFailure, IsWrittenAt, Only, Swapped, Torn};
@@ -171,6 +171,13 @@ pub trait Device {
         ensures crash { IfSome (next_on_disk self.old) (λ bytes. ComesOfStep (Swapped bytes) (may_leave self.old) (may_leave self.new)) }
         ensures time { Elapses (moment self.old) (moment self.new) (left_since self.old) (left_since self.new) (may_leave self.new) }
         ensures cause { HasCause IsReplaceFailure (faults self.old) (faults self.new) result }
+        ensures truth { reads_true self.new → reads_true self.old };
+
+    /// Removes what there is of a next file.
+    fn drop_next(&mut self)
+        ensures none { next self.new ≡ None }
+        ensures beside { IsBeside seen may_leave faults self.old self.new }
+        ensures time { Elapses (moment self.old) (moment self.new) (left_since self.old) (left_since self.new) (may_leave self.new) }
         ensures truth { reads_true self.new → reads_true self.old };
 
     /// Puts bytes aside, beside the file, which stays as it was.

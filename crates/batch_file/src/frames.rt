@@ -9,7 +9,7 @@ use std::alloc::{AllocError, AllocFailed, Global};
 use std::marker::Model;
 
 /// A batch has fewer bytes.
-const MAX_BATCH: usize = 1 << 32;
+pub const MAX_BATCH: usize = 1 << 32;
 
 /// Why a batch is not added to a file in memory.
 #[derive(Clone, Copy, Debug, PartialEq, Eq)]
@@ -86,6 +86,14 @@ impl Frames {
         ensures { result ≡ file_size self.now }
     {
         self.bytes.len()
+    }
+
+    /// Its bytes.
+    pub fn as_bytes(&self) -> &[u8]
+        ensures batches { recovered result.now ≡ self.now }
+        ensures readable { IsReadable result.now }
+    {
+        &self.bytes
     }
 
     /// Its bytes.

@@ -7,10 +7,13 @@
 ghost use Rattle.std.specs.Prelude.{◌≡◌, ◌<◌, ◌≤◌, ◌^◌, ◌⊎◌, ◌+◌, ◌++◌, [], ◌∷◌, ℕ, List, length, take, drop, IfOk, IfErr, IfSome, IfNone, IsTrue, IsFalse, ◌↔◌};
 ghost use Rattle.std.specs.Int.{w32, to_be_bytes};
 ghost use Rattle.batch_file.specs.declared.framing.ReadFault.TheVariants.{Memory};
+ghost use Rattle.batch_file.specs.Faults.{of_unread};
 ghost use Rattle.batch_file.specs.Frames.{digest, lists, recovered, seal, torn_of, HidesFrame, IsDamaged, IsFirstKind, IsFrame, IsNoEnd, IsNoFrame, IsReadable, IsRightFront, IsSealed, IsVersion, RefusesFile, RefusesHeader};
-ghost use Rattle.batch_file.specs.Reads.{IsFound, IsFront, IsOpenEnd};
+ghost use Rattle.batch_file.specs.Reads.{Begins, IsFound, IsFront, IsOpenEnd};
 
+use crate::device::DeviceFault;
 use crate::frames::Frames;
+use crate::system::SystemFault;
 use sha2::{Digest, Sha256};
 use std::alloc::{AllocError, AllocFailed, Global};
 
@@ -21,7 +24,7 @@ const TITLE: [u8; 14] = *b"oauthd state v";
 pub const HEADER: [u8; 16] = *b"oauthd state v3\n";
 
 /// Behind a closed latch an append that was not finished leaves no more than this.
-const LONGEST_TORN: usize = (1 << 23) + 20;
+pub(crate) const LONGEST_TORN: usize = (1 << 23) + 20;
 
 /// Why a file is not read.
 #[derive(Clone, Copy, Debug, PartialEq, Eq)]
@@ -34,6 +37,8 @@ pub enum ReadFault {
     Version(u8),
     /// So many batches are right, and what is behind them is damaged.
     Damaged(usize),
+    /// The system refused to read it, or it is longer than a file is read.
+    Unread(SystemFault),
 }
 
 impl From<AllocError> for ReadFault {
@@ -49,6 +54,17 @@ impl<T: Drop> From<AllocFailed<T>> for ReadFault {
 
     fn from(_: AllocFailed<T>) -> ReadFault {
         ReadFault::Memory
+    }
+}
+
+impl From<DeviceFault> for ReadFault {
+    ghost from_gives = { λ device fault. fault ≡ of_unread device };
+
+    fn from(device: DeviceFault) -> ReadFault {
+        match device {
+            DeviceFault::Memory => ReadFault::Memory,
+            DeviceFault::Failed(reason) => ReadFault::Unread(reason),
+        }
     }
 }
 
@@ -120,7 +136,7 @@ fn find_front(alloc: Global, bytes: &[u8]) -> Result<Found, ReadFault>
     ensures within { IfOk result (λ front. front.end ≤ length bytes.now) }
     ensures refused { IfErr result (λ fault. (fault ≡ Memory) ⊎ RefusesHeader bytes.now fault) }
 {
-    match version_of(bytes) {
+    match version_of(bytes, bytes.len()) {
         Some(3) => {}
         Some(version) => return Err(ReadFault::Version(version)),
         None => return Err(ReadFault::NotState),
@@ -136,26 +152,28 @@ fn find_front(alloc: Global, bytes: &[u8]) -> Result<Found, ReadFault>
     Ok(Found { batches, end, last })
 }
 
-/// Whether a file is of the first kind: it has no header, and begins with a latch of 1, a batch's length in four bytes, and the batch.
-fn is_first_kind(bytes: &[u8]) -> bool
-    ensures { IsTrue result ↔ IsFirstKind bytes.now }
+/// Whether a file of so many bytes that begins with these is of the first kind: it has no header, and begins with a latch of 1, a
+/// batch's length in four bytes, and the batch.
+fn is_first_kind(bytes: &[u8], len: usize) -> bool
+    ensures { (more : List ℕ) → Begins bytes.now more len → IsTrue result ↔ IsFirstKind (bytes.now ++ more) }
 {
     if bytes.len() < 5 || bytes[0] != 1 {
         return false;
     }
     let size = u32::from_be_bytes([bytes[1], bytes[2], bytes[3], bytes[4]]) as usize;
-    size <= bytes.len() - 5
+    size + 5 <= len
 }
 
-/// Of which version a state file is, if the bytes are of one.
-fn version_of(bytes: &[u8]) -> Option<u8>
-    ensures some { IfSome result (λ version. IsVersion version bytes.now) }
-    ensures none { IfNone result ((version : ℕ) → IsVersion version bytes.now → ⊥) }
+/// Of which version a state file of so many bytes is that begins with these, if it is of one.
+pub(crate) fn version_of(bytes: &[u8], len: usize) -> Option<u8>
+    ensures some { IfSome result (λ version. (more : List ℕ) → Begins bytes.now more len → IsVersion version (bytes.now ++ more)) }
+    ensures none { IfNone result ((more : List ℕ) → Begins bytes.now more len
+        → (version : ℕ) → IsVersion version (bytes.now ++ more) → ⊥) }
 {
     if bytes.starts_with(&TITLE) {
         return told_digit(&bytes[TITLE.len()..]);
     }
-    if is_first_kind(bytes) {
+    if is_first_kind(bytes, len) {
         return Some(1);
     }
     None
@@ -173,7 +191,7 @@ fn told_digit(bytes: &[u8]) -> Option<u8>
 }
 
 /// Whether a closed latch stands here, and no more behind it than an append that was not finished may have left.
-fn is_open_end(bytes: &[u8], last: &[u8; 16]) -> bool
+pub(crate) fn is_open_end(bytes: &[u8], last: &[u8; 16]) -> bool
     ensures yes { IsTrue result → IsOpenEnd last.now bytes.now }
     ensures no { IsFalse result → IsNoEnd last.now bytes.now }
 {
@@ -194,7 +212,7 @@ fn hides_frame(torn: &[u8], last: &[u8; 16]) -> bool
 }
 
 /// The batch of the frame at the front, if there is one behind that digest.
-fn first_batch<'b>(bytes: &'b [u8], before: &[u8; 16]) -> Option<&'b [u8]>
+pub(crate) fn first_batch<'b>(bytes: &'b [u8], before: &[u8; 16]) -> Option<&'b [u8]>
     ensures some { IfSome result (λ batch. IsFrame before.now batch.now (drop (21 + length batch.now) bytes.now) bytes.now) }
     ensures within { IfSome result (λ batch. 21 + length batch.now ≤ length bytes.now) }
     ensures none { IfNone result (IsNoFrame before.now bytes.now) }
@@ -249,15 +267,15 @@ fn seal(before: &[u8; 16], size: &[u8], batch: &[u8]) -> [u8; 16]
 
 /// What stands between a latch and its batch.
 #[derive(Clone, Copy)]
-pub(crate) struct Head {
+pub struct Head {
     /// The length of the batch, and its digest.
-    pub(crate) bytes: [u8; 20],
+    pub bytes: [u8; 20],
     /// Its digest.
-    pub(crate) digest: [u8; 16],
+    pub digest: [u8; 16],
 }
 
 /// The head of a batch behind that digest.
-pub(crate) fn head_of(before: &[u8; 16], batch: &[u8]) -> Head
+pub fn head_of(before: &[u8; 16], batch: &[u8]) -> Head
     requires { length batch.now < 2 ^ 32 }
     ensures bytes { result.bytes ≡ to_be_bytes w32 (length batch.now) ++ digest before.now batch.now }
     ensures digest { result.digest ≡ digest before.now batch.now }
@@ -271,7 +289,7 @@ pub(crate) fn head_of(before: &[u8; 16], batch: &[u8]) -> Head
 }
 
 /// The 16 bytes at that place.
-fn digest_at(bytes: &[u8], at: usize) -> [u8; 16]
+pub(crate) fn digest_at(bytes: &[u8], at: usize) -> [u8; 16]
     requires { at + 16 ≤ length bytes.now }
     ensures { result ≡ take 16 (drop at bytes.now) }
 {

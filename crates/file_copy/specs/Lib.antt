@@ -1,0 +1,2 @@
+-- What only the contracts of this crate's own parts and their proofs cite.
+pub mod Copies
