@@ -4,13 +4,14 @@ use Rattle.change_codec.specs.Keeping.{Crashes, crashes}
 use Rattle.change_codec.specs.declared.keeper.Keeper.{Ghosts as Keeper}
 
 -- what crashes leave of it, how many bytes all that it keeps takes, when it failed when it was called last, when it keeps more than
--- it may, how much is to be gone over until that is shortened, and when it was
+-- it may, how much is to be gone over until that is shortened, when no more than a slice was gone over, and when it was shortened
 pub record Keeping (K : Type 0) : Type 1 where
   pub crashes : Crashes K
   pub size : K → Option ℕ
   pub has_failed : K → Type 0
   pub is_long : K → Type 0
   pub to_go : K → ℕ
+  pub slices : K → K → Type 0
   pub shortens : K → K → Type 0
 
 abbrev pub keeping : {K : Type 0} → Keeper K → Keeping K
@@ -20,5 +21,6 @@ keeping keeper = record {
   has_failed = keeper.has_failed;
   is_long = keeper.is_long;
   to_go = keeper.to_go;
+  slices = keeper.slices;
   shortens = keeper.shortens;
 }

@@ -14,7 +14,10 @@ use Rattle.event_loop.specs.Writing as writing
 use Rattle.event_loop.specs.DurableLaws.{front_then, same_front, served_on}
 use Rattle.event_loop.specs.EndsLaws.{end_keeper}
 use Rattle.event_loop.proofs.Answering.{served_answered}
-use Rattle.event_loop.proofs.Lasting.{keeps_same, leaves_either, leaves_now, leaves_same}
+use Rattle.event_loop.proofs.Lasting.{keeps_same, keeps_within, leaves_either, leaves_now, leaves_same, tells_within}
+use Rattle.change_codec.specs.Keeping.{horizon_bound}
+use Rattle.event_loop.specs.Durable.{told_by}
+use Rattle.event_loop.specs.Ends.{told_then}
 use Rattle.event_loop.proofs.Kept.{front_noted, kept_history, kept_last}
 
 -- the history grows, what was kept last is as it was, and the greatest moment too, or it is this one
@@ -82,34 +85,34 @@ IsSameTime s s' = (s'.times ≡ s.times) × (waits_done s'.calls ≡ waits_done 
 abbrev pub KeepsLast : {N C J K H : Type 0} → Promises N C J K H → LoopState N C J K H → K → Type 0
 KeepsLast p s keeper = (kept : List Event) → s.progress.journey.world.kept ≡ Some kept → Keeps p.keeping.crashes kept kept s.keeper keeper
 
--- the keeper is as it was, and the history grows; or what is unkept is kept; or what was kept is kept in another way
-pub data Moves {N C J K H : Type 0} (p : Promises N C J K H) (s s' : LoopState N C J K H) : Type 0 where
-  goes_on : (s'.keeper ≡ s.keeper) × IsSameTime s s' × (s'.progress.journey.outset ≡ s.progress.journey.outset) → Grows s.times.moment s.progress.journey.world s'.progress.journey.world → Moves p s s'
+-- Within a limit for moments that are told, the keeper is as it was, and the history grows; or what is unkept is kept; or what was kept is kept in another way
+pub data Moves {N C J K H : Type 0} (p : Promises N C J K H) (limit : ℕ) (s s' : LoopState N C J K H) : Type 0 where
+  goes_on : (s'.keeper ≡ s.keeper) × IsSameTime s s' × (s'.progress.journey.outset ≡ s.progress.journey.outset) → Grows s.times.moment s.progress.journey.world s'.progress.journey.world → Moves p limit s s'
   keeps_all : (unkept : IsUnkept s.progress.journey.world) → Keeps p.keeping.crashes unkept.kept s.progress.journey.world.history s.keeper s'.keeper → s'.progress.journey.world.kept ≡ Some s.progress.journey.world.history →
-      s'.progress.journey.world.history ≡ s.progress.journey.world.history → KeepsBasis p.keeping.crashes s.keeper s'.keeper →
-      IsSameTime s s' × (s'.progress.journey.world.greatest ≡ s.progress.journey.world.greatest) × (s'.progress.journey.outset ≡ s.progress.journey.outset) → Moves p s s'
-  keeps_still : KeepsLast p s s'.keeper → s'.progress.journey ≡ s.progress.journey → KeepsBasis p.keeping.crashes s.keeper s'.keeper →
-      IsSameTime s s' ⊎ (MomentIsHeld p s' × (waits_done s'.calls ≡ suc (waits_done s.calls))) → Moves p s s'
+      s'.progress.journey.world.history ≡ s.progress.journey.world.history → KeepsBasis p.keeping.crashes limit s.keeper s'.keeper →
+      IsSameTime s s' × (s'.progress.journey.world.greatest ≡ s.progress.journey.world.greatest) × (s'.progress.journey.outset ≡ s.progress.journey.outset) → Moves p limit s s'
+  keeps_still : KeepsLast p s s'.keeper → s'.progress.journey ≡ s.progress.journey → KeepsBasis p.keeping.crashes limit s.keeper s'.keeper →
+      IsSameTime s s' ⊎ (MomentIsHeld p s' × (waits_done s'.calls ≡ suc (waits_done s.calls))) → Moves p limit s s'
 
 -- what a step does: to the keeper, and to what happened; to the sockets; and where it is a write, all was kept
-pub record Does {N C J K H : Type 0} (p : Promises N C J K H) (s s' : LoopState N C J K H) : Type 0 where
-  pub moves : Moves p s s'
+pub record Does {N C J K H : Type 0} (p : Promises N C J K H) (limit : ℕ) (s s' : LoopState N C J K H) : Type 0 where
+  pub moves : Moves p limit s s'
   pub did : (first : N) → HaveDone p.sockets first s.calls s.sockets → HaveDone p.sockets first s'.calls s'.sockets
   pub kept : IsWriteKept s s'
 
 -- what a failure does: to the sockets, and to the keeper alone
-pub record FailDoes {N C J K H : Type 0} (p : Promises N C J K H) (s s' : LoopState N C J K H) : Type 0 where
+pub record FailDoes {N C J K H : Type 0} (p : Promises N C J K H) (limit : ℕ) (s s' : LoopState N C J K H) : Type 0 where
   pub did : (first : N) → HaveDone p.sockets first s.calls s.sockets → HaveDone p.sockets first s'.calls s'.sockets
   pub reached : IsReached p.hosting s.progress → IsReached p.hosting s'.progress
-  pub tells : TellsBasis p.keeping.crashes s.keeper s'.keeper
+  pub tells : TellsBasis p.keeping.crashes limit s.keeper s'.keeper
 
 module _ {N C J K H : Type 0} (p : Promises N C J K H) where
   not_longer : (calls : List Call) (call : Call) → calls ≡ call ∷ calls → ⊥
   not_longer calls call is = let more = ap length is in omega (arith, more)
 
   -- no call is made, and the server's side is as it was
-  quiet : (s : LoopState N C J K H) {found : List Ready} {queue : Queue} {places : List Place} {told : LastTold} {refused : Option ℕ} {noted : Noted J} →
-      Does p s (record s { found = found; queue = queue; places = places; told = told; refused = refused; noted = noted })
+  quiet : {limit : ℕ} (s : LoopState N C J K H) {found : List Ready} {queue : Queue} {places : List Place} {told : LastTold} {refused : Option ℕ} {noted : Noted J} →
+      Does p limit s (record s { found = found; queue = queue; places = places; told = told; refused = refused; noted = noted })
   quiet s = record {
     moves = goes_on (refl, (refl, refl), refl) (grows_not s.times.moment _ _ refl);
     did = λ first before. before;
@@ -117,17 +120,17 @@ module _ {N C J K H : Type 0} (p : Promises N C J K H) where
   }
 
   -- one call is made, which is no wait and no write
-  calls_on : (s : LoopState N C J K H) (call : Call) (n : N) (progress : Progress H) {places : List Place} {queue : Queue} {noted : Noted J} {accepted : ℕ} → p.sockets.does s.sockets call n →
+  calls_on : {limit : ℕ} (s : LoopState N C J K H) (call : Call) (n : N) (progress : Progress H) {places : List Place} {queue : Queue} {noted : Noted J} {accepted : ℕ} → p.sockets.does s.sockets call n →
       waits_done (call ∷ s.calls) ≡ waits_done s.calls → ((k room : ℕ) (took : Transfer) → call ≢ Wrote k room took) → progress.journey.outset ≡ s.progress.journey.outset →
       Grows s.times.moment s.progress.journey.world progress.journey.world →
-      Does p s (record (with_call s call n) { progress = progress; places = places; queue = queue; noted = noted; accepted = accepted })
+      Does p limit s (record (with_call s call n) { progress = progress; places = places; queue = queue; noted = noted; accepted = accepted })
   calls_on s call n progress done not_wait not_write outset grows = record {
     moves = goes_on (refl, (refl, not_wait), outset) grows;
     did = λ first before. deed.did call n before done;
     kept = λ k room took is. absurd (not_write k room took (let same : call ≡ Wrote k room took = cc in same));
   }
 
-  reads_does : (j : ℕ) (place : Place) (s s' : LoopState N C J K H) → ReadsPlace p j place s s' → Does p s s'
+  reads_does : {limit : ℕ} (j : ℕ) (place : Place) (s s' : LoopState N C J K H) → ReadsPlace p j place s s' → Does p limit s s'
   reads_does j place s s' (reading.hears bytes n progress place' some few done heard is) =
       calls_on s _ n progress done refl (λ k room took is. absurd (cc)) (gives_outset p.hosting _ s.progress heard.given progress heard.gives) (gives_grows p.hosting (piece_of j bytes s.times.moment) s.progress heard.given progress heard.gives)
   reads_does j place s s' (reading.refuses bytes n fault progress some few done unheard) =
@@ -137,7 +140,7 @@ module _ {N C J K H : Type 0} (p : Promises N C J K H) where
   reads_does j place s s' (reading.finds_nothing n done) = calls_on s _ n s.progress done refl (λ k room took is. absurd (cc)) refl (grows_not s.times.moment _ _ refl)
   reads_does j place s s' (reading.fails n done) = calls_on s _ n s.progress done refl (λ k room took is. absurd (cc)) refl (grows_not s.times.moment _ _ refl)
 
-  writes_does : (j : ℕ) (place : Place) (s s' : LoopState N C J K H) → IsAllKept s.progress.journey.world → WritesPlace p j place s s' → Does p s s'
+  writes_does : {limit : ℕ} (j : ℕ) (place : Place) (s s' : LoopState N C J K H) → IsAllKept s.progress.journey.world → WritesPlace p j place s s' → Does p limit s s'
   writes_does j place s s' all (writing.sends count front n e on some is_front done) = record {
     moves = goes_on (refl, (refl, refl), refl) (takes_grows s.times.moment s.progress.journey.world on.world j count on.happens);
     did = λ first before. deed.did _ n before done;
@@ -146,10 +149,10 @@ module _ {N C J K H : Type 0} (p : Promises N C J K H) where
   writes_does j place s s' all (writing.finds_no_room n done) = record { moves = goes_on (refl, (refl, refl), refl) (grows_not s.times.moment _ _ refl); did = λ first before. deed.did _ n before done; kept = λ k room took is. all }
   writes_does j place s s' all (writing.fails n done) = record { moves = goes_on (refl, (refl, refl), refl) (grows_not s.times.moment _ _ refl); did = λ first before. deed.did _ n before done; kept = λ k room took is. all }
 
-  closes_does : (j : ℕ) (place : Place) (s s' : LoopState N C J K H) → Closes p j place s s' → Does p s s'
+  closes_does : {limit : ℕ} (j : ℕ) (place : Place) (s s' : LoopState N C J K H) → Closes p j place s s' → Does p limit s s'
   closes_does j place s s' (leaves n e on noted done noting) = calls_on s _ n (led s.progress on) done refl (λ k room took is. absurd (cc)) refl (grows_still s.times.moment s.progress.journey.world on.world on.happens.still)
 
-  pub step_does : (s s' : LoopState N C J K H) → LoopStep p s s' → Does p s s'
+  pub step_does : (s s' : LoopState N C J K H) (step : LoopStep p s s') → Does p (horizon_bound (told_by step)) s s'
   step_does s s' (waits limit room found n times c keeper may done told near kept further) = record {
     moves = keeps_still (λ last is. kept.holds last) refl kept.basis (inr (kept.told, refl));
     did = λ first before. deed.did _ n before done;
@@ -167,40 +170,40 @@ module _ {N C J K H : Type 0} (p : Promises N C J K H) where
   step_does s s' (reads j place s'' here readable unread may reading) = reads_does j place s s'' reading
   step_does s s' (writes j place s'' here writable unwritten all may writing) = writes_does j place s s'' all writing
   step_does s s' (closes j place s'' here taken cause closing) = closes_does j place s s'' closing
-  step_does s s' (shortens keeper all long undone kept basis nearer) = record {
-    moves = keeps_still (λ last is. subst (λ (h : List Event). Keeps p.keeping.crashes h h s.keeper keeper) (sym (all last is)) kept) refl basis (inl (refl, refl));
+  step_does s s' (shortens keeper all long undone kept basis slice nearer) = record {
+    moves = keeps_still (λ last is. subst (λ (h : List Event). Keeps p.keeping.crashes h h s.keeper keeper) (sym (all last is)) kept) refl (keeps_within p.keeping.crashes 0 10 s.keeper keeper (omega arith) basis) (inl (refl, refl));
     did = λ first before. deed.shortened before;
     kept = λ k room took is. absurd (cc);
   }
   step_does s s' (no_slice keeper journal all long ago kept basis told) = record {
-    moves = keeps_still (λ last is. subst (λ (h : List Event). Keeps p.keeping.crashes h h s.keeper keeper) (sym (all last is)) kept) refl basis (inl (refl, refl));
+    moves = keeps_still (λ last is. subst (λ (h : List Event). Keeps p.keeping.crashes h h s.keeper keeper) (sym (all last is)) kept) refl (keeps_within p.keeping.crashes 0 10 s.keeper keeper (omega arith) basis) (inl (refl, refl));
     did = λ first before. before;
     kept = λ k room took is. absurd (not_longer s.calls _ is);
   }
   step_does s s' (keeps keeper e unkept on undone kept basis further) = record {
-    moves = keeps_all unkept kept (kept_last s.progress.journey.world on.world on.happens) (kept_history s.progress.journey.world on.world on.happens) basis ((refl, refl), ap (λ (w : World). w.greatest) on.happens.kept, refl);
+    moves = keeps_all unkept kept (kept_last s.progress.journey.world on.world on.happens) (kept_history s.progress.journey.world on.world on.happens) (keeps_within p.keeping.crashes 0 10 s.keeper keeper (omega arith) basis) ((refl, refl), ap (λ (w : World). w.greatest) on.happens.kept, refl);
     did = λ first before. deed.kept before;
     kept = λ k room took is. absurd (cc);
   }
   step_does s s' step = quiet s
 
-  pub step_moves : (s s' : LoopState N C J K H) → LoopStep p s s' → Moves p s s'
+  pub step_moves : (s s' : LoopState N C J K H) (step : LoopStep p s s') → Moves p (horizon_bound (told_by step)) s s'
   step_moves s s' step = (step_does s s' step).moves
 
-  pub fails_does : (s s' : LoopState N C J K H) (fault : LoopFault) → CannotGoOn p s fault s' → FailDoes p s s'
-  fails_does s s' fault (no_wait limit room n may done) = record { did = λ first before. deed.did _ n before done; reached = λ was. was; tells = (keeps_same p.keeping.crashes s.keeper s.keeper refl).meanwhile }
-  fails_does s s' fault (no_time limit room found n c may done told) = record { did = λ first before. deed.did _ n before done; reached = λ was. was; tells = (keeps_same p.keeping.crashes s.keeper s.keeper refl).meanwhile }
-  fails_does s s' fault (too_far limit room found n times c seconds may done told far) = record { did = λ first before. deed.did _ n before done; reached = λ was. was; tells = (keeps_same p.keeping.crashes s.keeper s.keeper refl).meanwhile }
+  pub fails_does : (s s' : LoopState N C J K H) (fault : LoopFault) (failing : CannotGoOn p s fault s') → FailDoes p (horizon_bound (told_then failing)) s s'
+  fails_does s s' fault (no_wait limit room n may done) = record { did = λ first before. deed.did _ n before done; reached = λ was. was; tells = (keeps_same p.keeping.crashes 10 s.keeper s.keeper refl).meanwhile }
+  fails_does s s' fault (no_time limit room found n c may done told) = record { did = λ first before. deed.did _ n before done; reached = λ was. was; tells = (keeps_same p.keeping.crashes 10 s.keeper s.keeper refl).meanwhile }
+  fails_does s s' fault (too_far limit room found n times c seconds may done told far) = record { did = λ first before. deed.did _ n before done; reached = λ was. was; tells = (keeps_same p.keeping.crashes 10 s.keeper s.keeper refl).meanwhile }
   fails_does s s' fault (no_moment limit room found n times c keeper may done told near lost basis asked) = record { did = λ first before. deed.did _ n before done; reached = λ was. was; tells = basis }
-  fails_does s s' fault (not_kept keeper unkept undone lost basis asked) = record { did = λ first before. before; reached = λ was. was; tells = basis }
-  fails_does s s' fault (not_shortened keeper all undone lost basis asked) = record { did = λ first before. before; reached = λ was. was; tells = basis }
-  fails_does s s' fault (no_more many) = record { did = λ first before. before; reached = λ was. was; tells = (keeps_same p.keeping.crashes s.keeper s.keeper refl).meanwhile }
+  fails_does s s' fault (not_kept keeper unkept undone lost basis asked) = record { did = λ first before. before; reached = λ was. was; tells = tells_within p.keeping.crashes 0 10 s.keeper keeper (omega arith) basis }
+  fails_does s s' fault (not_shortened keeper all undone lost basis asked) = record { did = λ first before. before; reached = λ was. was; tells = tells_within p.keeping.crashes 0 10 s.keeper keeper (omega arith) basis }
+  fails_does s s' fault (no_more many) = record { did = λ first before. before; reached = λ was. was; tells = (keeps_same p.keeping.crashes 10 s.keeper s.keeper refl).meanwhile }
 
   -- what was kept is a front of what happened, wherever steps lead to
   pub served_front : (first s : LoopState N C J K H) → Served p first s → (kept : List Event) → s.progress.journey.world.kept ≡ Some kept → IsFrontOf kept s.progress.journey.world.history
   served_front first s served kept is = front_noted s.progress.edge.server.unkept s.progress.journey.world.kept s.progress.journey.world.history (served_answered p first s served).reached.notes kept is
 
-  moves_held : (s s' : LoopState N C J K H) → Moves p s s' → KeeperHolds p s → KeeperHolds p s'
+  moves_held : {limit : ℕ} (s s' : LoopState N C J K H) → Moves p limit s s' → KeeperHolds p s → KeeperHolds p s'
   moves_held s s' (goes_on same grows) held = λ kept is c left. held kept (sym grows.kept ∙ is) c (subst (λ k. p.keeping.crashes.may_leave k c) same.0 left)
   moves_held s s' (keeps_all unkept kept last history basis still) held = λ now is c left.
       subst (p.keeping.crashes.stands_for c) (same_Some s.progress.journey.world.history now (sym last ∙ is)) (kept.holds (held unkept.kept unkept.here) c left)
@@ -212,7 +215,7 @@ module _ {N C J K H : Type 0} (p : Promises N C J K H) where
   served_held first s held (begins is) = held
   served_held first s held (goes {s = before} served step) = moves_held before s (step_moves before s step) (served_held first before held served)
 
-  moves_carries : (s s' : LoopState N C J K H) → ((kept : List Event) → s.progress.journey.world.kept ≡ Some kept → IsFrontOf kept s.progress.journey.world.history) → Moves p s s' → Carries s.progress.journey s'.progress.journey
+  moves_carries : {limit : ℕ} (s s' : LoopState N C J K H) → ((kept : List Event) → s.progress.journey.world.kept ≡ Some kept → IsFrontOf kept s.progress.journey.world.history) → Moves p limit s s' → Carries s.progress.journey s'.progress.journey
   moves_carries s s' fronts (goes_on same grows) = record { outset = same.2; front = grows.front; kept = λ before is. (before, grows.kept ∙ is, same_front before before refl) }
   moves_carries s s' fronts (keeps_all unkept kept last history basis still) = record {
     outset = still.2;
@@ -270,7 +273,7 @@ module _ {N C J K H : Type 0} (p : Promises N C J K H) where
 
   shuts_did : (first : N) (s s' : LoopState N C J K H) → Shuts p s s' → HaveDone p.sockets first s.calls s.sockets → HaveDone p.sockets first s'.calls s'.sockets
   shuts_did first s s' stops before = before
-  shuts_did first s s' (shuts {s = middle} k place shut here taken closing) before = (closes_does k place middle s' closing).did first (shuts_did first s middle shut before)
+  shuts_did first s s' (shuts {s = middle} k place shut here taken closing) before = (closes_does {limit = 0} k place middle s' closing).did first (shuts_did first s middle shut before)
 
   emptied_did : (first last failed emptied : LoopState N C J K H) (fault : LoopFault) → Served p first last → CannotGoOn p last fault failed → Shuts p failed emptied → HaveDone p.sockets first.sockets emptied.calls emptied.sockets
   emptied_did first last failed emptied fault served failing shut = shuts_did first.sockets failed emptied shut ((fails_does last failed fault failing).did first.sockets (served_did first last served))
@@ -287,7 +290,7 @@ module _ {N C J K H : Type 0} (p : Promises N C J K H) where
     held_at : (s' : LoopState N C J K H) → Onward p s s' → KeeperHolds p s'
     held_at s' on = served_held first s' at_first (served_on p first s s' served on)
 
-    step_leaves : (s' s'' : LoopState N C J K H) → Onward p s s' → Leaves p.keeping.crashes s.keeper s'.keeper (StandsBetween p s before s') → LoopStep p s' s'' → Moves p s' s'' →
+    step_leaves : {limit : ℕ} (s' s'' : LoopState N C J K H) → Onward p s s' → Leaves p.keeping.crashes s.keeper s'.keeper (StandsBetween p s before s') → LoopStep p s' s'' → Moves p limit s' s'' →
         Leaves p.keeping.crashes s.keeper s''.keeper (StandsBetween p s before s'')
     step_leaves s' s'' on so_far step (goes_on same grows) = leaves_same p.keeping.crashes s.keeper s'.keeper s''.keeper _ _ so_far same.0 (λ c. between_on s before s' s'' c step grows.front)
     step_leaves s' s'' on so_far step (keeps_all unkept kept last history basis still) =

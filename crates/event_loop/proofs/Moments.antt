@@ -6,38 +6,55 @@ use Rattle.event_loop.specs.Calls.{waits}
 use Rattle.event_loop.specs.EndsLaws.{end_keeper}
 use Rattle.event_loop.specs.Served as step
 use Rattle.event_loop.proofs.Lasting.{keeps_same, keeps_then, leaves_told, tells_then}
+use Rattle.change_codec.specs.Keeping.{horizon_bound}
+use Rattle.event_loop.specs.Durable.{told_by, latest}
+use Rattle.event_loop.specs.Ends.{told_then}
+use Rattle.std.specs.Prelude.{max}
+use Rattle.std.proofs.Math.Nat.{le-max_left, le-max_right}
 use Rattle.event_loop.proofs.Fronts.{Moves, IsSameTime, goes_on, keeps_all, keeps_still, step_moves, fails_does}
 
 module _ {N C J K H : Type 0} (p : Promises N C J K H) where
   -- what was told is told behind each step
-  moves_basis : (s s' : LoopState N C J K H) → Moves p s s' → KeepsBasis p.keeping.crashes s.keeper s'.keeper
-  moves_basis s s' (goes_on same grows) = keeps_same p.keeping.crashes s.keeper s'.keeper same.0
-  moves_basis s s' (keeps_all unkept kept last history basis still) = basis
-  moves_basis s s' (keeps_still last same basis still) = basis
+  moves_basis : (limit : ℕ) (s s' : LoopState N C J K H) → Moves p limit s s' → KeepsBasis p.keeping.crashes limit s.keeper s'.keeper
+  moves_basis limit s s' (goes_on same grows) = keeps_same p.keeping.crashes limit s.keeper s'.keeper same.0
+  moves_basis limit s s' (keeps_all unkept kept last history basis still) = basis
+  moves_basis limit s s' (keeps_still last same basis still) = basis
+
+  step_basis : (s s' : LoopState N C J K H) (step : LoopStep p s s') → KeepsBasis p.keeping.crashes (horizon_bound (told_by step)) s.keeper s'.keeper
+  step_basis s s' step = moves_basis (horizon_bound (told_by step)) s s' (step_moves p s s' step)
+
+  -- what is told no later than the one moment is told no later than the greater of two
+  within_one : (m n : ℕ) → horizon_bound m ≤ horizon_bound (max m n)
+  within_one m n = let le = le-max_left m n in omega (arith, le)
+
+  within_other : (m n : ℕ) → horizon_bound n ≤ horizon_bound (max m n)
+  within_other m n = let le = le-max_right m n in omega (arith, le)
 
   -- and wherever steps lead to
-  pub onward_basis : (s s' : LoopState N C J K H) → Onward p s s' → KeepsBasis p.keeping.crashes s.keeper s'.keeper
-  onward_basis s s' stays = keeps_same p.keeping.crashes s.keeper s.keeper refl
-  onward_basis s s' (onward {s' = middle} on step) = keeps_then p.keeping.crashes s.keeper middle.keeper s'.keeper (onward_basis s middle on) (moves_basis middle s' (step_moves p middle s' step))
+  pub onward_basis : (s s' : LoopState N C J K H) (on : Onward p s s') → KeepsBasis p.keeping.crashes (horizon_bound (latest on)) s.keeper s'.keeper
+  onward_basis s s' stays = keeps_same p.keeping.crashes 10 s.keeper s.keeper refl
+  onward_basis s s' (onward {s' = middle} on step) =
+      keeps_then p.keeping.crashes (horizon_bound (latest on)) (horizon_bound (told_by step)) (horizon_bound (max (latest on) (told_by step))) s.keeper middle.keeper s'.keeper
+      (within_one (latest on) (told_by step)) (within_other (latest on) (told_by step)) (onward_basis s middle on) (step_basis middle s' step)
 
-  still_held : (s s' : LoopState N C J K H) → IsSameTime s s' → KeepsBasis p.keeping.crashes s.keeper s'.keeper → (0 < waits s.calls → MomentIsHeld p s) →
+  still_held : (limit : ℕ) (s s' : LoopState N C J K H) → IsSameTime s s' → KeepsBasis p.keeping.crashes limit s.keeper s'.keeper → (0 < waits s.calls → MomentIsHeld p s) →
       0 < waits s'.calls → MomentIsHeld p s'
-  still_held s s' still basis held some =
+  still_held limit s s' still basis held some =
       let before : 0 < waits s.calls = subst (λ (n : ℕ). 0 < n) still.1 some in
-      basis.holds (Until s'.times.moment) (subst (λ (t : Times). HoldsBasis p.keeping.crashes s.keeper (Until t.moment)) (sym still.0) (held before))
+      basis.holds (Until s'.times.moment) tt (subst (λ (t : Times). HoldsBasis p.keeping.crashes s.keeper (Until t.moment)) (sym still.0) (held before))
 
-  moves_held : (s s' : LoopState N C J K H) → Moves p s s' → (0 < waits s.calls → MomentIsHeld p s) → 0 < waits s'.calls → MomentIsHeld p s'
-  moves_held s s' (goes_on same grows) = still_held s s' same.1 (keeps_same p.keeping.crashes s.keeper s'.keeper same.0)
-  moves_held s s' (keeps_all unkept kept last history basis still) = still_held s s' still.0 basis
-  moves_held s s' (keeps_still last same basis (inl still)) = still_held s s' still basis
-  moves_held s s' (keeps_still last same basis (inr told)) = λ held some. told.0
+  moves_held : (limit : ℕ) (s s' : LoopState N C J K H) → Moves p limit s s' → (0 < waits s.calls → MomentIsHeld p s) → 0 < waits s'.calls → MomentIsHeld p s'
+  moves_held limit s s' (goes_on same grows) = still_held limit s s' same.1 (keeps_same p.keeping.crashes limit s.keeper s'.keeper same.0)
+  moves_held limit s s' (keeps_all unkept kept last history basis still) = still_held limit s s' still.0 basis
+  moves_held limit s s' (keeps_still last same basis (inl still)) = still_held limit s s' still basis
+  moves_held limit s s' (keeps_still last same basis (inr told)) = λ held some. told.0
 
   -- behind the first wait the moment is held
   pub served_moment : (first s : LoopState N C J K H) → Served p first s → 0 < waits s.calls → MomentIsHeld p s
   served_moment first s (begins is) some = absurd (let none = ap waits is.calls in omega (arith, none, some))
-  served_moment first s (goes {s = before} served step) some = moves_held before s (step_moves p before s step) (served_moment first before served) some
+  served_moment first s (goes {s = before} served step) some = moves_held (horizon_bound (told_by step)) before s (step_moves p before s step) (served_moment first before served) some
 
-  waits_more : (s s' : LoopState N C J K H) → Moves p s s' → waits s.calls ≤ waits s'.calls
+  waits_more : {limit : ℕ} (s s' : LoopState N C J K H) → Moves p limit s s' → waits s.calls ≤ waits s'.calls
   waits_more s s' (goes_on same grows) = (let e = same.1.1 in omega (arith, e))
   waits_more s s' (keeps_all unkept kept last history basis still) = (let e = still.0.1 in omega (arith, e))
   waits_more s s' (keeps_still last same basis (inl still)) = (let e = still.1 in omega (arith, e))
@@ -71,7 +88,7 @@ module _ {N C J K H : Type 0} (p : Promises N C J K H) where
       (untouched_on before s (untouched first before served (omega (arith, more, none))) next).1 none
 
   -- a step moves the greatest moment on to the one that the clocks told, behind the first wait
-  moves_greatest : (s s' : LoopState N C J K H) → Moves p s s' →
+  moves_greatest : {limit : ℕ} (s s' : LoopState N C J K H) → Moves p limit s s' →
       (s'.progress.journey.world.greatest ≡ s.progress.journey.world.greatest) ⊎ (s'.progress.journey.world.greatest ≡ s.times.moment)
   moves_greatest s s' (goes_on same grows) = grows.greatest
   moves_greatest s s' (keeps_all unkept kept last history basis still) = inl still.1
@@ -89,22 +106,24 @@ module _ {N C J K H : Type 0} (p : Promises N C J K H) where
       HoldsBasis p.keeping.crashes s.keeper (Until s.progress.journey.world.greatest)
   served_greatest first s (begins is) moved = absurd (moved refl)
   served_greatest first s (goes {s = before} served next) moved =
-      let keeps = moves_basis before s (step_moves p before s next) in
+      let keeps = step_basis before s next in
       elim (step_greatest first before s served next) [
         | inl same ↦ subst (λ m. HoldsBasis p.keeping.crashes s.keeper (Until m)) (sym same)
-            (keeps.holds (Until before.progress.journey.world.greatest) (served_greatest first before served (λ e. moved (same ∙ e))))
+            (keeps.holds (Until before.progress.journey.world.greatest) tt (served_greatest first before served (λ e. moved (same ∙ e))))
         | inr now ↦ subst (λ m. HoldsBasis p.keeping.crashes s.keeper (Until m)) (sym now.0)
-            (keeps.holds (Until before.times.moment) (served_moment first before served now.1))
+            (keeps.holds (Until before.times.moment) tt (served_moment first before served now.1))
       ]
 
   -- so it is told up to the end
-  pub basis_to_end : (s last failed emptied end : LoopState N C J K H) (fault : LoopFault) → Onward p s last → CannotGoOn p last fault failed → Shuts p failed emptied →
-      TellsLast p emptied end → TellsBasis p.keeping.crashes s.keeper end.keeper
+  pub basis_to_end : (s last failed emptied end : LoopState N C J K H) (fault : LoopFault) (on : Onward p s last) (failing : CannotGoOn p last fault failed) → Shuts p failed emptied →
+      TellsLast p emptied end → TellsBasis p.keeping.crashes (horizon_bound (max (latest on) (told_then failing))) s.keeper end.keeper
   basis_to_end s last failed emptied end fault on failing shut told =
-      subst (TellsBasis p.keeping.crashes s.keeper) (sym (end_keeper p failed emptied end shut told))
-      (tells_then p.keeping.crashes s.keeper last.keeper failed.keeper (onward_basis s last on) (fails_does p last failed fault failing).tells)
+      let limit = horizon_bound (max (latest on) (told_then failing)) in
+      subst (TellsBasis p.keeping.crashes limit s.keeper) (sym (end_keeper p failed emptied end shut told))
+      (tells_then p.keeping.crashes (horizon_bound (latest on)) (horizon_bound (told_then failing)) limit s.keeper last.keeper failed.keeper
+      (within_one (latest on) (told_then failing)) (within_other (latest on) (told_then failing)) (onward_basis s last on) (fails_does p last failed fault failing).tells)
 
   module _ (only_now : (keeper : K) (c : List ℕ) → p.keeping.crashes.left_since keeper (p.keeping.crashes.moment keeper) c → p.keeping.crashes.may_leave keeper c) (first : LoopState N C J K H) where
     -- each crash tells it
-    pub moment_stays : (s s' : LoopState N C J K H) → Served p first s → TellsBasis p.keeping.crashes s.keeper s'.keeper → MomentStays p first s s'
-    moment_stays s s' served tells = λ moved. leaves_told p.keeping.crashes only_now s.keeper s'.keeper _ tells (served_greatest first s served moved)
+    pub moment_stays : (limit : ℕ) (s s' : LoopState N C J K H) → Served p first s → TellsBasis p.keeping.crashes limit s.keeper s'.keeper → MomentStays p first s s'
+    moment_stays limit s s' served tells = λ moved. leaves_told p.keeping.crashes only_now limit s.keeper s'.keeper _ tt tells (served_greatest first s served moved)

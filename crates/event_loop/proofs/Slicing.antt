@@ -29,29 +29,34 @@ module _ {N C J K H : Type 0} (p : Promises N C J K H) (first : LoopState N C J 
   }
 
   module _ (keeper : K) (all : IsAllKept past.journey.world) (kept : Keeps p.keeping.crashes past.journey.world.history past.journey.world.history tools.keeper keeper)
-      (basis : KeepsBasis p.keeping.crashes tools.keeper keeper) where
+      (basis : KeepsBasis p.keeping.crashes 0 tools.keeper keeper) where
+    -- less is to be gone over than before, or it was shortened
+    abbrev IsNearer : Type 0
+    IsNearer =
+        ((p.keeping.to_go keeper < p.keeping.to_go tools.keeper) × (p.keeping.size keeper ≡ p.keeping.size tools.keeper)) ⊎ p.keeping.shortens tools.keeper keeper
+
     -- the keeper went on by a slice
-    sliced : p.keeping.is_long tools.keeper → ¬ (IsDone Shortening past.calls) → (p.keeping.to_go keeper < p.keeping.to_go tools.keeper) ⊎ p.keeping.shortens tools.keeper keeper →
+    sliced : p.keeping.is_long tools.keeper → ¬ (IsDone Shortening past.calls) → p.keeping.slices tools.keeper keeper → IsNearer →
         Served p first (state_of (running service (record tools { keeper = keeper })) found (record past { calls = call.Shortened ∷ past.calls }))
-    sliced long undone nearer = goes served (shortens keeper all long undone kept basis nearer)
+    sliced long undone slice nearer = goes served (shortens keeper all long undone kept basis slice nearer)
 
     -- or it was called, and told how long what it keeps is
     pub went_on : (length : Length) (service' : Service) → ¬ (IsDone Shortening past.calls) → (keeper ≡ tools.keeper) ⊎ p.keeping.is_long tools.keeper →
-        (p.keeping.is_long tools.keeper → (p.keeping.to_go keeper < p.keeping.to_go tools.keeper) ⊎ p.keeping.shortens tools.keeper keeper) →
+        (p.keeping.is_long tools.keeper → p.keeping.slices tools.keeper keeper) → (p.keeping.is_long tools.keeper → IsNearer) →
         (length ≡ Short → ¬ (p.keeping.is_long keeper)) → (length ≡ Long → p.keeping.is_long keeper) →
         (length ≡ Short → service' ≡ record service { refused = None }) → (length ≡ Long → service' ≡ service) →
         GoesShorter p first (standing (running service tools) found past) (Some length) (running service' (record tools { keeper = keeper }))
-    went_on Long service' undone left nearer short long is_done is_same =
+    went_on Long service' undone left slice nearer short long is_done is_same =
         let before : p.keeping.is_long tools.keeper = elim left [ inl same ↦ subst p.keeping.is_long same (long refl) | inr was ↦ was ] in
         subst (λ (s : Service). GoesShorter p first (standing (running service tools) found past) (Some Long) (running s (record tools { keeper = keeper }))) (sym (is_same refl)) (record {
           calls = call.Shortened ∷ past.calls;
-          served = sliced before undone (nearer before);
+          served = sliced before undone (slice before) (nearer before);
           done = slice_more past.calls;
           sliced = λ is. inl refl;
           rests = λ other. absurd (other refl);
           short = λ is. absurd (cc);
         })
-    went_on Short service' undone left nearer short long is_done is_same =
+    went_on Short service' undone left slice nearer short long is_done is_same =
         subst (λ (s : Service). GoesShorter p first (standing (running service tools) found past) (Some Short) (running s (record tools { keeper = keeper }))) (sym (is_done refl))
         (elim left [
           | inl same ↦ record {
@@ -64,7 +69,7 @@ module _ {N C J K H : Type 0} (p : Promises N C J K H) (first : LoopState N C J 
           }
           | inr was ↦ record {
             calls = call.Shortened ∷ past.calls;
-            served = goes (sliced was undone (nearer was)) (is_short (short refl));
+            served = goes (sliced was undone (slice was) (nearer was)) (is_short (short refl));
             done = slice_more past.calls;
             sliced = λ is. absurd (cc);
             rests = λ other still is. absurd (short refl is);

@@ -1,14 +1,24 @@
 -- What a crash leaves of what was done.
-use Rattle.std.specs.Prelude.{◌≡◌, ◌≢◌, ◌⊎◌, ℕ, List, ◌∷◌, Some}
+use Rattle.std.specs.Prelude.{◌≡◌, ◌≢◌, ◌⊎◌, ℕ, List, ◌∷◌, Some, max}
 use Rattle.event_loop.specs.Names.{Event, Until, IsFrontOf, Holds, HoldsBasis, Leaves, Journey}
 use Rattle.event_loop.specs.Calls.{Transfer, Wrote}
 use Rattle.event_loop.specs.LoopStates.{Promises, LoopState, IsAllKept}
-use Rattle.event_loop.specs.Served.{LoopStep}
+use Rattle.event_loop.specs.Served.{LoopStep, waits}
 
 -- Steps lead on from a state.
 pub data Onward {N C J K H : Type 0} (p : Promises N C J K H) (s : LoopState N C J K H) : LoopState N C J K H → Type 0 where
   stays : Onward p s s
   onward : {s' s'' : LoopState N C J K H} → Onward p s s' → LoopStep p s' s'' → Onward p s s''
+
+-- the moment that the clocks told, where the step is a wait
+abbrev pub told_by : {N C J K H : Type 0} {p : Promises N C J K H} {s s' : LoopState N C J K H} → LoopStep p s s' → ℕ
+told_by (waits limit room found n times c keeper may done told near kept further) = times.moment
+told_by step = 0
+
+-- the greatest one that they told on the way from the one state to the other
+abbrev pub latest : {N C J K H : Type 0} {p : Promises N C J K H} {s s' : LoopState N C J K H} → Onward p s s' → ℕ
+latest stays = 0
+latest (onward on step) = max (latest on) (told_by step)
 
 -- What a journey has of one before it: what the server began with, all that had happened, and all that was kept.
 pub record Carries {H : Type 0} (old new : Journey H) : Type 0 where

@@ -1,6 +1,6 @@
 -- How the loop ends.
-use Rattle.std.specs.Prelude.{◌≡◌, ◌⊎◌, ◌≤◌, ◌<◌, ℕ, List, Option, Some, None}
-use Rattle.event_loop.specs.Names.{Journey, Reached, LoopFault, Ready, HeldMeanwhile, KeepsBasis, KeepsNot, TellsBasis}
+use Rattle.std.specs.Prelude.{◌≡◌, ◌⊎◌, ◌≤◌, ◌<◌, ℕ, List, Option, Some, None, max}
+use Rattle.event_loop.specs.Names.{Journey, Reached, LoopFault, Ready, HeldMeanwhile, KeepsBasis, KeepsNot, TellsBasis, horizon_bound}
 use Rattle.event_loop.specs.declared.clocks.Times.{Times}
 use Rattle.event_loop.specs.declared.fault.LoopFault.TheVariants.{Wait, Clock, ClockAhead, Keep, Rounds}
 use Rattle.event_loop.specs.declared.limits.Limits.{Limits}
@@ -8,7 +8,7 @@ use Rattle.event_loop.specs.declared.tools.Tools.{Tools}
 use Rattle.event_loop.specs.Calls as call
 use Rattle.event_loop.specs.Calls.{Keeping, Shortening, IsDone}
 use Rattle.event_loop.specs.Done.{HaveDone}
-use Rattle.event_loop.specs.Durable.{Carries, Onward, KeeperHolds, IsWriteKept, IsDurable, IsDurableToEnd, MomentIsHeld, MomentStays}
+use Rattle.event_loop.specs.Durable.{Carries, Onward, KeeperHolds, IsWriteKept, IsDurable, IsDurableToEnd, MomentIsHeld, MomentStays, latest}
 use Rattle.event_loop.specs.Places.{AllFree}
 use Rattle.event_loop.specs.Moments.{seconds_too_far}
 use Rattle.event_loop.specs.LoopStates.{Promises, LoopState, IsAllKept, IsUnkept, with_call}
@@ -35,15 +35,20 @@ pub data CannotGoOn {N C J K H : Type 0} (p : Promises N C J K H) (s : LoopState
   no_moment : (limit : Option ℕ) (room : ℕ) (found : List Ready) (n : N) (times : Times) (c : C) (keeper : K) → MayWait p s limit room →
       p.sockets.does s.sockets (call.Waited limit room found) n → p.clocks.tells s.clocks (Some times) c →
       seconds_too_far s.limits.ahead (Some times) s.held ≡ None →
-      HeldMeanwhile p.keeping.crashes s.keeper keeper → TellsBasis p.keeping.crashes s.keeper keeper → p.keeping.has_failed keeper →
+      HeldMeanwhile p.keeping.crashes s.keeper keeper → TellsBasis p.keeping.crashes (horizon_bound times.moment) s.keeper keeper → p.keeping.has_failed keeper →
       CannotGoOn p s Keep (record (with_call s (call.Waited limit room found) n) { clocks = c; keeper = keeper; found = found })
   not_kept : (keeper : K) (unkept : IsUnkept s.progress.journey.world) → ¬ (IsDone Keeping s.calls) →
-      KeepsNot p.keeping.crashes unkept.kept s.progress.journey.world.history s.keeper keeper → TellsBasis p.keeping.crashes s.keeper keeper → p.keeping.has_failed keeper →
+      KeepsNot p.keeping.crashes unkept.kept s.progress.journey.world.history s.keeper keeper → TellsBasis p.keeping.crashes 0 s.keeper keeper → p.keeping.has_failed keeper →
       CannotGoOn p s Keep (record s { keeper = keeper })
   not_shortened : (keeper : K) → IsAllKept s.progress.journey.world → ¬ (IsDone Shortening s.calls) →
-      KeepsNot p.keeping.crashes s.progress.journey.world.history s.progress.journey.world.history s.keeper keeper → TellsBasis p.keeping.crashes s.keeper keeper → p.keeping.has_failed keeper →
+      KeepsNot p.keeping.crashes s.progress.journey.world.history s.progress.journey.world.history s.keeper keeper → TellsBasis p.keeping.crashes 0 s.keeper keeper → p.keeping.has_failed keeper →
       CannotGoOn p s Keep (record s { keeper = keeper })
   no_more : rounds_limit ≤ call.waits s.calls → CannotGoOn p s Rounds s
+
+-- the moment that the clocks told then, where it could not be kept
+abbrev pub told_then : {N C J K H : Type 0} {p : Promises N C J K H} {s s' : LoopState N C J K H} {fault : LoopFault} → CannotGoOn p s fault s' → ℕ
+told_then (no_moment limit room found n times c keeper may done told near lost basis asked) = times.moment
+told_then failing = 0
 
 -- what a loop begins with: its limits, its tools, and the journey that led to their edge
 pub record Beginning (N C J K H : Type 0) : Type 0 where
@@ -66,7 +71,8 @@ tools_at s = record {
 -- was done but that each connection that was left was closed and forgotten, and all places are free, and that behind them,
 -- where reports are wanted, there was one more. That is what the sockets did. Each state has all that had happened and was kept at
 -- those before it. With each write all that had happened was kept, and where the keeper held at first what was kept, all that was
--- kept is durable. What crashes told at some state, each crash tells from then on. Behind
+-- kept is durable. What crashes told at some state, each crash tells from then on, and no moment that is more than ten seconds
+-- beyond the greatest that the clocks told since. Behind
 -- the first wait that is the moment by which requests are answered, and each crash tells the greatest one by which one was.
 pub record HasServed {N C J K H : Type 0} (p : Promises N C J K H) (start : Beginning N C J K H) (fault : LoopFault) (tools' : Tools N C J K H) : Type 0 where
   pub first : LoopState N C J K H
@@ -81,7 +87,7 @@ pub record HasServed {N C J K H : Type 0} (p : Promises N C J K H) (start : Begi
   pub kept : (s s' : LoopState N C J K H) → Served p first s → LoopStep p s s' → IsWriteKept s s'
   pub durable : KeeperHolds p first → (s s' : LoopState N C J K H) → Served p first s → Onward p s s' → IsDurable p s s'
   pub carries : (s s' : LoopState N C J K H) → Served p first s → Onward p s s' → Carries s.progress.journey s'.progress.journey
-  pub basis : (s s' : LoopState N C J K H) → Served p first s → Onward p s s' → KeepsBasis p.keeping.crashes s.keeper s'.keeper
+  pub basis : (s s' : LoopState N C J K H) → Served p first s → (on : Onward p s s') → KeepsBasis p.keeping.crashes (horizon_bound (latest on)) s.keeper s'.keeper
   pub moment : (s : LoopState N C J K H) → Served p first s → 0 < call.waits s.calls → MomentIsHeld p s
   pub moment_stays : (s s' : LoopState N C J K H) → Served p first s → Onward p s s' → MomentStays p first s s'
   pub failed : LoopState N C J K H
@@ -92,7 +98,8 @@ pub record HasServed {N C J K H : Type 0} (p : Promises N C J K H) (start : Begi
   pub tells_last : TellsLast p emptied end
   pub done : HaveDone p.sockets first.sockets end.calls end.sockets
   pub durable_then : KeeperHolds p first → (s : LoopState N C J K H) → Served p first s → Onward p s last → IsDurableToEnd p s last end
-  pub basis_then : (s : LoopState N C J K H) → Served p first s → Onward p s last → TellsBasis p.keeping.crashes s.keeper end.keeper
+  pub basis_then : (s : LoopState N C J K H) → Served p first s → (on : Onward p s last) →
+      TellsBasis p.keeping.crashes (horizon_bound (max (latest on) (told_then fails))) s.keeper end.keeper
   pub moment_stays_then : (s : LoopState N C J K H) → Served p first s → Onward p s last → MomentStays p first s end
   pub free : AllFree end.places
   pub tools_are_then : tools' ≡ tools_at end

@@ -15,6 +15,8 @@ pub mod Moments
 pub mod Served
 pub mod Durable
 pub mod DurableLaws
+pub mod Slices
+pub mod SlicesLaws
 pub mod Answered
 pub mod Ends
 pub mod EndsLaws

@@ -1,6 +1,6 @@
 -- How the moment that the clocks tell is looked at and kept.
 use Rattle.std.specs.Prelude.{ℕ, ◌-◌, ◌&&◌, nat_lt, if◌then◌else◌, Option, None, Some}
-use Rattle.change_codec.specs.Keeping.{Crashes, Until, HoldsBasis, HoldsStill, KeepsBasis}
+use Rattle.change_codec.specs.Keeping.{Crashes, Until, HoldsBasis, HoldsStill, KeepsBasis, horizon_bound}
 use Rattle.event_loop.specs.declared.clocks.Times.{Times}
 
 -- how many seconds the clocks are ahead of a moment, where these are more than they may be and the moment is not 0
@@ -8,8 +8,8 @@ abbrev pub seconds_too_far : Option ℕ → Option Times → ℕ → Option ℕ
 seconds_too_far (Some limit) (Some now) moment = if nat_lt 0 moment && nat_lt limit (now.moment - moment) then Some (now.moment - moment) else None
 seconds_too_far limit now moment = None
 
--- The keeper holds what it held, and tells the moment that the clocks told.
+-- The keeper holds what it held, and tells the moment that the clocks told, or one that is at most ten seconds later.
 pub record KeepsTimes {K : Type 0} (crashes : Crashes K) (times : Times) (old new : K) : Type 0 where
   pub holds : HoldsStill crashes old new
-  pub basis : KeepsBasis crashes old new
+  pub basis : KeepsBasis crashes (horizon_bound times.moment) old new
   pub told : HoldsBasis crashes new (Until times.moment)

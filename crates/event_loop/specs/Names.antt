@@ -1,5 +1,5 @@
 -- The names of types and of other crates that more than one file of these definitions uses.
-pub use Rattle.change_codec.specs.Keeping.{Until, IsFrontOf, Holds, HoldsBasis, Leaves, HeldMeanwhile, KeepsBasis, KeepsNot, TellsBasis, Keeps, IsNoFurther}
+pub use Rattle.change_codec.specs.Keeping.{Until, IsFrontOf, Holds, HoldsBasis, Leaves, HeldMeanwhile, KeepsBasis, KeepsNot, TellsBasis, Keeps, IsNoFurther, horizon_bound}
 pub use Rattle.consent.specs.History.{Event}
 pub use Rattle.event_loop.specs.declared.fault.ConnectionFault.{ConnectionFault}
 pub use Rattle.event_loop.specs.declared.fault.ConnectionFault.TheVariants.{Accept, Refused, Write}

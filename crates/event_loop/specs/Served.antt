@@ -104,19 +104,20 @@ pub data LoopStep {N C J K H : Type 0} (p : Promises N C J K H) (s : LoopState N
       LoopStep p s (record s { noted = record s.noted { journal = journal }; told = told })
   keeps : (keeper : K) (e : SeenEdge H) (unkept : IsUnkept s.progress.journey.world) (on : GoesOn p.hosting e s.progress.journey Kept) →
       ¬ (IsDone Keeping s.calls) → Keeps p.keeping.crashes unkept.kept s.progress.journey.world.history s.keeper keeper →
-      KeepsBasis p.keeping.crashes s.keeper keeper → IsNoFurther p.keeping.to_go p.keeping.size s.keeper keeper →
+      KeepsBasis p.keeping.crashes 0 s.keeper keeper → IsNoFurther p.keeping.to_go p.keeping.size s.keeper keeper →
       LoopStep p s (record s { keeper = keeper; progress = led s.progress on; calls = call.Kept ∷ s.calls })
-  -- where more is kept than may be, the keeper alone is another, which holds the same: less is to be gone over than before until
-  -- that is shortened, or it is
+  -- where more is kept than may be, the keeper alone is another, which holds the same: no more than a slice was gone over, and less
+  -- is to be gone over than before until that is shortened, or it is
   shortens : (keeper : K) → IsAllKept s.progress.journey.world → p.keeping.is_long s.keeper → ¬ (IsDone Shortening s.calls) →
-      Keeps p.keeping.crashes s.progress.journey.world.history s.progress.journey.world.history s.keeper keeper → KeepsBasis p.keeping.crashes s.keeper keeper →
-      (p.keeping.to_go keeper < p.keeping.to_go s.keeper) ⊎ p.keeping.shortens s.keeper keeper →
+      Keeps p.keeping.crashes s.progress.journey.world.history s.progress.journey.world.history s.keeper keeper → KeepsBasis p.keeping.crashes 0 s.keeper keeper →
+      p.keeping.slices s.keeper keeper →
+      ((p.keeping.to_go keeper < p.keeping.to_go s.keeper) × (p.keeping.size keeper ≡ p.keeping.size s.keeper)) ⊎ p.keeping.shortens s.keeper keeper →
       LoopStep p s (record s { keeper = keeper; calls = call.Shortened ∷ s.calls })
   -- no more is kept than may be: where it is refused again, that is told again
   is_short : ¬ (p.keeping.is_long s.keeper) → LoopStep p s (record s { refused = None })
   -- shortening is refused, where more is kept than may be: the keeper holds the same; it is tried again after a minute
   no_slice : (keeper : K) → (journal : J) → IsAllKept s.progress.journey.world → p.keeping.is_long s.keeper → is_long_ago s.refused s.times.steady 60 ≡ true →
-      Keeps p.keeping.crashes s.progress.journey.world.history s.progress.journey.world.history s.keeper keeper → KeepsBasis p.keeping.crashes s.keeper keeper →
+      Keeps p.keeping.crashes s.progress.journey.world.history s.progress.journey.world.history s.keeper keeper → KeepsBasis p.keeping.crashes 0 s.keeper keeper →
       TellsRefusal p.journal s.refused s.noted.journal journal →
       LoopStep p s (record s { keeper = keeper; refused = Some s.times.steady; noted = record s.noted { journal = journal } })
 

@@ -1,6 +1,10 @@
 use Rattle.std.proofs.Common.{[], None, Some, ap, inl, inr, refl, sym, subst, ◌∙◌, ℕ, ◌≡◌}
-use Rattle.event_loop.proofs.Names.{TellsBasis, Times, IsOccupied, AreWithin, LoopState, promises, IsFirst, begins, stops, Past, IsReadyToWait, running, state_of, Told, Empty, Barred, Onward}
+use Rattle.event_loop.proofs.Names.{Times, IsOccupied, AreWithin, LoopState, promises, IsFirst, begins, stops, Past, IsReadyToWait, running, state_of, Told, Empty, Barred, Onward}
 use Rattle.event_loop.proofs.Names.{LastTold, keeping}
+use Rattle.std.specs.Prelude.{max}
+use Rattle.change_codec.specs.Keeping.{horizon_bound}
+use Rattle.event_loop.specs.Durable.{latest}
+use Rattle.event_loop.specs.Ends.{told_then}
 use Rattle.event_loop.proofs.Answering.{served_answered}
 use Rattle.event_loop.proofs.Resting.{free_rests}
 use Rattle.event_loop.proofs.Leading.{rested_settled}
@@ -33,8 +37,6 @@ returns g c = λ journey reached.
     let told = c.tell_last.ensures wrong.found shut.next in
     let emptied : LoopState g.row.N.Denot g.row.C.Denot g.row.J.Denot g.row.K.Denot g.row.H.Denot = state_of (running c.leave_all.new.service c.leave_all.new.self) wrong.found shut.next in
     let end : LoopState g.row.N.Denot g.row.C.Denot g.row.J.Denot g.row.K.Denot g.row.H.Denot = state_of (running c.leave_all.new.service c.tell_last.new.self) wrong.found shut.next in
-    let to_end : (s : LoopState g.row.N.Denot g.row.C.Denot g.row.J.Denot g.row.K.Denot g.row.H.Denot) → Onward p s wrong.last → TellsBasis p.keeping.crashes s.keeper end.keeper =
-    λ s on. basis_to_end p s wrong.last failed emptied end c.rounds-fault.result on wrong.fails shut.shuts told in
     inl (record {
       first = first;
       is_first = is_first;
@@ -50,7 +52,7 @@ returns g c = λ journey reached.
       carries = λ s s'. onward_carries p first s s';
       basis = λ s s' served. onward_basis p s s';
       moment = served_moment p first;
-      moment_stays = λ s s' served on. moment_stays p g.met.K.Keeper.only_now first s s' served (onward_basis p s s' on).meanwhile;
+      moment_stays = λ s s' served on. moment_stays p g.met.K.Keeper.only_now first (horizon_bound (latest on)) s s' served (onward_basis p s s' on).meanwhile;
       failed = failed;
       fails = wrong.fails;
       emptied = emptied;
@@ -59,8 +61,9 @@ returns g c = λ journey reached.
       tells_last = told;
       done = end_did p first wrong.last failed emptied end c.rounds-fault.result wrong.served wrong.fails shut.shuts told;
       durable_then = λ held s served on before is. leaves_to_end p g.met.K.Keeper.only_now first held s before served is wrong.last failed emptied end c.rounds-fault.result on wrong.fails shut.shuts told;
-      basis_then = λ s served. to_end s;
-      moment_stays_then = λ s served on. moment_stays p g.met.K.Keeper.only_now first s end served (to_end s on);
+      basis_then = λ s served on. basis_to_end p s wrong.last failed emptied end c.rounds-fault.result on wrong.fails shut.shuts told;
+      moment_stays_then = λ s served on. moment_stays p g.met.K.Keeper.only_now first (horizon_bound (max (latest on) (told_then wrong.fails))) s end served
+          (basis_to_end p s wrong.last failed emptied end c.rounds-fault.result on wrong.fails shut.shuts told);
       free = c.leave_all.ensures.free;
       tools_are_then = refl;
     })

@@ -20,7 +20,7 @@ returns-in-Ok-clause-shorter g c = λ first found past undone h reached.
     let all = c.in_default.ensures.none past.journey reached in
     went_on (promises g.N.Sockets g.C.Clocks g.J.Journal (keeping g.K.Keeper) g.H.HookHost) first found past c.args.service.now c.args.self.now h
     c.shorten_some.new.self all (c.in-Ok.ensures.kept past.journey.world.history) c.in-Ok.ensures.basis c.in-Ok.length c.note_length.new.self undone c.in-Ok.ensures.left
-    c.in-Ok.ensures.nearer c.in-Ok.ensures.short c.in-Ok.ensures.long c.note_length.ensures.short c.note_length.ensures.long
+    c.in-Ok.ensures.slice c.in-Ok.ensures.nearer c.in-Ok.ensures.short c.in-Ok.ensures.long c.note_length.ensures.short c.note_length.ensures.long
 
 pub returns-in-Failed-clause-failed : goal.returns-in-Failed-clause-failed
 returns-in-Failed-clause-failed g c = λ first found past undone h reached.

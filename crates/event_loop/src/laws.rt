@@ -1,0 +1,20 @@
+//! What holds of every run of the loop.
+
+ghost use Rattle.change_codec.specs.Keepers.{keeping};
+ghost use Rattle.event_loop.specs.LoopStates.{LoopState, promises};
+ghost use Rattle.event_loop.specs.Slices.{IsNoLonger, LongOnward};
+
+use crate::clocks::Clocks;
+use crate::journal::Journal;
+use crate::sockets::Sockets;
+use change_codec::Keeper;
+use hook_host::HookHost;
+
+/// A shortening ends: on a way on which none ended and none was refused, no more slices are gone over than were to be gone over
+/// where it began, and eight for each byte that came to what is kept.
+#[tactic(auto, using(crate::specs::SlicesLaws::shortening_ends))]
+pub fn a_shortening_ends<N: Sockets, C: Clocks, J: Journal, K: Keeper, H: HookHost>()
+    ensures { (s s' : LoopState N C J K H)
+        → LongOnward (promises N.Sockets C.Clocks J.Journal (keeping K.Keeper) H.HookHost) s s'
+        → IsNoLonger (promises N.Sockets C.Clocks J.Journal (keeping K.Keeper) H.HookHost) s s' }
+{}
