@@ -75,6 +75,7 @@ impl<H: HookHost> Remaking<H> {
     pub fn redo(&mut self, moment: Moment, change: &Change<'_>) -> Result<(), RedoFault>
         ensures redone { OnOk result (RedoesChange H.HookHost self.old moment change.now self.new) }
         ensures moment { OnOk result (self.new.greatest ≡ moment) }
+        ensures rules { self.new.rules ≡ self.old.rules }
         ensures back { (result ≡ Err RedoFault.MomentBack) ↔ (moment < self.old.greatest) }
         ensures refused { IfErr result (RefusesRedo H.HookHost self.old moment change.now) }
         ensures wrong { IsErrOf result RedoFault.NotRight → IsNowhereRight H.HookHost self.old change.now }
@@ -91,6 +92,28 @@ impl<H: HookHost> Remaking<H> {
         redo_beside(&mut self.host, &mut self.consents, change)?;
         self.greatest = moment;
         Ok(())
+    }
+
+    /// Its rules.
+    pub fn rules(&self) -> &Registry
+        ensures { result.now ≡ self.now.rules }
+    {
+        &self.rules
+    }
+
+    /// Its rules, which outlive it.
+    pub fn into_rules(self) -> Registry
+        ensures { result ≡ self.rules }
+    {
+        let Remaking {
+            rules,
+            host: _host,
+            store: _store,
+            consents: _consents,
+            greatest: _,
+            alloc: _,
+        } = self;
+        rules
     }
 
     /// The list is at its end: the server that it tells, which goes on from the last moment, or from `until` where that is

@@ -1,5 +1,5 @@
 -- A start, from the file's changes up to the batches of the new file.
-use Rattle.std.proofs.Common.{◌≡◌, ◌≤◌, ◌^◌, ◌∙◌, inl, inr, ℕ, List, [], ◌∷◌, length, Option, None, Some, refl, sym, ap, subst, arith}
+use Rattle.std.proofs.Common.{◌≡◌, ◌≤◌, ◌^◌, ◌∙◌, inl, inr, ℕ, List, [], ◌∷◌, ◌++◌, length, Option, None, Some, refl, sym, ap, subst, append_assoc, arith}
 use Rattle.state_file.proofs.Names.{unwrap_or, option_map, recovered, Event, Happened, Happened-none, Happened-nothing, batch_spelling, SeenServer, FitsServer, Notes, NowNotes, AreUnkept, Outset}
 use Rattle.state_file.proofs.Names.{Hosting, RulesFact, AreSet, with_hooks, AreTooLong, MakesFrom, OnBytes, RefusesMaking, AreAdded, AreToldBehind, IsUnadded, FitsRestored, Sets, StandFor, until_of}
 use Rattle.state_file.proofs.Names.{AreTold-changes, until_of-append, Tell, last_rules, last_rules-push, StateFault, Restored}
@@ -33,6 +33,11 @@ module _ (facts : List Event) (old new : List (List ℕ)) where
   added_until (inl none) = ap until_of none.1
   added_until (inr more) = let all = until_of-append old (batch_spelling facts ∷ []) in rw more.1 (omega (arith, all))
 
+-- so do others before them
+pub added_front : (front : List (List ℕ)) (facts : List Event) (old new : List (List ℕ)) → AreAdded facts old new → AreAdded facts (front ++ old) (front ++ new)
+added_front front facts old new (inl none) = inl (none.0, ap (λ (bs : List (List ℕ)). front ++ bs) none.1)
+added_front front facts old new (inr more) = inr (more.0, ap (λ (bs : List (List ℕ)). front ++ bs) more.1 ∙ sym (append_assoc front old (batch_spelling facts ∷ [])))
+
 -- nothing is unkept any more, where that is noted
 abbrev no_more : Option (List Event) → Option (List Event)
 no_more unkept = option_map (λ (facts : List Event). []) unkept
@@ -61,8 +66,14 @@ module _ {H : Type 0} {noted : SeenServer H} {rules : RulesFact} {read new : Lis
   pub lead_tell : Tell new rules
   lead_tell = added_tell (unwrap_or noted.unkept []) leads.told new rules leads.added (tells_behind read leads.told rules leads.tell)
 
+  lead_same : until_of new ≡ until_of read
+  lead_same = added_until (unwrap_or noted.unkept []) leads.told new leads.added ∙ until_behind read leads.told rules leads.tell
+
   pub lead_until : until_of read ≤ until_of new
-  lead_until = let same = added_until (unwrap_or noted.unkept []) leads.told new leads.added ∙ until_behind read leads.told rules leads.tell in omega (arith, same)
+  lead_until = (let same = lead_same in omega (arith, same))
+
+  pub lead_no_later : until_of new ≤ until_of read
+  lead_no_later = (let same = lead_same in omega (arith, same))
 
   pub lead_stand : (before after : List Event) → StandFor read before → Happened before (unwrap_or noted.unkept []) after → StandFor new after
   lead_stand before after stands happened =

@@ -1,12 +1,13 @@
 pub mod Compared
+pub mod Going
 pub mod Hooked
-pub mod Listed
 pub mod LedOn
 pub mod Refused
 pub mod Remaking
+pub mod Resumed
+pub mod Right
 pub mod Setting
 pub mod Shorts
-pub mod Lengths
 pub mod Tells
 pub mod Names
 pub mod Begun

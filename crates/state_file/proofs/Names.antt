@@ -1,5 +1,5 @@
 -- The names of other crates that more than one file of these proofs uses.
-pub use Rattle.state_file.specs.Names.{recovered, frames_size, Happened, ClientFact, RulesFact, batch_spelling, RegistryRecord, Event, is_within}
+pub use Rattle.state_file.specs.Names.{recovered, frames_size, torn_of, Happened, ClientFact, RulesFact, batch_spelling, RegistryRecord, Event, is_within}
 pub use Rattle.state_file.specs.Names.{with_change, happens, Outset, SeenServer, FitsServer, Notes, AreNoted, Hosting, HookFact, rules_spelling, RulesFit}
 pub use Rattle.state_file.specs.Names.{StateFault, bytes_eq}
 pub use Rattle.batch_file.specs.Frames.{lists}
@@ -18,7 +18,6 @@ pub use Rattle.endpoints.specs.Server.{AreUnkept, outset_of, NowNotes}
 pub use Rattle.rules_codec.specs.Facts.{client_fact, hook_fact, rules_fact}
 pub use Rattle.rules_codec.specs.Spelling.{rules_fields}
 pub use Rattle.rules_codec.specs.SpellingLaws.{one_rules}
-pub use Rattle.rules_codec.specs.declared.rules.ClientRules.{ClientRules}
 pub use Rattle.rules_codec.specs.declared.standing.KeptHook.{KeptHook}
 pub use Rattle.state_file.specs.Comparing.{AreAsWide, client_names, first_moved, first_narrowed, IsUnread, RefuseBeside, TakesRules}
 pub use Rattle.state_file.specs.Hooks.{hooks_after, hooks_set_in, hooks_with, AreSet, with_hooks, hook_named, with_hook, without_hook}
@@ -29,7 +28,7 @@ pub use Rattle.state_file.specs.Listing.{IsUnlisted}
 pub use Rattle.state_file.specs.Remaking.{FinishesAs, FitsRemade, MakesAgain, RefusesAgain, RefusesBatches, RefusesOne, TellsAgain}
 pub use Rattle.state_file.specs.Renewing.{left_numbered, AreTooMuch}
 pub use Rattle.state_file.specs.Resuming.{AnswersFor, AnswersForBatches, FitsRestored, IsRight, ListsItself, Replays, WasRun, Sets, RefusesList, RefuseServer}
-pub use Rattle.state_file.specs.Resuming.{RefusesResume, RefusesSettings}
+pub use Rattle.state_file.specs.Resuming.{RefusesResume, RefusesSettings, RefusesToRedo}
 pub use Rattle.state_file.specs.Standing.{AreTold, IsMomentTold, StandFor, StandsFor, until_of}
 pub use Rattle.state_file.specs.StandingLaws.{AreTold-changes, AreTold-joined, AreTold-split, until_of-append, AreTold-rules}
 pub use Rattle.state_file.specs.Telling.{client_told, rules_of, Tell, last_rules, IsOfRules, rules_in}

@@ -60,12 +60,6 @@ IsUntold rules TooLong = AreRulesTooLong rules
 IsUntold rules Memory = Unit {0}
 IsUntold rules _ = ⊥
 
--- why the spelling of rules is not added: memory was refused, or it is too long
-abbrev pub IsUnwritten : List ℕ → StateFault → Type 0
-IsUnwritten bytes TooLong = 2 ^ 32 ≤ length bytes
-IsUnwritten bytes Memory = Unit {0}
-IsUnwritten bytes _ = ⊥
-
 -- why what a batch tells is not read
 abbrev pub IsUnread : List ℕ → StateFault → Type 0
 IsUnread batch Memory = Unit {0}

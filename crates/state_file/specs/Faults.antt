@@ -31,6 +31,7 @@ of_reading reading.Memory = state.Memory
 of_reading reading.NotState = state.NotState
 of_reading (reading.Version version) = state.Version version
 of_reading (reading.Damaged batches) = state.Damaged batches
+of_reading (reading.Unread reason) = state.Device reason
 
 abbrev pub of_adding : AddFault → StateFault
 of_adding adding.Memory = state.Memory

@@ -1,18 +1,32 @@
 -- What is known of a file's batches.
-use Rattle.std.specs.Prelude.{◌≡◌, ◌+◌, ◌<◌, ◌≤◌, ◌^◌, ◌/◌, ◌&&◌, ℕ, List, [], ◌∷◌, Bool, length, take, drop, Some, if◌then◌else◌}
+use Rattle.std.specs.Prelude.{◌≡◌, ◌+◌, ◌<◌, ◌≤◌, ◌^◌, ◌/◌, ◌&&◌, ℕ, List, [], ◌∷◌, Bool, length, take, drop, Some, if◌then◌else◌, ◌⊎◌, ⊤}
 use Rattle.std.specs.List.{list_any}
 use Rattle.state_file.specs.Names.{recovered, frames_size, bytes_eq, Basis, Until, Rules, Event, RulesFact, rules_spelling}
+use Rattle.batch_file.specs.Frames.{IsChance, IsReadable, IsWhole}
+use Rattle.change_codec.specs.Keeping.{NoLater, Readable}
 use Rattle.state_file.specs.Standing.{AreTold, until_of}
 use Rattle.state_file.specs.Telling.{Tell, rules_in}
 use Rattle.state_file.specs.declared.known.Known.{Known}
 
--- the batches tell the moment, or a later one; or they tell the rules
+-- The batches tell the moment, or a later one; or none that is later; or they tell the rules. Whether they can be read is asked of the
+-- bytes alone.
 abbrev pub TellBasis : List (List ℕ) → Basis → Type 0
 TellBasis batches (Until moment) = moment ≤ until_of batches
+TellBasis batches (NoLater moment) = until_of batches ≤ moment
 TellBasis batches (Rules rules) = Tell batches rules
+TellBasis batches Readable = ⊤
 
--- so do the bytes of a file, by their batches
+-- by a coincidence, an append to a file that stood whole left what no start reads
+pub record IsByChance (left : List ℕ) : Type 0 where
+  pub old : List ℕ
+  pub last : List ℕ
+  pub batch : List ℕ
+  pub whole : IsWhole last old
+  pub chance : IsChance old last batch left
+
+-- So do the bytes of a file, by their batches; and a start reads them, but for such a coincidence.
 abbrev pub LeftTells : List ℕ → Basis → Type 0
+LeftTells left Readable = IsReadable left ⊎ IsByChance left
 LeftTells left basis = TellBasis (recovered left) basis
 
 -- the batch is of one change, which tells the greatest number of a family: it stands behind what was left of a list

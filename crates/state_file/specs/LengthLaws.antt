@@ -29,3 +29,8 @@ shortened_size-push (b ∷ batches) batch =
     chosen (list_any tells_number ((b ∷ batches) ++ batch ∷ [])) (list_any tells_number (b ∷ batches)) (tells_number batch) (21 + length b)
     (frames_size (batches ++ batch ∷ [])) (shortened_size batches) (shortened_size (batches ++ batch ∷ []))
     (list_any-append tells_number (b ∷ batches) (batch ∷ [])) (shortened_size-push batches batch)
+
+-- batches, and others behind them
+pub frames_size-append : (batches more : List (List ℕ)) → frames_size (batches ++ more) ≡ frames_size batches + frames_size more
+frames_size-append [] more = omega arith
+frames_size-append (b ∷ batches) more = let later = frames_size-append batches more in omega (arith, later)

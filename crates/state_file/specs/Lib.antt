@@ -13,10 +13,12 @@ pub mod Renewing
 -- What only the contracts of this crate's own parts and their proofs cite.
 pub mod MakingParts
 pub mod Remaking
+pub mod Going
 pub mod ShortParts
 -- Laws, each proved: a reader may skip them.
 pub mod StandingLaws
 pub mod TellingLaws
+pub mod BoundsLaws
 pub mod HookLaws
 pub mod ResumingLaws
 pub mod ReplayingLaws

@@ -21,9 +21,11 @@ on_bytes bytes outset hooks = record { bytes = bytes; outset = outset; hooks = h
 abbrev pub going_on : {H : Type 0} → OnBytes H → ℕ → List Event → List Event
 going_on on moment history = with_hooks moment history on.hooks
 
--- what is made: a server, the batches of a new file, the moment from which it goes on, and what an unfinished write left
+-- what is made: a server, the batches that were read, those of a new file, the moment from which it goes on, and what an unfinished
+-- write left
 pub record Made (H : Type 0) : Type 0 where
   pub server : SeenServer H
+  pub front : List (List ℕ)
   pub batches : List (List ℕ)
   pub moment : ℕ
   pub torn : List ℕ
@@ -34,13 +36,15 @@ pub record MakesFrom {H : Type 0} (hosting : Hosting H) (on : OnBytes H) (made :
   pub set : AreSet on.hooks (going_on on made.moment history)
   pub stands : StandFor made.batches (going_on on made.moment history)
 
--- So it is of each history that the bytes stand for, and the list that they tell is one that is right. The batches tell the rules, and no earlier moment than the bytes did; the
+-- So it is of each history that the bytes stand for, and the list that they tell is one that is right. The batches tell the rules, and no other moment than the bytes did; the
 -- server goes on from none that is earlier than that, and from no other than they told.
 pub record Makes {H : Type 0} (hosting : Hosting H) (on : OnBytes H) (made : Made H) : Type 0 where
   pub each : OfEachHistory hosting on.outset.first on.bytes (MakesFrom hosting on made)
   pub listed : ListsItself on.outset.rules (recovered on.bytes)
   pub tell : Tell made.batches (rules_of on.outset.rules)
+  pub front_is : made.front ≡ recovered on.bytes
   pub kept : until_of (recovered on.bytes) ≤ until_of made.batches
+  pub no_later : until_of made.batches ≤ until_of (recovered on.bytes)
   pub later : until_of (recovered on.bytes) ≤ made.moment
   pub moment_is : IsMomentTold (recovered on.bytes) made.moment
   pub torn_is : made.torn ≡ torn_of on.bytes
@@ -60,3 +64,35 @@ abbrev pub RefusesMaking : {H : Type 0} → Hosting H → OnBytes H → StateFau
 RefusesMaking hosting on fault =
     RefusesResume hosting on.outset on.bytes fault ⊎ RefusesSome hosting (AnswersFor hosting on.bytes on.outset) on.hooks fault
     ⊎ ((fault ≡ state.Full) × AreTooLong hosting on)
+
+-- WHERE IT IS REFUSED
+
+-- memory was refused, or the disk failed: then the bytes may not be all
+abbrev pub StopsReading : StateFault → Type 0
+StopsReading state.Memory = Unit {0}
+StopsReading (state.Device reason) = Unit {0}
+StopsReading _ = ⊥
+
+-- or it is no file of batches that is read
+abbrev pub IsOfFile : StateFault → Type 0
+IsOfFile state.NotState = Unit {0}
+IsOfFile (state.Version version) = Unit {0}
+IsOfFile (state.Damaged number) = Unit {0}
+IsOfFile fault = StopsReading fault
+
+-- the registry's rules are not taken: it is given back
+abbrev pub GivesBack : StateFault → Type 0
+GivesBack state.NoRules = Unit {0}
+GivesBack (state.ScopeMoved name) = Unit {0}
+GivesBack state.OwnerMoved = Unit {0}
+GivesBack (state.ClientMoved name) = Unit {0}
+GivesBack (state.ClientNarrowed name) = Unit {0}
+GivesBack state.LifeNarrowed = Unit {0}
+GivesBack _ = ⊥
+
+-- a hook is refused, once the rules are taken
+abbrev pub IsOfHooks : StateFault → Type 0
+IsOfHooks (state.HookDiffers name) = Unit {0}
+IsOfHooks (state.Hook name fault) = Unit {0}
+IsOfHooks state.Full = Unit {0}
+IsOfHooks _ = ⊥

@@ -4,13 +4,12 @@ use Rattle.consent.specs.Changes.{change_of}
 use Rattle.consent.specs.History.{last_moment}
 use Rattle.consent.specs.declared.change.Change.{Change}
 use Rattle.endpoints.specs.Bounded.{AllRight}
-use Rattle.endpoints.specs.Redo.{RefusesRedo}
 use Rattle.endpoints.specs.Remaking.{FitsRemaking, TellsHistory}
 use Rattle.endpoints.specs.declared.redo.RedoFault.{RedoFault}
 use Rattle.state_file.specs.Names.{Event, HostRun, Hosting, Outset, StateFault, Spelling, Follows}
 use Rattle.state_file.specs.Hooks.{hooks_set_in}
 use Rattle.state_file.specs.Listing.{TellNone}
-use Rattle.state_file.specs.Resuming.{FitsRestored}
+use Rattle.state_file.specs.Resuming.{FitsRestored, RefusesToRedo}
 use Rattle.state_file.specs.Standing.{AreTold}
 use Rattle.state_file.specs.declared.fault.StateFault.TheVariants.{Memory}
 use Rattle.state_file.specs.declared.remade.Remade.{Remade}
@@ -35,7 +34,7 @@ TellsAgain hosting old batches new = (facts : List Event) × AreTold batches fac
 abbrev pub RefusesAgain : {H : Type 0} → Hosting H → Remade H → List Event → RedoFault → Type 0
 RefusesAgain {H = H} hosting old facts fault =
     (before behind : List Event) × (e : Event) × (facts ≡ before ++ e ∷ behind) × (mid : Remade H) × MakesAgain hosting old before mid
-    × (change : Change) × (change_of change ≡ e.change) × RefusesRedo hosting mid.server e.moment change fault
+    × (change : Change) × (change_of change ≡ e.change) × RefusesToRedo hosting mid.server e.moment change fault
 
 -- why the changes of a batch are not made again
 abbrev pub RefusesOne : {H : Type 0} → Hosting H → Remade H → List ℕ → StateFault → Type 0

@@ -8,10 +8,10 @@ use Rattle.consent.specs.History.{consents_kept, last_moment}
 use Rattle.consent.specs.declared.change.Change.{Change}
 use Rattle.consent.specs.Limits.{consent_limit}
 use Rattle.endpoints.specs.Bounded.{AllRight}
-use Rattle.endpoints.specs.Redo.{RefusesRedo}
+use Rattle.endpoints.specs.Redo.{IsNowhereRight, RefusesRedo}
 use Rattle.endpoints.specs.Remaking.{FitsRemaking, SeenRemaking}
 use Rattle.endpoints.specs.declared.redo.RedoFault.{RedoFault}
-use Rattle.endpoints.specs.declared.redo.RedoFault.TheVariants.{ConsentsFull}
+use Rattle.endpoints.specs.declared.redo.RedoFault.TheVariants.{ConsentsFull, NotRight}
 use Rattle.state_file.specs.Comparing.{RefuseRules, TakesRules}
 use Rattle.state_file.specs.Hooks.{AreSet, hooks_set_in, hook_named, with_hooks}
 use Rattle.state_file.specs.Listing.{TellNone}
@@ -61,11 +61,16 @@ ListsItself rules batches = (facts : List Event) × AreTold batches facts × Sta
 
 -- WHY NONE IS MADE
 
+-- the change is not made again; where it is not right, it is right behind no list of which the server in the making is made
+abbrev pub RefusesToRedo : {H : Type 0} → Hosting H → SeenRemaking H → ℕ → Change → RedoFault → Type 0
+RefusesToRedo hosting making moment change fault =
+    RefusesRedo hosting making moment change fault × (fault ≡ NotRight → IsNowhereRight hosting making change)
+
 -- the event is refused as the next one behind a list
 abbrev pub RefusesNext : {H : Type 0} → Hosting H → Outset H → List Event → Event → RedoFault → Type 0
 RefusesNext {H = H} hosting outset before e fault =
     (making : SeenRemaking H) × FitsRemaking hosting making outset before (last_moment 0 before)
-    × (change : Change) × (change_of change ≡ e.change) × RefusesRedo hosting making e.moment change fault
+    × (change : Change) × (change_of change ≡ e.change) × RefusesToRedo hosting making e.moment change fault
 
 -- One of the changes that the batches tell is refused behind those before it; or, behind all of them, more consents are kept than
 -- may be.

@@ -5,7 +5,7 @@ ghost use Rattle.rules_codec.specs.Facts.{client_fact, rules_fact};
 ghost use Rattle.state_file.specs.Comparing.{AreAsWide, AreNarrower, client_names, first_moved, first_narrowed};
 
 use crate::fault::StateFault;
-use rules_codec::{ClientRules, Rules};
+use clients::{Bounds, ClientBounds};
 use std::alloc::Global;
 
 /// The first of the names that does not have its place now.
@@ -27,7 +27,7 @@ fn moved_scope<'b>(told: &[&'b str], now: &[&str]) -> Option<&'b str>
 }
 
 /// The first of the clients whose name does not have its place now.
-fn moved_client<'b>(told: &[ClientRules<'b>], now: &[ClientRules]) -> Option<&'b str>
+fn moved_client<'b>(told: &[ClientBounds<'b>], now: &[ClientBounds]) -> Option<&'b str>
     ensures { option_copied result ≡ first_moved (client_names (map client_fact told.now)) (client_names (map client_fact now.now)) }
 {
     let mut rest = told;
@@ -45,7 +45,7 @@ fn moved_client<'b>(told: &[ClientRules<'b>], now: &[ClientRules]) -> Option<&'b
 }
 
 /// The first of the clients that may not be allowed now all that it was.
-fn narrowed_client<'b>(told: &[ClientRules<'b>], now: &[ClientRules]) -> Option<&'b str>
+fn narrowed_client<'b>(told: &[ClientBounds<'b>], now: &[ClientBounds]) -> Option<&'b str>
     ensures { option_copied result ≡ first_narrowed (map client_fact told.now) (map client_fact now.now) }
 {
     let mut rest = told;
@@ -65,7 +65,7 @@ fn narrowed_client<'b>(told: &[ClientRules<'b>], now: &[ClientRules]) -> Option<
 
 /// Tests whether rules are as wide as those told: the scopes and how many owners there are, the clients in their order, what
 /// each may be allowed, and the lives of tokens.
-pub fn compare(alloc: Global, told: &Rules<'_>, now: &Rules<'_>) -> Result<(), StateFault>
+pub fn compare(alloc: Global, told: &Bounds<'_>, now: &Bounds<'_>) -> Result<(), StateFault>
     ensures wide { OnOk result (AreAsWide (rules_fact told.now) (rules_fact now.now)) }
     ensures refused { IfErr result (AreNarrower (rules_fact told.now) (rules_fact now.now)) }
 {

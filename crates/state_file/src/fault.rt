@@ -139,6 +139,7 @@ impl From<ReadFault> for StateFault {
             ReadFault::NotState => StateFault::NotState,
             ReadFault::Version(version) => StateFault::Version(version),
             ReadFault::Damaged(batches) => StateFault::Damaged(batches),
+            ReadFault::Unread(reason) => StateFault::Device(reason),
         }
     }
 }

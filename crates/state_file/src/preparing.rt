@@ -1,21 +1,25 @@
-//! What a start makes of a state file's bytes, before anything is written.
+//! What a start makes of a state file, before anything is written.
 
-ghost use Rattle.std.specs.Prelude.{◌≡◌, ⊤, [], IfOk, IfErr, OnOk, map, option_map, unwrap_or};
+ghost use Rattle.std.specs.Prelude.{◌≡◌, ◌⊎◌, ◌++◌, ⊤, [], ℕ, List, Some, IfOk, IfErr, OnOk, map, option_map, unwrap_or};
+ghost use Rattle.batch_file.specs.Frames.{lists, recovered, IsReadable};
 ghost use Rattle.clients.specs.RegistryRecord.{RegistryRecord};
-ghost use Rattle.endpoints.specs.Server.{NowNotes, outset_of};
+ghost use Rattle.endpoints.specs.Server.{NowNotes, Outset, outset_of};
 ghost use Rattle.endpoints.specs.Widening.{IsWider};
 ghost use Rattle.rules_codec.specs.Facts.{hook_fact};
-ghost use Rattle.state_file.specs.Knowing.{IsKnown};
-ghost use Rattle.state_file.specs.Making.{Makes, RefusesMaking, on_bytes};
+ghost use Rattle.state_file.specs.Comparing.{TakesRules};
+ghost use Rattle.state_file.specs.Going.{IsResumed};
+ghost use Rattle.state_file.specs.Knowing.{IsKnown, end_of};
+ghost use Rattle.state_file.specs.Making.{GivesBack, IsOfFile, IsOfHooks, Makes, RefusesMaking, StopsReading, on_bytes};
 ghost use Rattle.state_file.specs.MakingParts.{AreAdded, IsUnadded};
 ghost use Rattle.state_file.specs.Telling.{TellsRules, rules_of};
 
 use crate::fault::StateFault;
+use crate::front::Front;
 use crate::known::Known;
 use crate::restored::Restored;
-use crate::resuming::{Resumed, resume};
-use crate::sizes::size_behind;
-use batch_file::frames::Frames;
+use crate::resuming::{Resumed, Resuming, Unprepared, resume};
+use crate::sizes::shortened_behind;
+use batch_file::source::ByteSource;
 use clients::Registry;
 use consent::Moment;
 use endpoints::Server;
@@ -24,53 +28,73 @@ use rules_codec::KeptHook;
 use std::alloc::Global;
 use std::marker::Model;
 
-/// What a start makes of the bytes of a state file: a server that notes what happens, and the batches of a new file, which stand
-/// for what it goes on from.
+/// What a start makes of a state file: a server that notes what happens, and the batches that stand for what it goes on from. They
+/// are those that were read, and what a new file has behind these.
 #[derive(Drop)]
 pub struct Prepared<H> {
     pub(crate) server: Server<H>,
-    pub(crate) frames: Frames,
+    pub(crate) front: Front,
+    pub(crate) end: usize,
+    pub(crate) behind: Vec<Vec<u8>>,
     pub(crate) known: Known,
     pub(crate) moment: Moment,
     pub(crate) torn: Vec<u8>,
     pub(crate) alloc: Global,
 }
 
-/// What a start makes of the bytes of a state file, in parts.
+/// What a start makes of a state file, in parts.
 #[derive(Drop)]
 pub struct Parts<H> {
     /// It notes what happens.
     pub server: Server<H>,
-    /// The batches of a new file.
-    pub frames: Frames,
-    /// What is known of them.
+    /// Where the frames end of the batches that were read.
+    pub end: usize,
+    /// The batches that a new file has behind these.
+    pub behind: Vec<Vec<u8>>,
+    /// What is known of all of them.
     pub known: Known,
     pub alloc: Global,
 }
 
+/// A source that was read, and what a start makes of it.
+#[derive(Drop)]
+pub struct Preparing<S, H> {
+    pub source: S,
+    pub prepared: Result<Prepared<H>, Unprepared>,
+}
+
 impl<H> Model for Prepared<H> {
-    ghost use Rattle.std.specs.Prelude.{⊤};
-    ghost use Rattle.state_file.specs.Knowing.{IsKnown};
+    ghost use Rattle.std.specs.Prelude.{◌≡◌, ◌++◌, ⊤};
+    ghost use Rattle.batch_file.specs.Frames.{lists};
+    ghost use Rattle.state_file.specs.Knowing.{IsKnown, end_of};
     ghost use Rattle.state_file.specs.Making.{Made};
 
     ghost Value = { Made H };
 
-    ghost view = { λ p. record { server = p.server; batches = p.frames; moment = p.moment; torn = p.torn.items } };
+    ghost view = { λ p. record {
+      server = p.server;
+      front = p.front.batches;
+      batches = p.front.batches ++ lists p.behind.items;
+      moment = p.moment;
+      torn = p.torn.items;
+    } };
 
-    ghost invariant = { λ p. IsKnown ⊤ p.frames p.known };
+    ghost invariant = { λ p. IsKnown ⊤ (p.front.batches ++ lists p.behind.items) p.known × (p.end ≡ end_of p.front.batches) };
 }
 
-/// Adds what the server has noted to batches. Nothing is unkept then.
+/// Adds what the server has noted to the batches that stand behind those that end there. Nothing is unkept then.
 fn add_noted<H: HookHost>(
+    alloc: Global,
     server: &mut Server<H>,
-    frames: &mut Frames,
+    end: usize,
+    behind: &mut Vec<Vec<u8>>,
     known: &mut Known,
 ) -> Result<(), StateFault>
-    requires known { IsKnown ⊤ frames.old known.old }
-    ensures known { OnOk result (IsKnown ⊤ frames.new known.new) }
+    ensures known { OnOk result ((front : List (List ℕ)) → end ≡ end_of front →
+        IsKnown ⊤ (front ++ lists behind.old.items) known.old → IsKnown ⊤ (front ++ lists behind.new.items) known.new) }
     ensures same { NowNotes server.old server.new server.new.unkept }
     ensures unkept { OnOk result (server.new.unkept ≡ option_map (λ facts. []) server.old.unkept) }
-    ensures added { OnOk result (AreAdded (unwrap_or server.old.unkept []) frames.old frames.new) }
+    ensures added { OnOk result (AreAdded (unwrap_or server.old.unkept []) (lists behind.old.items) (lists behind.new.items)) }
     ensures refused { IfErr result (IsUnadded (unwrap_or server.old.unkept [])) }
 {
     let Some(batch) = server.unkept() else {
@@ -79,50 +103,111 @@ fn add_noted<H: HookHost>(
     if batch.is_empty() {
         return Ok(());
     }
-    frames.add(batch.bytes())?;
-    let size = frames.len_of_file() - 17;
-    known.shortened = size_behind(batch.bytes(), size, known.shortened);
+    let bytes = batch.bytes();
+    if bytes.len() > u32::MAX as usize {
+        return Err(StateFault::Full);
+    }
+    behind.push(bytes.to_vec(alloc)?)?;
+    let Some(shortened) = shortened_behind(bytes, end, behind.as_slice(), known.shortened) else {
+        return Err(StateFault::Memory);
+    };
+    known.shortened = shortened;
     server.forget_unkept();
     Ok(())
 }
 
-/// Makes all that a server is started with on the bytes of a state file, whatever a crash left there. All changes that
-/// the file tells are made again under these rules. A hook is then set, unless it is, at the moment from which the server goes on:
+impl<H: HookHost> Resumed<H> {
+    /// Sets hooks at the moment from which the server goes on, and adds what it notes then.
+    fn prepare(self, alloc: Global, hooks: &[KeptHook<'_>]) -> Result<Prepared<H>, StateFault>
+        requires known { IsKnown ⊤ (self.front.batches ++ lists self.behind.items) self.known }
+        requires end { self.end ≡ end_of self.front.batches }
+        ensures makes { IfOk result (λ prepared. (bytes : List ℕ) (outset : Outset H) → IsResumed H.HookHost bytes outset self →
+            Makes H.HookHost (on_bytes bytes outset (map hook_fact hooks.now)) prepared) }
+        ensures refused { IfErr result (λ fault. (bytes : List ℕ) (outset : Outset H) → IsResumed H.HookHost bytes outset self →
+            RefusesMaking H.HookHost (on_bytes bytes outset (map hook_fact hooks.now)) fault) }
+        ensures back { IfErr result (λ fault. GivesBack fault → ⊥) }
+    {
+        let Resumed {
+            mut restored,
+            front,
+            end,
+            mut behind,
+            mut known,
+            torn,
+        } = self;
+        restored.server.begin_noting()?;
+        restored.set_hooks(alloc, hooks)?;
+        let Restored {
+            mut server,
+            moment,
+            hooks: _hooks,
+        } = restored;
+        add_noted(alloc, &mut server, end, &mut behind, &mut known)?;
+        Ok(Prepared {
+            server,
+            front,
+            end,
+            behind,
+            known,
+            moment,
+            torn,
+            alloc,
+        })
+    }
+}
+
+/// Makes all that a server is started with on a state file, whatever a crash left there: it is read once, to its end. All changes
+/// that it tells are made again under these rules. A hook is then set, unless it is, at the moment from which the server goes on:
 /// the last change's, or the last horizon's. The batches are those that were read, and the rules and the hooks where they lack them.
-pub fn prepare<H: HookHost>(
+pub fn prepare<S: ByteSource + Drop, H: HookHost>(
     alloc: Global,
-    bytes: &[u8],
+    source: S,
     registry: Registry,
     host: H,
     hooks: &[KeptHook<'_>],
-) -> Result<Prepared<H>, StateFault>
-    ensures makes { IfOk result (Makes H.HookHost (on_bytes bytes.now (outset_of registry host) (map hook_fact hooks.now))) }
+) -> Preparing<S, H>
+    requires begun { S.told source ≡ [] }
+    ensures over { OnOk result.prepared (S.is_over result.source) }
+    ensures whole { (all : List ℕ) → S.whole source all → S.whole result.source all }
+    ensures makes { IfOk result.prepared (Makes H.HookHost (on_bytes (S.told result.source) (outset_of registry host) (map hook_fact hooks.now))) }
     // The registry's rules are as wide as those that the file told.
-    ensures wider { IfOk result (λ _. (old : RegistryRecord) → TellsRules bytes.now (rules_of old) → IsWider old registry) }
-    ensures refused { IfErr result (RefusesMaking H.HookHost (on_bytes bytes.now (outset_of registry host) (map hook_fact hooks.now))) }
+    ensures wider { IfOk result.prepared (λ _. (old : RegistryRecord) → TellsRules (S.told result.source) (rules_of old) → IsWider old registry) }
+    ensures taken { OnOk result.prepared (TakesRules (recovered (S.told result.source)) (rules_of registry)) }
+    ensures refused { IfErr result.prepared (λ not. StopsReading not.fault ⊎ (S.is_over result.source
+        × RefusesMaking H.HookHost (on_bytes (S.told result.source) (outset_of registry host) (map hook_fact hooks.now)) not.fault)) }
+    ensures readable { OnOk result.prepared (IsReadable (S.told result.source)) }
+    // What is wrong with the file comes before all else.
+    ensures damaged { IfErr result.prepared (λ not. IsOfFile not.fault ⊎ IsReadable (S.told result.source)) }
+    // The registry is given back where its rules are not taken.
+    ensures back { IfErr result.prepared (λ not. GivesBack not.fault → not.registry ≡ Some registry) }
+    ensures hooked { IfErr result.prepared (λ not. IsOfHooks not.fault → TakesRules (recovered (S.told result.source)) (rules_of registry)) }
 {
-    let Resumed {
-        mut restored,
-        mut frames,
-        mut known,
-        torn,
-    } = resume(alloc, bytes, registry, host)?;
-    restored.server.begin_noting()?;
-    restored.set_hooks(alloc, hooks)?;
-    let Restored {
-        mut server,
-        moment,
-        hooks: _hooks,
-    } = restored;
-    add_noted(&mut server, &mut frames, &mut known)?;
-    Ok(Prepared {
-        server,
-        frames,
-        known,
-        moment,
-        torn,
-        alloc,
-    })
+    let Resuming { source, resumed } = resume(alloc, source, registry, host);
+    let resumed = match resumed {
+        Ok(resumed) => resumed,
+        Err(unprepared) => {
+            return Preparing {
+                source,
+                prepared: Err(unprepared),
+            };
+        }
+    };
+    let prepared = match resumed.prepare(alloc, hooks) {
+        Ok(prepared) => prepared,
+        Err(fault) => {
+            return Preparing {
+                source,
+                prepared: Err(Unprepared {
+                    fault,
+                    registry: None,
+                }),
+            };
+        }
+    };
+    Preparing {
+        source,
+        prepared: Ok(prepared),
+    }
 }
 
 impl<H: HookHost> Prepared<H> {
@@ -143,12 +228,15 @@ impl<H: HookHost> Prepared<H> {
     /// The server, and what a new file is made of.
     pub fn into_parts(self) -> Parts<H>
         ensures server { result.server ≡ self.server }
-        ensures batches { result.frames ≡ self.batches }
-        ensures known { IsKnown ⊤ result.frames result.known }
+        ensures batches { self.batches ≡ self.front ++ lists result.behind.items }
+        ensures end { result.end ≡ end_of self.front }
+        ensures known { IsKnown ⊤ self.batches result.known }
     {
         let Prepared {
             server,
-            frames,
+            front: _front,
+            end,
+            behind,
             known,
             moment: _moment,
             torn: _torn,
@@ -156,7 +244,8 @@ impl<H: HookHost> Prepared<H> {
         } = self;
         Parts {
             server,
-            frames,
+            end,
+            behind,
             known,
             alloc,
         }

@@ -3,10 +3,10 @@
 ghost use Rattle.std.specs.Prelude.{◌≡◌, [], ◌∷◌, None, IfOk, IfErr, OnOk};
 ghost use Rattle.batch_file.specs.Frames.{lists};
 ghost use Rattle.change_codec.specs.Spelling.{dated_fact, dated_facts};
-ghost use Rattle.endpoints.specs.Redo.{RefusesRedo};
 ghost use Rattle.endpoints.specs.Remaking.{RefusesFinish};
 ghost use Rattle.endpoints.specs.Server.{outset_of};
 ghost use Rattle.state_file.specs.Remaking.{FinishesAs, FitsRemade, MakesAgain, RefusesAgain, RefusesBatches, RefusesOne, TellsAgain};
+ghost use Rattle.state_file.specs.Resuming.{RefusesToRedo};
 
 use crate::fault::StateFault;
 use crate::hooks::SetHooks;
@@ -40,7 +40,8 @@ impl<H: HookHost> Remade<H> {
     /// Makes a change again.
     fn redo(&mut self, dated: &DatedChange<'_>) -> Result<(), RedoFault>
         ensures redone { OnOk result (MakesAgain H.HookHost self.old (dated_fact dated.now ∷ []) self.new) }
-        ensures refused { IfErr result (RefusesRedo H.HookHost self.old.server dated.now.moment dated.now.change) }
+        ensures rules { self.new.server.rules ≡ self.old.server.rules }
+        ensures refused { IfErr result (RefusesToRedo H.HookHost self.old.server dated.now.moment dated.now.change) }
     {
         self.server.redo(dated.moment, &dated.change)?;
         let Ok(()) = self.hooks.follow(&dated.change) else {
@@ -52,6 +53,7 @@ impl<H: HookHost> Remade<H> {
     /// Makes changes again, one after the other.
     fn redo_list(&mut self, changes: &[DatedChange<'_>]) -> Result<(), RedoFault>
         ensures redone { OnOk result (MakesAgain H.HookHost self.old (dated_facts changes.now) self.new) }
+        ensures rules { self.new.server.rules ≡ self.old.server.rules }
         ensures refused { IfErr result (RefusesAgain H.HookHost self.old (dated_facts changes.now)) }
     {
         for dated in changes {
@@ -61,8 +63,9 @@ impl<H: HookHost> Remade<H> {
     }
 
     /// Makes the changes of a batch again.
-    fn redo_batch(&mut self, alloc: Global, batch: &[u8]) -> Result<(), StateFault>
+    pub(crate) fn redo_batch(&mut self, alloc: Global, batch: &[u8]) -> Result<(), StateFault>
         ensures redone { OnOk result (TellsAgain H.HookHost self.old (batch.now ∷ []) self.new) }
+        ensures rules { self.new.server.rules ≡ self.old.server.rules }
         ensures refused { IfErr result (RefusesOne H.HookHost self.old batch.now) }
     {
         let changes = changes_of(alloc, batch)?;

@@ -1,8 +1,8 @@
 //! How long batches are, and how much of them was left when they were shortened.
 
-ghost use Rattle.std.specs.Prelude.{◌≡◌, ◌<◌, ◌^◌, true, false, if◌then◌else◌};
-ghost use Rattle.batch_file.specs.Frames.{file_size, lists};
-ghost use Rattle.state_file.specs.Knowing.{IsLong, shortened_size, tells_number};
+ghost use Rattle.std.specs.Prelude.{◌≡◌, ◌+◌, ◌++◌, List, ℕ, true, false, IfSome, if◌then◌else◌};
+ghost use Rattle.batch_file.specs.Frames.{frames_size, lists};
+ghost use Rattle.state_file.specs.Knowing.{IsLong, end_of, tells_number};
 
 /// A file of fewer bytes is left as it is.
 const SMALL: usize = 1 << 20;
@@ -29,18 +29,32 @@ pub fn size_behind(batch: &[u8], all: usize, before: usize) -> usize
     if tells_number(batch) { all } else { before }
 }
 
-/// How many bytes the frames of the batches have up to the last one that tells a number.
-pub(crate) fn shortened_size(batches: &[Vec<u8>]) -> usize
-    requires { file_size (lists batches.now) < 2 ^ 64 }
-    ensures { result ≡ shortened_size (lists batches.now) }
+/// Where the frames of batches end that stand behind some that end there, if that is any number of a machine.
+fn end_behind(end: usize, batches: &[Vec<u8>]) -> Option<usize>
+    ensures { IfSome result (λ all. all ≡ end + frames_size (lists batches.now)) }
 {
-    let mut size = 0;
-    let mut shortened = 0;
+    let mut all = end;
     for batch in batches {
-        size += 21 + batch.len();
-        if tells_number(batch) {
-            shortened = size;
-        }
+        all = all.checked_add(21 + batch.len())?;
     }
-    shortened
+    Some(all)
+}
+
+/// How many bytes of frames were left when they were shortened, once the last of these stands behind those that end there.
+pub(crate) fn shortened_behind(
+    batch: &[u8],
+    end: usize,
+    behind: &[Vec<u8>],
+    before: usize,
+) -> Option<usize>
+    ensures { IfSome result (λ size. (front : List (List ℕ)) → end ≡ end_of front →
+        size ≡ (if tells_number batch.now then frames_size (front ++ lists behind.now) else before)) }
+{
+    if !tells_number(batch) {
+        return Some(before);
+    }
+    match end_behind(end, behind) {
+        Some(all) => Some(all.saturating_sub(16)),
+        None => None,
+    }
 }

@@ -1,20 +1,18 @@
 //! What rules a state file tells, and telling a registry's.
 
-ghost use Rattle.std.specs.Prelude.{◌++◌, ◌∷◌, [], ◌≡◌, ◌<◌, ◌^◌, ◌↔◌, Some, length, true, false, IsTrue, IfOk, IfErr, OnOk, option_copied};
+ghost use Rattle.std.specs.Prelude.{◌≡◌, ◌<◌, ◌^◌, ◌↔◌, Some, length, IsTrue, IfOk, IfErr, OnOk, option_copied};
 ghost use Rattle.batch_file.specs.Frames.{lists};
 ghost use Rattle.change_codec.specs.Rules.{RulesFact};
 ghost use Rattle.rules_codec.specs.Facts.{rules_fact};
 ghost use Rattle.rules_codec.specs.Spelling.{RulesCount, RulesFit, rules_spelling};
-ghost use Rattle.state_file.specs.Comparing.{AreAsWide, IsUnread, IsUntold, IsUnwritten, RefuseBeside, RefuseRules, TakesRules};
+ghost use Rattle.state_file.specs.Comparing.{AreAsWide, IsUnread, IsUntold, RefuseBeside, RefuseRules, TakesRules};
 ghost use Rattle.state_file.specs.Telling.{BeginWithRules, IsOfRules, Tell, last_rules, rules_in, rules_of};
 ghost use Rattle.state_file.specs.declared.fault.StateFault.TheVariants.{Memory};
 
 use crate::comparing::compare;
 use crate::fault::StateFault;
-use crate::rules::registry_rules;
-use batch_file::frames::{AddFault, Frames};
-use clients::Registry;
-use rules_codec::{Rules, decode_rules, encode_rules};
+use clients::{Bounds, Registry};
+use rules_codec::{decode_rules, encode_rules};
 use std::alloc::Global;
 use wire::EncodeFault;
 
@@ -61,7 +59,7 @@ pub fn last_rules(batches: &[Vec<u8>]) -> Option<&[u8]>
 }
 
 /// The rules that a batch tells.
-pub fn told_rules(alloc: Global, batch: &[u8]) -> Result<Rules<'_>, StateFault>
+pub fn told_rules(alloc: Global, batch: &[u8]) -> Result<Bounds<'_>, StateFault>
     ensures told { IfOk result (λ rules. IsOfRules batch.now (rules_fact rules)) }
     ensures one { IfOk result (λ rules. (others : RulesFact) → IsOfRules batch.now others → others ≡ rules_fact rules) }
     ensures fit { IfOk result (λ rules. RulesFit (rules_fact rules)) }
@@ -71,7 +69,7 @@ pub fn told_rules(alloc: Global, batch: &[u8]) -> Result<Rules<'_>, StateFault>
 }
 
 /// Whether the bytes spell the rules.
-fn are_spelled(alloc: Global, rules: &Rules<'_>, bytes: &[u8]) -> Result<bool, StateFault>
+fn are_spelled(alloc: Global, rules: &Bounds<'_>, bytes: &[u8]) -> Result<bool, StateFault>
     requires counted { RulesCount (rules_fact rules.now) }
     ensures same { IfOk result (λ same. IsTrue same ↔ rules_spelling (rules_fact rules.now) ≡ bytes.now) }
     ensures refused { IfErr result (λ fault. fault ≡ Memory) }
@@ -85,7 +83,7 @@ fn are_spelled(alloc: Global, rules: &Rules<'_>, bytes: &[u8]) -> Result<bool, S
 
 /// Tests whether rules are as wide as those that a batch tells, and says whether it tells just these.
 #[tactic(auto, using(rules_codec::specs::SpellingLaws::fit_counts))]
-fn tells_as(alloc: Global, batch: &[u8], now: &Rules<'_>, bytes: &[u8]) -> Result<bool, StateFault>
+fn tells_as(alloc: Global, batch: &[u8], now: &Bounds<'_>, bytes: &[u8]) -> Result<bool, StateFault>
     requires spelled { bytes.now ≡ rules_spelling (rules_fact now.now) }
     requires fit { RulesFit (rules_fact now.now) }
     ensures wide { OnOk result ((told : RulesFact) → IsOfRules batch.now told → AreAsWide told (rules_fact now.now)) }
@@ -99,7 +97,7 @@ fn tells_as(alloc: Global, batch: &[u8], now: &Rules<'_>, bytes: &[u8]) -> Resul
 }
 
 /// The spelling of rules, where they may be told.
-pub fn spell_rules(alloc: Global, rules: &Rules<'_>) -> Result<Vec<u8>, StateFault>
+pub fn spell_rules(alloc: Global, rules: &Bounds<'_>) -> Result<Vec<u8>, StateFault>
     ensures spelled { IfOk result (λ bytes. bytes.items ≡ rules_spelling (rules_fact rules.now)) }
     ensures fit { OnOk result (RulesFit (rules_fact rules.now)) }
     ensures few { IfOk result (λ bytes. length bytes.items < 2 ^ 32) }
@@ -113,6 +111,7 @@ pub fn spell_rules(alloc: Global, rules: &Rules<'_>) -> Result<Vec<u8>, StateFau
 }
 
 /// The spelling of the registry's rules, which are as wide as those that the batches told last.
+#[tactic(auto, using(crate::specs::BoundsLaws::are_rules))]
 pub fn rules_behind(
     alloc: Global,
     batches: &[Vec<u8>],
@@ -125,7 +124,7 @@ pub fn rules_behind(
     ensures told { IfOk result (λ rules. IsTrue rules.told ↔ Tell (lists batches.now) (rules_of registry.now)) }
     ensures refused { IfErr result (RefuseRules (lists batches.now) (rules_of registry.now)) }
 {
-    let rules = registry_rules(alloc, registry)?;
+    let rules = registry.bounds(alloc)?;
     let bytes = spell_rules(alloc, &rules)?;
     if !begin_with_rules(batches) {
         return Err(StateFault::NoRules);
@@ -136,20 +135,4 @@ pub fn rules_behind(
     };
     let told = tells_as(alloc, batch, &rules, bytes.as_slice())?;
     Ok(Spelled { bytes, told })
-}
-
-/// Tells rules behind batches, unless these told just them last.
-pub(crate) fn tell(frames: &mut Frames, rules: &Spelled) -> Result<(), StateFault>
-    ensures told { OnOk result (rules.now.told ≡ true → frames.new ≡ frames.old) }
-    ensures added { OnOk result (rules.now.told ≡ false → frames.new ≡ frames.old ++ rules.now.bytes.items ∷ []) }
-    ensures refused { IfErr result (IsUnwritten rules.now.bytes.items) }
-{
-    if rules.told {
-        return Ok(());
-    }
-    match frames.add(rules.bytes.as_slice()) {
-        Ok(()) => Ok(()),
-        Err(AddFault::Memory) => Err(StateFault::Memory),
-        Err(AddFault::TooLong) => Err(StateFault::TooLong),
-    }
 }

@@ -1,51 +1,52 @@
-use Rattle.std.proofs.Common.{rules, ◌≡◌, ◌≤◌, ◌∙◌, ◌++◌, inl, inr, ℕ, List, [], ◌∷◌, Err, sym, ap, subst, arith}
-use Rattle.state_file.proofs.Names.{IfErr, lists, recovered, outset_of, AreToldBehind, IsMomentTold, ListsItself, until_of, rules_of, shortened_size, Known, RefusesResume}
-use Rattle.state_file.proofs.Compared.{wider}
-use Rattle.state_file.proofs.Begun.{known_begun}
+use Rattle.std.proofs.Common.{◌≡◌, ◌∙◌, ◌⊎◌, inl, inr, ℕ, List, Some, sym, ap, subst}
+use Rattle.state_file.proofs.Names.{outset_of, RefuseServer, RefusesResume, RegistryRecord, StateFault}
+use Rattle.state_file.specs.Faults.{of_reading}
+use Rattle.state_file.specs.Going.{HasGone}
+use Rattle.state_file.specs.Making.{StopsReading}
 use Rattle.state_file.proofs.Refused.{no_start}
-use Rattle.state_file.proofs.Tells.{told_behind}
+use Rattle.state_file.proofs.Resumed.{file_refused, hookless, if_err, if_ok, stops_reading}
 use Rattle.state_file.proofs.resuming.resume.Goals as goal
 
-pub returns-in_err-rules-clause-refused : goal.returns-in_err-rules-clause-refused
-returns-in_err-rules-clause-refused g c =
+pub returns-in-Ok-clause-resumed : goal.returns-in-Ok-clause-resumed
+returns-in-Ok-clause-resumed g c =
     let outset = outset_of c.args.registry c.args.host in
-    let are : lists c.as_slice-batches.result.now ≡ recovered c.args.bytes.now = ap lists c.as_slice-batches.ensures.value ∙ c.in_ok-list.ensures.batches in
-    let is : c.from_residual-in_err-rules.result ≡ Err c.in_err-rules.field-0.0 = search rules in
-    rw is (no_start g.H.HookHost outset c.args.bytes.now c.in_err-rules.field-0.0 (inl (rw (← are) c.in_err-rules.ensures.refused)))
+    let over = c.in-Ok.ensures in
+    let has : HasGone g.H.HookHost outset c.in-Ok.field-0.gone = over.gone outset c.new-gone.ensures.gone in
+    if_ok c.resume.result _ _ (λ resumed is. is outset has (g.S.ByteSource.told c.in-Ok.field-0.read.source) over.front over.torn) c.resume.ensures.resumed
+
+pub returns-in-Ok-clause-refused : goal.returns-in-Ok-clause-refused
+returns-in-Ok-clause-refused g c =
+    let hosting = g.H.HookHost in
+    let outset = outset_of c.args.registry c.args.host in
+    let over = c.in-Ok.ensures in
+    let has : HasGone hosting outset c.in-Ok.field-0.gone = over.gone outset c.new-gone.ensures.gone in
+    if_err c.resume.result _ _
+    (λ not refused. inr (
+      over.over,
+      no_start hosting outset (g.S.ByteSource.told c.in-Ok.field-0.read.source) not.fault (subst (λ (bs : List (List ℕ)). RefuseServer hosting outset bs not.fault) over.front (refused outset has)),
+    )) c.resume.ensures.refused
+
+pub returns-in-Ok-clause-back : goal.returns-in-Ok-clause-back
+returns-in-Ok-clause-back g c =
+    let outset = outset_of c.args.registry c.args.host in
+    let has : HasGone g.H.HookHost outset c.in-Ok.field-0.gone = c.in-Ok.ensures.gone outset c.new-gone.ensures.gone in
+    if_err c.resume.result _ _ (λ not back gives. back outset has gives ∙ ap (λ (rules : RegistryRecord). Some rules) has.rules_are) c.resume.ensures.back
+
+pub returns-in-Ok-clause-hookless : goal.returns-in-Ok-clause-hookless
+returns-in-Ok-clause-hookless g c =
+    let outset = outset_of c.args.registry c.args.host in
+    let has : HasGone g.H.HookHost outset c.in-Ok.field-0.gone = c.in-Ok.ensures.gone outset c.new-gone.ensures.gone in
+    if_err c.resume.result _ _ (λ not refused is. hookless g.H.HookHost outset c.in-Ok.field-0.gone.front.batches not.fault (refused outset has) is) c.resume.ensures.refused
 
 pub returns-in-Err-clause-refused : goal.returns-in-Err-clause-refused
 returns-in-Err-clause-refused g c =
-    let outset = outset_of c.args.registry c.args.host in
-    let are : lists c.as_slice-batches.result.now ≡ recovered c.args.bytes.now = ap lists c.as_slice-batches.ensures.value ∙ c.in_ok-list.ensures.batches in
-    no_start g.H.HookHost outset c.args.bytes.now c.in-Err.fault (inr (rw (← are) c.in_ok-rules.ensures.taken, rw (← are) c.in-Err.ensures.refused))
-
-pub returns : goal.returns
-returns g c =
     let hosting = g.H.HookHost in
     let outset = outset_of c.args.registry c.args.host in
-    let now = rules_of c.args.registry in
-    let old = recovered c.args.bytes.now in
-    let batches = lists c.as_slice-batches.result.now in
-    let spelled = c.in_ok-rules.rules.bytes in
-    let are : batches ≡ old = ap lists c.as_slice-batches.ensures.value ∙ c.in_ok-list.ensures.batches in
-    let until : c.until_of-until.result ≡ until_of old = c.until_of-until.ensures ∙ ap until_of are in
-    let listed : ListsItself c.args.registry old = subst (ListsItself c.args.registry) are c.in-Ok.ensures.listed in
-    let behind : AreToldBehind old now c.tell.new.frames =
-    told_behind c.in_ok-rules.rules.told old c.tell.new.frames now spelled.items (c.in_ok-rules.ensures.fit, c.in_ok-rules.ensures.spelled)
-    (λ told. rw (← are) (c.in_ok-rules.ensures.told.0 told))
-    (λ told. c.in_ok-tell.ensures.told told ∙ c.in_ok-list.ensures.frames)
-    (λ untold. c.in_ok-tell.ensures.added untold ∙ ap (λ (bs : List (List ℕ)). bs ++ spelled.items ∷ []) c.in_ok-list.ensures.frames) in
-    let known : Known = record { rules = spelled; shortened = c.shortened_size-shortened.result; until = c.until_of-until.result } in
-    record {
-      answers = c.in-Ok.ensures.answers c.args.bytes.now (sym are);
-      listed = listed;
-      unnoted = c.in-Ok.ensures.unnoted;
-      later = subst (λ (bs : List (List ℕ)). until_of bs ≤ c.in-Ok.restored.moment) are c.in-Ok.ensures.later;
-      moment = subst (λ (bs : List (List ℕ)). IsMomentTold bs c.in-Ok.restored.moment) are c.in-Ok.ensures.moment;
-      wider = λ registry tells. wider registry c.args.registry (c.in_ok-rules.ensures.taken.1 (rules_of registry) (rw are tells));
-      told = behind;
-      known = known_begun old c.tell.new.frames listed.0 known now listed.1 c.in_ok-rules.ensures.spelled c.in_ok-rules.ensures.few behind
-          (c.shortened_size-shortened.ensures ∙ ap shortened_size are) until;
-      torn = c.in_ok-list.ensures.torn;
-      refused = tt;
-    }
+    let source = c.in-Err.field-0.source in
+    let told = g.S.ByteSource.told source in
+    let either : StopsReading (of_reading c.in-Err.field-0.fault) ⊎ (g.S.ByteSource.is_over source × RefusesResume hosting outset told (of_reading c.in-Err.field-0.fault)) =
+    elim c.in-Err.ensures.refused [
+      | inl unread ↦ inl (stops_reading c.in-Err.field-0.fault unread)
+      | inr refused ↦ inr (refused.0, file_refused hosting outset told c.in-Err.field-0.fault refused.1)
+    ] in
+    subst (λ (f : StateFault). StopsReading f ⊎ (g.S.ByteSource.is_over source × RefusesResume hosting outset told f)) (sym c.from.ensures) either

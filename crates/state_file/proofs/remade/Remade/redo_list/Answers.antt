@@ -1,4 +1,4 @@
-use Rattle.std.proofs.Common.{rules, ◌≡◌, ◌+◌, ◌++◌, List, [], ◌∷◌, Err, take, drop, refl, sym, subst, arith}
+use Rattle.std.proofs.Common.{rules, ◌≡◌, ◌+◌, ◌++◌, ◌∙◌, List, [], ◌∷◌, Err, take, drop, refl, sym, subst, arith}
 use Rattle.consent.specs.History.{Event}
 use Rattle.state_file.proofs.Names.{IfErr, common_steps, take_all, DatedChange, dated_fact, dated_facts, MakesAgain, RefusesAgain}
 use Rattle.state_file.proofs.Refused.{parted_changes}
@@ -18,7 +18,7 @@ returns-in_err-redo-clause-refused g c =
       dated_fact item,
       parted_changes changes i item more,
       c.loop-dated.self,
-      c.loop-dated.invariant,
+      c.loop-dated.invariant.made,
       item.change,
       refl,
       c.in_err-redo.ensures.refused,
@@ -29,9 +29,13 @@ loop-dated-preserved g c =
     let item = c.dated-item.result in
     let before = take c.loop-dated.dated-index c.args.changes.now in
     let more : dated_facts (take (c.loop-dated.dated-index + 1) c.args.changes.now) ≡ dated_facts before ++ dated_fact item ∷ [] = grind (arith, common_steps) in
-    subst (λ (ds : List Event). MakesAgain g.H.HookHost c.args.self.now ds c.redo.new.self) (sym more)
-    (makes_then g.H.HookHost c.args.self.now c.loop-dated.self c.redo.new.self (dated_facts before) (dated_fact item ∷ []) c.loop-dated.invariant c.in_ok-redo.ensures.redone)
+    record {
+      made =
+          subst (λ (ds : List Event). MakesAgain g.H.HookHost c.args.self.now ds c.redo.new.self) (sym more)
+          (makes_then g.H.HookHost c.args.self.now c.loop-dated.self c.redo.new.self (dated_facts before) (dated_fact item ∷ []) c.loop-dated.invariant.made c.in_ok-redo.ensures.redone);
+      rules = c.redo.ensures.rules ∙ c.loop-dated.invariant.rules;
+    }
 
 pub returns-clause-redone : goal.returns-clause-redone
 returns-clause-redone g c =
-    subst (λ (xs : List DatedChange). MakesAgain g.H.HookHost c.args.self.now (dated_facts xs) c.loop-dated.self) (take_all c.loop-dated.dated-index c.args.changes.now c.loop-dated-test.false) c.loop-dated.invariant
+    subst (λ (xs : List DatedChange). MakesAgain g.H.HookHost c.args.self.now (dated_facts xs) c.loop-dated.self) (take_all c.loop-dated.dated-index c.args.changes.now c.loop-dated-test.false) c.loop-dated.invariant.made
