@@ -1,1 +1,4 @@
 pub mod Changing
+pub mod Less
+pub mod OfLeft
+pub mod Names

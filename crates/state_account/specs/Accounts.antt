@@ -37,6 +37,11 @@ pub record IsAccountOf {H : Type 0} (hosting : Hosting H) (left : List ℕ) (fir
   pub moment_is : IsMomentTold (recovered left) account.restored.moment
   pub later : until_of (recovered left) ≤ account.restored.moment
 
+-- it is one of all bytes of which these batches were read, and this as what an unfinished write left
+abbrev pub IsAccountOfRead : {H : Type 0} → Hosting H → (batches : List (List ℕ)) (torn : List ℕ) → H → Account H → Type 0
+IsAccountOfRead hosting batches torn first account =
+    (left : List ℕ) → recovered left ≡ batches → torn_of left ≡ torn → IsAccountOf hosting left first account
+
 -- The standing is one of the history, from its moment on: its records answer as the history does, its consents are the owners'
 -- last ones, its last number is the greatest of a family, and its hooks are those that the history sets. Nothing in the history
 -- is later.

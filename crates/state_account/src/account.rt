@@ -4,7 +4,7 @@ ghost use Rattle.std.specs.Prelude.{◌≡◌, ◌≤◌, IfOk, IfErr};
 ghost use Rattle.batch_file.specs.Frames.{lists, recovered, torn_of};
 ghost use Rattle.endpoints.specs.Server.{outset_of};
 ghost use Rattle.rules_codec.specs.Facts.{standing_fact};
-ghost use Rattle.state_account.specs.Accounts.{IsAccountOf, IsStandingOfAccount, IsOfBatches, RefusesAccount, fault_in};
+ghost use Rattle.state_account.specs.Accounts.{IsAccountOf, IsAccountOfRead, IsStandingOfAccount, IsOfBatches, RefusesAccount, fault_in};
 ghost use Rattle.state_file.specs.Resuming.{AnswersForBatches};
 ghost use Rattle.state_file.specs.Standing.{IsMomentTold, until_of};
 ghost use Rattle.state_account.specs.declared.account.AccountFault.TheVariants.{Memory};
@@ -101,18 +101,16 @@ fn read(alloc: Global, bytes: &[u8]) -> Result<Batches, AccountFault>
     }
 }
 
-/// What the bytes of a state file stand for, whatever a crash left there, with the rules that it tells last. The host is one
-/// without hooks.
+/// What the batches stand for that were read from a state file, with the rules that they tell last. The host is one without hooks.
 #[tactic(auto, using(crate::proofs::Accounted::of_telling))]
-pub fn account_of<H: HookHost>(
+pub fn account_in<H: HookHost>(
     alloc: Global,
-    bytes: &[u8],
+    found: &Batches,
     host: H,
 ) -> Result<Account<H>, AccountFault>
-    ensures told { IfOk result (IsAccountOf H.HookHost bytes.now host) }
-    ensures refused { IfErr result (RefusesAccount bytes.now) }
+    ensures told { IfOk result (IsAccountOfRead H.HookHost (lists found.now.batches.items) found.now.torn.items host) }
+    ensures refused { IfErr result IsOfBatches }
 {
-    let found = read(alloc, bytes)?;
     let batches = found.batches.as_slice();
     let rules = match file_rules(alloc, batches) {
         Ok(rules) => rules,
@@ -125,6 +123,21 @@ pub fn account_of<H: HookHost>(
         batches: batches.len(),
         torn: found.torn.len(),
     })
+}
+
+/// What the bytes of a state file stand for, whatever a crash left there, with the rules that it tells last. The host is one
+/// without hooks.
+pub fn account_of<H: HookHost>(
+    alloc: Global,
+    bytes: &[u8],
+    host: H,
+) -> Result<Account<H>, AccountFault>
+    ensures told { IfOk result (IsAccountOf H.HookHost bytes.now host) }
+    ensures refused { IfErr result (RefusesAccount bytes.now) }
+{
+    let found = read(alloc, bytes)?;
+    let account = account_in(alloc, &found, host)?;
+    Ok(account)
 }
 
 impl<H: HookHost> Account<H> {

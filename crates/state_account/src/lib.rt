@@ -4,4 +4,4 @@
 mod account;
 mod file_rules;
 
-pub use account::{Account, AccountFault, account_of};
+pub use account::{Account, AccountFault, account_in, account_of};

@@ -7,8 +7,9 @@ ghost use Rattle.state_listing.specs.Lines.{consent_line, family_line, firsts, h
 
 use crate::facts::FileFacts;
 use crate::rows::{push_consent, push_family, push_file, push_hook, push_token};
+use clients::Bounds;
 use consent::{KeptConsent, KeptRecord};
-use rules_codec::{KeptHook, Rules, Standing};
+use rules_codec::{KeptHook, Standing};
 use std::alloc::{AllocError, Global};
 use std::collections::BTreeSet;
 
@@ -16,7 +17,7 @@ use std::collections::BTreeSet;
 fn push_consents(
     alloc: Global,
     lines: &mut Vec<u8>,
-    rules: &Rules<'_>,
+    rules: &Bounds<'_>,
     consents: &[KeptConsent],
 ) -> Result<(), AllocError>
     ensures { OnOk result (lines.new.items ≡ lines.old.items ++ flat_map (consent_line (rules_fact rules.now)) consents.now) }
@@ -31,7 +32,7 @@ fn push_consents(
 fn push_families(
     alloc: Global,
     lines: &mut Vec<u8>,
-    rules: &Rules<'_>,
+    rules: &Bounds<'_>,
     records: &[KeptRecord<'_>],
 ) -> Result<(), AllocError>
     ensures { OnOk result (lines.new.items ≡ lines.old.items
@@ -52,7 +53,7 @@ fn push_families(
 fn push_tokens(
     alloc: Global,
     lines: &mut Vec<u8>,
-    rules: &Rules<'_>,
+    rules: &Bounds<'_>,
     records: &[KeptRecord<'_>],
 ) -> Result<(), AllocError>
     ensures { OnOk result (lines.new.items ≡ lines.old.items

@@ -10,13 +10,14 @@ ghost use Rattle.state_listing.specs.Lines.{age_ahead, client_members, code_scop
 
 use crate::facts::FileFacts;
 use crate::line::{begin_line, end_line};
+use clients::Bounds;
 use consent::{ClientNo, KeptConsent, KeptKind, KeptRecord, Moment, ScopeSet, TokenKind};
 use messages::Object;
-use rules_codec::{KeptHook, Rules};
+use rules_codec::KeptHook;
 use std::alloc::{AllocError, Global};
 
 // The name of the client, if the rules have one.
-fn client_name<'a>(rules: &Rules<'a>, client: ClientNo) -> Option<&'a str>
+fn client_name<'a>(rules: &Bounds<'a>, client: ClientNo) -> Option<&'a str>
     ensures { option_copied result ≡ client_name (rules_fact rules.now).clients client }
 {
     let place = client.get() as usize - 1;
@@ -29,7 +30,7 @@ fn client_name<'a>(rules: &Rules<'a>, client: ClientNo) -> Option<&'a str>
 // The names of a scope, in the order of the rules.
 fn names_of<'a>(
     alloc: Global,
-    rules: &Rules<'a>,
+    rules: &Bounds<'a>,
     scope: ScopeSet,
 ) -> Result<Vec<&'a str>, AllocError>
     ensures { IfOk result (λ names. map (λ s. s.now) names.items ≡ names_in_mask (rules_fact rules.now).scopes scope) }
@@ -48,7 +49,7 @@ fn names_of<'a>(
 }
 
 // One more member: the client, by its name, or by its number where the rules have none.
-fn push_client(line: &mut Object, rules: &Rules<'_>, client: ClientNo) -> Result<(), AllocError>
+fn push_client(line: &mut Object, rules: &Bounds<'_>, client: ClientNo) -> Result<(), AllocError>
     ensures { OnOk result (line.new.json.tokens ≡ line.old.json.tokens ++ client_members (rules_fact rules.now) client) }
 {
     match client_name(rules, client) {
@@ -62,7 +63,7 @@ fn push_client(line: &mut Object, rules: &Rules<'_>, client: ClientNo) -> Result
 fn push_scope(
     alloc: Global,
     line: &mut Object,
-    rules: &Rules<'_>,
+    rules: &Bounds<'_>,
     scope: ScopeSet,
 ) -> Result<(), AllocError>
     ensures { OnOk result (line.new.json.tokens ≡ line.old.json.tokens ++ scope_members (rules_fact rules.now) scope) }
@@ -75,7 +76,7 @@ fn push_scope(
 pub(crate) fn push_consent(
     alloc: Global,
     lines: &mut Vec<u8>,
-    rules: &Rules<'_>,
+    rules: &Bounds<'_>,
     consent: &KeptConsent,
 ) -> Result<(), AllocError>
     ensures { OnOk result (lines.new.items ≡ lines.old.items ++ consent_line (rules_fact rules.now) consent.now) }
@@ -101,7 +102,7 @@ fn push_owner(line: &mut Object, owner: u32) -> Result<(), AllocError>
 fn push_code_scope(
     alloc: Global,
     line: &mut Object,
-    rules: &Rules<'_>,
+    rules: &Bounds<'_>,
     code_scope: Option<ScopeSet>,
 ) -> Result<(), AllocError>
     ensures { OnOk result (line.new.json.tokens ≡ line.old.json.tokens ++ code_scope_members (rules_fact rules.now) code_scope) }
@@ -116,7 +117,7 @@ fn push_code_scope(
 pub(crate) fn push_family(
     alloc: Global,
     lines: &mut Vec<u8>,
-    rules: &Rules<'_>,
+    rules: &Bounds<'_>,
     kept: &KeptRecord<'_>,
 ) -> Result<(), AllocError>
     ensures { OnOk result (lines.new.items ≡ lines.old.items ++ family_line (rules_fact rules.now) (record_fact kept.now)) }
@@ -145,7 +146,7 @@ fn kind_name(kind: &KeptKind<'_>) -> &'static str
 pub(crate) fn push_token(
     alloc: Global,
     lines: &mut Vec<u8>,
-    rules: &Rules<'_>,
+    rules: &Bounds<'_>,
     kept: &KeptRecord<'_>,
 ) -> Result<(), AllocError>
     ensures { OnOk result (lines.new.items ≡ lines.old.items ++ token_line (rules_fact rules.now) (record_fact kept.now)) }

@@ -1,15 +1,17 @@
 //! How many codes and tokens of a state file end under a registry.
 
-ghost use Rattle.std.specs.Prelude.{◌⊎◌, ℕ, List, IfOk, IfErr};
-ghost use Rattle.state_account.specs.Accounts.{RefusesAccount};
+ghost use Rattle.std.specs.Prelude.{IfOk, IfErr};
+ghost use Rattle.batch_file.specs.Frames.{lists};
+ghost use Rattle.state_account.specs.Accounts.{IsOfBatches};
 ghost use Rattle.state_file.specs.Telling.{rules_of};
-ghost use Rattle.state_narrowing.specs.Narrowing.{IsNarrower, IsUnreadable, RefusesNarrowing};
-ghost use Rattle.state_narrowing.specs.NarrowingParts.{EndsOfEach};
+ghost use Rattle.narrowing.specs.Narrowing.{AreNarrower, RefusesNarrowing};
+ghost use Rattle.narrowing.specs.NarrowingParts.{EndOfRead};
 
+use crate::records::ended_count;
+use batch_file::framing::Batches;
 use clients::Registry;
 use hook_host::HookHost;
-use narrowing::ended_count;
-use state_account::{AccountFault, account_of};
+use state_account::{AccountFault, account_in};
 use state_file::StateFault;
 use std::alloc::Global;
 
@@ -27,27 +29,27 @@ fn of_batch(fault: StateFault) -> StateFault
 
 // The fault of an account.
 fn fault_of(fault: AccountFault) -> StateFault
-    ensures { (left : List ℕ) → RefusesAccount left fault → IsUnreadable left result ⊎ RefusesNarrowing result }
+    ensures { IsOfBatches fault → RefusesNarrowing result }
 {
     match fault {
         AccountFault::Memory => StateFault::Memory,
-        AccountFault::File(fault) => StateFault::from(fault),
         AccountFault::Batch(_, fault) => of_batch(fault),
+        AccountFault::File(_) => StateFault::NoRules,
     }
 }
 
-/// How many codes and tokens of a state file end under the registry. The host is one without hooks.
+/// How many codes and tokens end under the registry that batches of a state file stand for. The host is one without hooks.
 pub(crate) fn ended_in<H: HookHost>(
     alloc: Global,
-    bytes: &[u8],
+    found: &Batches,
     registry: &Registry,
     host: H,
 ) -> Result<usize, StateFault>
-    requires narrower { IsNarrower bytes.now (rules_of registry.now) }
-    ensures ends { IfOk result (EndsOfEach H.HookHost host bytes.now registry.now) }
-    ensures refused { IfErr result (λ fault. IsUnreadable bytes.now fault ⊎ RefusesNarrowing fault) }
+    requires narrower { AreNarrower (lists found.now.batches.items) (rules_of registry.now) }
+    ensures ends { IfOk result (EndOfRead H.HookHost (lists found.now.batches.items) found.now.torn.items host registry.now) }
+    ensures refused { IfErr result RefusesNarrowing }
 {
-    let account = match account_of(alloc, bytes, host) {
+    let account = match account_in(alloc, found, host) {
         Ok(account) => account,
         Err(fault) => return Err(fault_of(fault)),
     };

@@ -1,8 +1,8 @@
 -- What a file stands for that tells what is left of another one's list.
 use Rattle.std.proofs.Common.{◌≡◌, inl, inr, ℕ, ◌-◌, zero, suc, max, List, [], ◌∷◌, true, None, Some, refl, ap, sym, subst, ◌∙◌, arith}
-use Rattle.state_narrowing.proofs.Names.{is_some, slice_get, map, recovered, ClientFact, RulesFact, StandingFact, kept_told, FitsHistory, as_kept, KeptRecord, KeepClients, client_names}
-use Rattle.state_narrowing.proofs.Names.{first_moved, AreTold, StandFor, StandsFor, until_of, client_told, last_rules, rules_of}
-use Rattle.state_narrowing.proofs.Names.{tell_one, HasLeftOfEach, IsNarrower, EndsOfEach, TellLeft}
+use Rattle.narrowing.proofs.Names.{is_some, slice_get, map, recovered, ClientFact, RulesFact, StandingFact, kept_told, FitsHistory, as_kept, KeptRecord, KeepClients, client_names}
+use Rattle.narrowing.proofs.Names.{first_moved, AreTold, StandFor, StandsFor, until_of, client_told, last_rules, rules_of}
+use Rattle.narrowing.proofs.Names.{tell_one, HasLeftOfEach, IsNarrower, EndsOfEach, TellLeft}
 use Rattle.std.proofs.lemmas.Bool.Decides.{nat_tests}
 use Rattle.clients.specs.ClientRecord.{ClientRecord}
 use Rattle.clients.specs.RegistryRecord.{RegistryRecord}
@@ -23,8 +23,9 @@ use Rattle.state_account.specs.Accounts.{IsAccountOf, IsStandingIn, TellIfAny}
 use Rattle.state_file.specs.Renewing.{left_numbered}
 use Rattle.state_file.specs.StandingLaws.{one_told}
 use Rattle.state_file.specs.ResumingLaws.{right_now}
+use Rattle.state_file.specs.Telling.{Tell}
 use Rattle.state_account.specs.declared.account.Account.{Account}
-use Rattle.state_narrowing.specs.declared.narrowed.Narrowed.{Narrowed}
+use Rattle.narrowing.specs.declared.narrowed.Narrowed.{Narrowed}
 
 -- CLIENTS
 
@@ -99,15 +100,20 @@ module _ {H : Type 0} (hosting : Hosting H) where
 
   -- a file that tells what is left stands for it
   pub has_left : (left : List ℕ) (first : H) (rules : RegistryRecord) (file : Narrowed) → EndsOfEach hosting first left rules file.ended →
-      TellLeft (recovered left) rules (recovered file.bytes.items) → HasLeftOfEach hosting first left rules file
+      TellLeft (recovered left) rules file.frames → HasLeftOfEach hosting first left rules file
   has_left left first rules file ends tell history stands was run =
       let end = ends history stands was run in
       let same : stands.facts ≡ tell.facts = one_told (recovered left) stands.facts tell.facts stands.told tell.of in
       let of : IsLeftOf tell.facts history (last_moment 0 history) = subst (λ (fs : List Event). IsLeftOf fs history (last_moment 0 history)) same stands.left in
-      let new : StandsFor file.bytes.items (left_under rules history) =
-      stands_left rules tell.facts history (recovered file.bytes.items) tell.told of (ap (last_moment 0) (sym same) ∙ stands.moment) (ap greatest_family (sym same) ∙ stands.number) in
+      let new : StandFor file.frames (left_under rules history) =
+      stands_left rules tell.facts history file.frames tell.told of (ap (last_moment 0) (sym same) ∙ stands.moment) (ap greatest_family (sym same) ∙ stands.number) in
       record {
-        goes_on = record { stands = new; right = inr (rules, tell.rules_are, end.right); host = end.host; ran = end.ran };
+        goes_on = λ bytes are. record {
+          stands = subst (λ (bs : List (List ℕ)). StandFor bs (left_under rules history)) (sym are) new;
+          right = inr (rules, subst (λ (bs : List (List ℕ)). Tell bs (rules_of rules)) (sym are) tell.rules_are, end.right);
+          host = end.host;
+          ran = end.ran;
+        };
         list = tell.facts;
         of = of;
         told = tell.told;

@@ -1,6 +1,6 @@
 -- Beside Narrowing: only the contracts of this crate's own parts and their proofs cite this, no public clause.
 use Rattle.std.specs.Prelude.{◌≡◌, ℕ, List, [], Bool, true, false, Result, Ok, Err, max}
-use Rattle.batch_file.specs.Frames.{recovered}
+use Rattle.batch_file.specs.Frames.{recovered, torn_of}
 use Rattle.clients.specs.RegistryRecord.{RegistryRecord}
 use Rattle.consent.specs.History.{Event, last_moment}
 use Rattle.endpoints.specs.Bounded.{AllRight}
@@ -31,6 +31,11 @@ pub record Ends {H : Type 0} (hosting : Hosting H) (first : H) (rules : Registry
 -- so it is of each history that the bytes stand for
 abbrev pub EndsOfEach : {H : Type 0} → Hosting H → H → List ℕ → RegistryRecord → ℕ → Type 0
 EndsOfEach hosting first left rules ended = OfEachHistory hosting first left (Ends hosting first rules (until_of (recovered left)) ended)
+
+-- so it is of all bytes of which these batches were read, and this as what an unfinished write left
+abbrev pub EndOfRead : {H : Type 0} → Hosting H → (batches : List (List ℕ)) (torn : List ℕ) → H → RegistryRecord → ℕ → Type 0
+EndOfRead hosting batches torn first rules ended =
+    (left : List ℕ) → recovered left ≡ batches → torn_of left ≡ torn → EndsOfEach hosting first left rules ended
 
 -- the new batches tell the rules, what is left under these of the list that the old ones tell, and the same moment
 pub record TellLeft (old : List (List ℕ)) (rules : RegistryRecord) (new : List (List ℕ)) : Type 0 where

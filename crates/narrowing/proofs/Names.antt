@@ -8,8 +8,8 @@ pub use Rattle.state_file.specs.Standing.{AreTold, StandFor, StandsFor, until_of
 pub use Rattle.state_file.specs.Telling.{last_rules, IsOfRules, client_told, rules_of}
 pub use Rattle.state_file.specs.TellingLaws.{tell_in, tells_none, tell_one}
 pub use Rattle.state_file.specs.declared.fault.StateFault.{StateFault}
-pub use Rattle.state_narrowing.specs.Narrowing.{AreNarrower, HasLeftOfEach, IsNarrower, AreLess}
-pub use Rattle.state_narrowing.specs.NarrowingParts.{less_by, EndsOfEach, TellLeft}
+pub use Rattle.narrowing.specs.Narrowing.{AreNarrower, HasLeftOfEach, IsNarrower, AreLess}
+pub use Rattle.narrowing.specs.NarrowingParts.{less_by, EndsOfEach, TellLeft}
 pub use Rattle.std.specs.Prelude.{IfOk, IsTrue, is_some, slice_get, map, IfSome}
 pub use Rattle.token_store.specs.Fits.{FitsHistory}
 pub use Rattle.token_store.specs.Image.{kept_told, as_kept}

@@ -1,6 +1,6 @@
 -- A file whose rules are not read is not narrowed.
 use Rattle.std.proofs.Common.{◌≡◌, ◌↔◌, List, ℕ, true, false, Some}
-use Rattle.state_narrowing.proofs.Names.{IfOk, IsTrue, RulesFact, IsUnread, last_rules, tell_in, tells_none, StateFault, AreNarrower, less_by}
+use Rattle.narrowing.proofs.Names.{IfOk, IsTrue, RulesFact, IsUnread, last_rules, tell_in, tells_none, StateFault, AreNarrower, less_by}
 use Rattle.state_file.specs.declared.fault.StateFault.TheVariants as state
 
 no : {P : Type 0} → (P → ⊥) → (false ≡ true) ↔ P

@@ -16,7 +16,7 @@ use Rattle.state_file.specs.Standing.{AreTold, StandsFor, until_of}
 use Rattle.state_file.specs.Telling.{Tell}
 use Rattle.state_file.specs.declared.fault.StateFault.{StateFault}
 use Rattle.state_file.specs.declared.fault.StateFault.TheVariants.{Memory, NotState, Version, Damaged, Full, TooLong, NoRules, Spelling, Follows}
-use Rattle.state_narrowing.specs.declared.narrowed.Narrowed.{Narrowed}
+use Rattle.narrowing.specs.declared.narrowed.Narrowed.{Narrowed}
 
 -- the rules keep the names of those told, and are not as wide
 abbrev pub AreLess : RulesFact → RulesFact → Type 0
@@ -39,15 +39,15 @@ pub record GoesOn {H : Type 0} (hosting : Hosting H) (first : H) (left : List �
   pub host : H
   pub ran : HostRun hosting first history host
 
--- The file stands for what is left of the history. It tells no more than what is left, under the rules, of a list that is left of
+-- A file with the batches stands for what is left of the history. It tells no more than what is left, under the rules, of a list that is left of
 -- the history, and the greatest number of a family. So many codes and tokens ended as the history had good ones of which nothing is
 -- left, at the moment of its last change or a later one that the file tells.
 pub record HasLeft {H : Type 0} (hosting : Hosting H) (first : H) (rules : RegistryRecord) (file : Narrowed) (history : List Event) : Type 0 where
-  pub goes_on : GoesOn hosting first file.bytes.items (left_under rules history)
+  pub goes_on : (bytes : List ℕ) → recovered bytes ≡ file.frames → GoesOn hosting first bytes (left_under rules history)
   pub list : List Event
   pub of : IsLeftOf list history (last_moment 0 history)
-  pub told : AreTold (recovered file.bytes.items) (left_numbered (left_under rules list))
-  pub ended : file.ended ≡ ended_count rules history (max (last_moment 0 history) (until_of (recovered file.bytes.items)))
+  pub told : AreTold file.frames (left_numbered (left_under rules list))
+  pub ended : file.ended ≡ ended_count rules history (max (last_moment 0 history) (until_of file.frames))
 
 -- so it is of each history that the bytes stood for
 abbrev pub HasLeftOfEach : {H : Type 0} → Hosting H → H → List ℕ → RegistryRecord → Narrowed → Type 0

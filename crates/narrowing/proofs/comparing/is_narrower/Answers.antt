@@ -1,7 +1,8 @@
 use Rattle.std.proofs.Common.{◌≡◌, ◌↔◌, ℕ, List, Bool, Result, Ok, Err, Some, sym, subst, ◌∙◌}
-use Rattle.state_narrowing.proofs.Names.{IfOk, IsTrue, RulesFact, rules_fact, StateFault, lists, IsOfRules, last_rules, rules_of, AreLess, AreNarrower}
-use Rattle.state_narrowing.proofs.Less.{unread}
-use Rattle.state_narrowing.proofs.comparing.is_narrower.Goals as goal
+use Rattle.narrowing.proofs.Names.{IfOk, IsTrue, RulesFact, rules_fact, StateFault, lists, IsOfRules, last_rules, rules_of, AreLess, AreNarrower}
+use Rattle.narrowing.proofs.Less.{unread}
+use Rattle.state_file.specs.BoundsLaws.{are_rules}
+use Rattle.narrowing.proofs.comparing.is_narrower.Goals as goal
 
 -- the batch tells the rules and no others
 beside : (batches : List (List ℕ)) (batch : List ℕ) (told now : RulesFact) (r : Result Bool StateFault) → last_rules batches ≡ Some batch → IsOfRules batch told →
@@ -17,7 +18,7 @@ beside batches batch told now (Ok less) at tells one exact = (
 
 pub returns-clause-exact : goal.returns-clause-exact
 returns-clause-exact c =
-    subst (λ (now : RulesFact). IfOk c.are_less.result (λ narrower. IsTrue narrower ↔ AreNarrower (lists c.args.batches.now) now)) c.in_ok-now.ensures.rules
+    subst (λ (now : RulesFact). IfOk c.are_less.result (λ narrower. IsTrue narrower ↔ AreNarrower (lists c.args.batches.now) now)) (are_rules c.args.registry.now c.in_ok-now.now c.in_ok-now.ensures)
     (beside (lists c.args.batches.now) c.in-Some.batch.now (rules_fact c.in-Ok.told) (rules_fact c.in_ok-now.now) c.are_less.result
     (sym c.in-Some.ensures) c.in-Ok.ensures.told c.in-Ok.ensures.one c.are_less.ensures.exact)
 

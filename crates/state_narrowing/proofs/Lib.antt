@@ -1,3 +1,0 @@
-pub mod Less
-pub mod OfLeft
-pub mod Names

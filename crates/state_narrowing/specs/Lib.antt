@@ -1,4 +1,0 @@
--- What public clauses cite. docs/DEFINITIONS.md says what to read in which order.
-pub mod Narrowing
--- What only the contracts of this crate's own parts and their proofs cite.
-pub mod NarrowingParts
