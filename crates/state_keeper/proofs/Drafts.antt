@@ -3,6 +3,8 @@ use Rattle.std.proofs.Common.{◌≡◌, ◌≤◌, inl, inr, ℕ, List, ◌++�
 use Rattle.state_keeper.proofs.Names.{Event, RulesFact, IsDraft, AreDrafted, IsKnown, Known, AreTold, AreTold-joined, AreTold-split, Tell, last_rules, left_numbered, shortened_size, until_of}
 use Rattle.state_keeper.proofs.Names.{until_of-append, Device, HoldsBasis, IsOnDisk, SeenKeeper, Until, file_crashes, recovered}
 use Rattle.std.specs.Option.{option_or}
+use Rattle.std.specs.Prelude.{⊤}
+use Rattle.state_keeper.specs.Passing.{IsKnownFile}
 use Rattle.state_file.specs.TellingLaws.{last_rules-append}
 
 module _ {front whole draft : List (List ℕ)} (is : IsDraft front whole draft) where
@@ -43,28 +45,33 @@ drafted_until (Some f) whole draft is = draft_until is
 
 -- a moment that is not beyond the horizons is told whatever a crash leaves
 pub until_held : {D : Type 0} (device : Device D) (keeper : SeenKeeper D) (known : Known) (moment : ℕ) → IsOnDisk device.seen device.may_leave device.faults keeper.file →
-    IsKnown (device.reads_true keeper.file.device) (recovered (device.seen keeper.file.device)) known → ((c : List ℕ) → device.may_leave keeper.file.device c → device.reads_true keeper.file.device) →
+    IsKnownFile device keeper.file known → ((c : List ℕ) → device.may_leave keeper.file.device c → device.reads_true keeper.file.device) →
     moment ≤ known.until → HoldsBasis (file_crashes device) keeper (Until moment)
 until_held device keeper known moment settled is true le c (inl left) =
-    let same = ap (λ (file : List ℕ). until_of (recovered file)) (settled.durable c left) in let until = is.until_is (true c left) in omega (arith, same, until, le)
+    let same = ap (λ (file : List ℕ). until_of (recovered file)) (settled.durable c left) in let until = (is (true c left)).until_is tt in omega (arith, same, until, le)
 until_held device keeper known moment settled is true le c (inr (t, inl here)) =
-    let same = ap (λ (file : List ℕ). until_of (recovered file)) here in let until = is.until_is t in omega (arith, same, until, le)
+    let same = ap (λ (file : List ℕ). until_of (recovered file)) here in let until = (is t).until_is tt in omega (arith, same, until, le)
 until_held device keeper known moment settled is true le c (inr (t, inr draft)) =
-    let same = drafted_until keeper.front (recovered (device.seen keeper.file.device)) (recovered c) draft in let until = is.until_is t in omega (arith, same, until, le)
+    let same = drafted_until keeper.front (recovered (device.seen keeper.file.device)) (recovered c) draft.1 in let until = (is t).until_is tt in omega (arith, same, until, le)
 
 draft_of : (front : Option (List (List ℕ))) (whole draft : List (List ℕ)) → AreDrafted front whole draft → (f : List (List ℕ)) × IsDraft f whole draft
 draft_of None whole draft none = absurd none
 draft_of (Some f) whole draft is = (f, is)
 
 -- where a draft stands in the place of the whole
-module _ (True Now : Type 0) (front : Option (List (List ℕ))) (whole draft : List (List ℕ)) (known now : Known) (truth : Now → True) (is : IsKnown True whole known)
+module _ (True Now : Type 0) (front : Option (List (List ℕ))) (whole draft : List (List ℕ)) (known now : Known) (truth : Now → True) (is : True → IsKnown ⊤ whole known)
     (drafted : Now → AreDrafted front whole draft) where
-  pub known_placed : now.rules ≡ known.rules → now.until ≡ known.until → now.shortened ≡ shortened_size draft → IsKnown Now draft now
-  known_placed rules until size = record {
-    told = λ t. let told = is.told (truth t) in draft_told (draft_of front whole draft (drafted t)).1 told.0 told.1;
-    rules_begin = rw rules is.rules_begin;
-    rules_few = rw rules is.rules_few;
-    rules_are = λ t. let told = is.rules_are (truth t) in (told.0, draft_tell (draft_of front whole draft (drafted t)).1 told.0 told.1, rw rules told.2);
-    shortened_is = size;
-    until_is = λ t. until ∙ is.until_is (truth t) ∙ sym (draft_until (draft_of front whole draft (drafted t)).1);
-  }
+  pub known_placed : now.rules ≡ known.rules → now.until ≡ known.until → now.shortened ≡ shortened_size draft → Now → IsKnown ⊤ draft now
+  known_placed rules until size t =
+      let was = is (truth t) in
+      let drafts = (draft_of front whole draft (drafted t)).1 in
+      let told = was.told tt in
+      let are = was.rules_are tt in
+      record {
+        told = λ _. draft_told drafts told.0 told.1;
+        rules_begin = rw rules was.rules_begin;
+        rules_few = rw rules was.rules_few;
+        rules_are = λ _. (are.0, draft_tell drafts are.0 are.1, rw rules are.2);
+        shortened_is = size;
+        until_is = λ _. until ∙ was.until_is tt ∙ sym (draft_until drafts);
+      }

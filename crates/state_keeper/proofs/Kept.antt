@@ -2,40 +2,56 @@
 use Rattle.std.proofs.Common.{◌≡◌, ◌⊎◌, ⊎_elim, ◌≤◌, inl, inr, ℕ, List, [], ◌∷◌, ◌++◌, Option, None, Some, refl, sym, ap, ◌∙◌, subst, append_assoc, arith}
 use Rattle.std.proofs.lemmas.List.{append_cancel_left}
 use Rattle.state_keeper.proofs.Names.{LeavesOnly, recovered, IsOnDisk, BatchFile, Device, Event, Until, HoldsBasis, KeepsBasis, TellsBasis, RulesFact, HaveSpelling, batch_spelling, SeenKeeper}
-use Rattle.state_keeper.proofs.Names.{file_crashes, StandFor, until_of, AreDrafted, IsDraft, AreTold-changes, append-nil, until_of-more, Tell, last_rules, last_rules-push}
-use Rattle.batch_file.specs.Frames.{IsOldOrNew, IsBeforeOrAfter}
-use Rattle.change_codec.specs.Keeping.{Basis, Rules, Holds, Keeps, KeepsNot, LeavesEither, StandsForEither}
+use Rattle.state_keeper.proofs.Names.{file_crashes, StandFor, until_of, AreDrafted, IsDraft, AreTold-changes, append-nil, until_of-append, until_of-more, Tell, last_rules, last_rules-push}
+use Rattle.batch_file.specs.Frames.{IsOldOrNew, IsBeforeOrAfter, IsChance, IsReadable, IsReadableOrChance}
+use Rattle.change_codec.specs.Keeping.{Basis, IsWithin, NoLater, Readable, Rules, Holds, Keeps, KeepsNot, LeavesEither, StandsForEither}
 use Rattle.consent.specs.History.{Happened}
-use Rattle.state_file.specs.Knowing.{LeftTells, TellBasis}
+use Rattle.state_file.specs.Knowing.{IsByChance, LeftTells, TellBasis}
 use Rattle.state_keeper.specs.Seen.{MayBe}
 use Rattle.state_file.specs.Renewing.{IsShortened}
 use Rattle.state_file.specs.StandingLaws.{StandFor-joined, StandFor-shortened}
 use Rattle.batch_file.specs.CrashesLaws.{both, then, weaker}
-use Rattle.batch_file.specs.FramesLaws.{front_file}
+use Rattle.state_keeper.proofs.Fronts.{at_rest_readable, front_readable}
 use Rattle.batch_file.specs.declared.appending.BatchFault.{BatchFault}
 
--- what the old batches tell, the new ones do
-abbrev pub TellOn : List (List ℕ) → List (List ℕ) → Type 0
-TellOn old new = (basis : Basis) → TellBasis old basis → TellBasis new basis
+-- what the old batches tell within the limit, the new ones do
+abbrev pub TellOn : ℕ → List (List ℕ) → List (List ℕ) → Type 0
+TellOn limit old new = (basis : Basis) → IsWithin limit basis → TellBasis old basis → TellBasis new basis
 
-pub tell_on : (old new : List (List ℕ)) → until_of old ≤ until_of new → ((rules : RulesFact) → Tell old rules → Tell new rules) → TellOn old new
-tell_on old new le leads (Until moment) told = omega arith
-tell_on old new le leads (Rules rules) told = leads rules told
+pub tell_on : (limit : ℕ) (old new : List (List ℕ)) → until_of old ≤ until_of new → ((moment : ℕ) → limit ≤ moment → until_of old ≤ moment → until_of new ≤ moment) →
+    ((rules : RulesFact) → Tell old rules → Tell new rules) → TellOn limit old new
+tell_on limit old new le no_later leads (Until moment) within told = omega (arith, le, told)
+tell_on limit old new le no_later leads (NoLater moment) within told = no_later moment within told
+tell_on limit old new le no_later leads (Rules rules) within told = leads rules told
+tell_on limit old new le no_later leads Readable within told = tt
 
-abbrev pub keeper_of : {D : Type 0} → BatchFile D → Option BatchFault → Option (List (List ℕ)) → ℕ → SeenKeeper D
-keeper_of file fault front to_go = record { file = file; fault = fault; front = front; to_go = to_go }
+-- what the bytes tell their batches do, and the other way round where they can be read
+batches_tell : (basis : Basis) (c : List ℕ) → LeftTells c basis → TellBasis (recovered c) basis
+batches_tell (Until moment) c told = told
+batches_tell (NoLater moment) c told = told
+batches_tell (Rules rules) c told = told
+batches_tell Readable c told = tt
+
+left_tells : (basis : Basis) (c : List ℕ) → TellBasis (recovered c) basis → LeftTells c Readable → LeftTells c basis
+left_tells (Until moment) c told reads = told
+left_tells (NoLater moment) c told reads = told
+left_tells (Rules rules) c told reads = told
+left_tells Readable c told reads = reads
+
+abbrev pub keeper_of : {D : Type 0} → BatchFile D → Option BatchFault → Option (List (List ℕ)) → ℕ → ℕ → SeenKeeper D
+keeper_of file fault front to_go shortened = record { file = file; fault = fault; front = front; to_go = to_go; shortened = shortened }
 
 module _ {D : Type 0} (device : Device D) (old : SeenKeeper D) where
   -- the batches that stood there
   abbrev pub was : List (List ℕ)
   was = recovered (device.seen old.file.device)
 
-  -- the batches are these, or a draft of them
-  abbrev pub IsHeld : List (List ℕ) → Type 0
-  IsHeld bs = (bs ≡ was) ⊎ AreDrafted old.front was bs
+  -- a file of these batches, or of a draft of them
+  abbrev pub IsHeld : List ℕ → Type 0
+  IsHeld c = (recovered c ≡ was) ⊎ (IsReadable c × AreDrafted old.front was (recovered c))
 
-  -- what is so of all that the keeper's file may be is so of such batches
-  pub held : (P : List (List ℕ) → Type 0) → ((c : List ℕ) → MayBe device old c → P (recovered c)) → device.reads_true old.file.device → (c : List ℕ) → IsHeld (recovered c) → P (recovered c)
+  -- what is so of all that the keeper's file may be is so of the batches of such a file
+  pub held : (P : List (List ℕ) → Type 0) → ((c : List ℕ) → MayBe device old c → P (recovered c)) → device.reads_true old.file.device → (c : List ℕ) → IsHeld c → P (recovered c)
   held P all true c (inl same) = subst P (sym same) (all (device.seen old.file.device) (inr (true, inl refl)))
   held P all true c (inr draft) = all c (inr (true, inr draft))
 
@@ -46,11 +62,11 @@ Leading = List (List ℕ) → List (List ℕ) → Type 0
 module _ {D : Type 0} (device : Device D) (old new : SeenKeeper D) (Leads : Leading) where
   -- batches that the old ones, or a draft of them, lead to
   abbrev pub IsLed : List (List ℕ) → Type 0
-  IsLed bs = (d : List ℕ) × IsHeld device old (recovered d) × Leads (recovered d) bs
+  IsLed bs = (d : List ℕ) × IsHeld device old d × Leads (recovered d) bs
 
-  -- a file of the old batches, or of a draft of them, or of what these lead to: where what was read is true
+  -- a file of the old batches, or of a draft of them, or of what these lead to, where what was read is true; and it can be read
   abbrev pub IsHeldOrLed : List ℕ → Type 0
-  IsHeldOrLed c = device.reads_true old.file.device × (IsHeld device old (recovered c) ⊎ IsLed (recovered c))
+  IsHeldOrLed c = device.reads_true old.file.device × (IsHeld device old c ⊎ IsLed (recovered c)) × LeftTells c Readable
 
   -- a crash meanwhile left such a file
   abbrev pub LeavesHeld : Type 0
@@ -59,15 +75,15 @@ module _ {D : Type 0} (device : Device D) (old new : SeenKeeper D) (Leads : Lead
   -- and the new keeper's is one that they lead to
   pub record HasNow : Type 0 where
     pub leaves : LeavesHeld
-    pub now : (c : List ℕ) → MayBe device new c → device.reads_true old.file.device × IsLed (recovered c)
+    pub now : (c : List ℕ) → MayBe device new c → device.reads_true old.file.device × IsLed (recovered c) × LeftTells c Readable
 
   -- what they lead to stands for the one history if they did for the other
   abbrev pub LeadOver : List Event → List Event → Type 0
   LeadOver before after = (some others : List (List ℕ)) → Leads some others → StandFor some before → StandFor others after
 
-  -- and tells what they told
-  abbrev pub LeadOn : Type 0
-  LeadOn = (some others : List (List ℕ)) → Leads some others → TellOn some others
+  -- and tells what they told within the limit
+  abbrev pub LeadOn : ℕ → Type 0
+  LeadOn limit = (some others : List (List ℕ)) → Leads some others → TellOn limit some others
 
   -- what was left meanwhile stands for the one history or for the other
   leaves_either : (before after : List Event) → LeavesHeld → LeadOver before after → Holds (file_crashes device) old before → LeavesEither (file_crashes device) before after old new
@@ -92,24 +108,29 @@ module _ {D : Type 0} (device : Device D) (old new : SeenKeeper D) (Leads : Lead
 
   -- WHAT IS TOLD
 
-  pub tells_basis : LeavesHeld → LeadOn → TellsBasis (file_crashes device) old new
-  tells_basis leaves on = record {
+  pub tells_basis : (limit : ℕ) → LeavesHeld → LeadOn limit → TellsBasis (file_crashes device) limit old new
+  tells_basis limit leaves on = record {
     later = leaves.later;
-    earlier = λ basis t c holds early left. ⊎_elim (λ was. inl was) (λ is. inr (tells basis c holds is)) (leaves.before t c early left);
+    earlier = λ basis t c within holds early left. ⊎_elim (λ was. inl was) (λ is. inr (left_tells basis c (tells basis c within holds is) is.2)) (leaves.before t c early left);
   }
     where
-      tells : (basis : Basis) (c : List ℕ) → HoldsBasis (file_crashes device) old basis → IsHeldOrLed c → LeftTells c basis
-      tells basis c holds is = ⊎_elim (λ same. held device old (λ bs. TellBasis bs basis) holds is.0 c same)
-          (λ led. on (recovered led.0) (recovered c) led.2 basis (held device old (λ bs. TellBasis bs basis) holds is.0 led.0 led.1)) is.1
+      tells : (basis : Basis) (c : List ℕ) → IsWithin limit basis → HoldsBasis (file_crashes device) old basis → IsHeldOrLed c → TellBasis (recovered c) basis
+      tells basis c within holds is =
+          let each : (d : List ℕ) → MayBe device old d → TellBasis (recovered d) basis = λ d may. batches_tell basis d (holds d may) in
+          ⊎_elim (λ same. held device old (λ bs. TellBasis bs basis) each is.0 c same)
+          (λ led. on (recovered led.0) (recovered c) led.2 basis within (held device old (λ bs. TellBasis bs basis) each is.0 led.0 led.1)) is.1
 
   -- all that they lead to tells it
   pub holds_basis : (basis : Basis) → HasNow → ((some others : List (List ℕ)) → Leads some others → TellBasis others basis) → HoldsBasis (file_crashes device) new basis
-  holds_basis basis now told c may = let is = now.now c may in told (recovered is.1.0) (recovered c) is.1.2
+  holds_basis basis now told c may = let is = now.now c may in left_tells basis c (told (recovered is.1.0) (recovered c) is.1.2) is.2
 
-  pub keeps_basis : HasNow → LeadOn → KeepsBasis (file_crashes device) old new
-  keeps_basis now on = record {
-    holds = λ basis holds c may. let is = now.now c may in on (recovered is.1.0) (recovered c) is.1.2 basis (held device old (λ bs. TellBasis bs basis) holds is.0 is.1.0 is.1.1);
-    meanwhile = tells_basis now.leaves on;
+  pub keeps_basis : (limit : ℕ) → HasNow → LeadOn limit → KeepsBasis (file_crashes device) limit old new
+  keeps_basis limit now on = record {
+    holds = λ basis within holds c may. let is = now.now c may in
+        left_tells basis c
+        (on (recovered is.1.0) (recovered c) is.1.2 basis within
+        (held device old (λ bs. TellBasis bs basis) (λ d left. batches_tell basis d (holds d left)) is.0 is.1.0 is.1.1)) is.2;
+    meanwhile = tells_basis limit now.leaves on;
   }
 
 -- DRAFTS
@@ -138,11 +159,17 @@ abbrev pub HasMore : List ℕ → Leading
 HasMore batch old new = new ≡ old ++ batch ∷ []
 
 module _ {D : Type 0} (device : Device D) (old new : SeenKeeper D) (batch : List ℕ) where
-  pub more_leaves :
+  pub more_leaves : IsOnDisk device.seen device.may_leave device.faults old.file →
       LeavesOnly device.moment device.left_since old.file.device new.file.device (IsBeforeOrAfter (was device old) batch) →
+      LeavesOnly device.moment device.left_since old.file.device new.file.device (IsReadableOrChance (device.seen old.file.device) old.file.last batch) →
       LeavesOnly device.moment device.left_since old.file.device new.file.device (λ _. device.reads_true old.file.device) →
       LeavesHeld device old new (HasMore batch)
-  more_leaves leaves trues = weaker (both leaves trues) (λ c is. (is.1, ⊎_elim (λ same. inl (inl same)) (λ now. inr (device.seen old.file.device, inl refl, now)) is.0))
+  more_leaves settled leaves readable trues =
+      weaker (both (both leaves readable) trues)
+      (λ c is. (is.1, ⊎_elim (λ same. inl (inl same)) (λ now. inr (device.seen old.file.device, inl refl, now)) is.0.0, ⊎_elim (λ reads. inl reads) (λ chance. inr (by_chance c chance)) is.0.1))
+    where
+      by_chance : (c : List ℕ) → IsChance (device.seen old.file.device) old.file.last batch c → IsByChance c
+      by_chance c chance = record { old = device.seen old.file.device; last = old.file.last; batch = batch; whole = (old.file.end, settled.at_rest); chance = chance }
 
   pub more_now : LeavesHeld device old new (HasMore batch) → IsOnDisk device.seen device.may_leave device.faults new.file →
       (device.reads_true new.file.device → device.reads_true old.file.device) → ((c : List ℕ) → device.may_leave new.file.device c → device.reads_true new.file.device) →
@@ -152,21 +179,24 @@ module _ {D : Type 0} (device : Device D) (old new : SeenKeeper D) (batch : List
       here : (c : List ℕ) → c ≡ device.seen new.file.device → IsLed device old new (HasMore batch) (recovered c)
       here c is = (device.seen old.file.device, inl refl, ap recovered is ∙ are)
 
-      drafts : (c : List ℕ) → AreDrafted new.front (recovered (device.seen new.file.device)) (recovered c) → IsLed device old new (HasMore batch) (recovered c)
-      drafts c draft =
+      drafts : (c : List ℕ) → IsReadable c × AreDrafted new.front (recovered (device.seen new.file.device)) (recovered c) → IsLed device old new (HasMore batch) (recovered c)
+      drafts c (readable, draft) =
           let of : AreDrafted old.front (was device old ++ batch ∷ []) (recovered c) =
           subst (λ (f : Option (List (List ℕ))). AreDrafted f (was device old ++ batch ∷ []) (recovered c)) fronts
           (subst (λ (bs : List (List ℕ)). AreDrafted new.front bs (recovered c)) are draft) in
           let before = draft_before old.front (was device old) (batch ∷ []) (recovered c) begun of in
-          let file = front_file c batch before.0 before.2 in (
+          let file = front_readable c batch before.0 before.2 readable in (
             file.0,
-            inr (subst (λ (bs : List (List ℕ)). AreDrafted old.front (was device old) bs) (sym file.1) before.1),
+            inr (file.2, subst (λ (bs : List (List ℕ)). AreDrafted old.front (was device old) bs) (sym file.1) before.1),
             before.2 ∙ ap (λ (bs : List (List ℕ)). bs ++ batch ∷ []) (sym file.1),
           )
 
-      now : (c : List ℕ) → MayBe device new c → device.reads_true old.file.device × IsLed device old new (HasMore batch) (recovered c)
-      now c (inl left) = (truth (true c left), here c (settled.durable c left))
-      now c (inr is) = (truth is.0, ⊎_elim (here c) (drafts c) is.1)
+      reads : (c : List ℕ) → c ≡ device.seen new.file.device → LeftTells c Readable
+      reads c is = inl (subst (λ (file : List ℕ). IsReadable file) (sym is) (at_rest_readable settled.at_rest))
+
+      now : (c : List ℕ) → MayBe device new c → device.reads_true old.file.device × IsLed device old new (HasMore batch) (recovered c) × LeftTells c Readable
+      now c (inl left) = (truth (true c left), here c (settled.durable c left), reads c (settled.durable c left))
+      now c (inr is) = (truth is.0, ⊎_elim (here c) (drafts c) is.1, ⊎_elim (reads c) (λ draft. inl draft.0) is.1)
 
 -- WHERE THE FILE STANDS AS IT WAS
 
@@ -181,16 +211,17 @@ IsSameOrLeft old new = (new ≡ old) ⊎ IsShortened old new
 pub same_stand : (history : List Event) (some others : List (List ℕ)) → IsSame some others → StandFor some history → StandFor others history
 same_stand history some others same stands = subst (λ (bs : List (List ℕ)). StandFor bs history) (sym same) stands
 
-pub same_tell : (some others : List (List ℕ)) → IsSame some others → TellOn some others
-same_tell some others same basis told = subst (λ (bs : List (List ℕ)). TellBasis bs basis) (sym same) told
+pub same_tell : (limit : ℕ) (some others : List (List ℕ)) → IsSame some others → TellOn limit some others
+same_tell limit some others same basis within told = subst (λ (bs : List (List ℕ)). TellBasis bs basis) (sym same) told
 
 pub left_stand : (history : List Event) (some others : List (List ℕ)) → IsSameOrLeft some others → StandFor some history → StandFor others history
 left_stand history some others (inl same) stands = same_stand history some others same stands
 left_stand history some others (inr short) stands = StandFor-shortened some others history short stands
 
-pub left_tell : (some others : List (List ℕ)) → IsSameOrLeft some others → TellOn some others
-left_tell some others (inl same) basis told = same_tell some others same basis told
-left_tell some others (inr short) basis told = tell_on some others (let same = short.until in omega (arith, same)) short.tell basis told
+pub left_tell : (limit : ℕ) (some others : List (List ℕ)) → IsSameOrLeft some others → TellOn limit some others
+left_tell limit some others (inl same) basis within told = same_tell limit some others same basis within told
+left_tell limit some others (inr short) basis within told =
+    tell_on limit some others (let same = short.until in omega (arith, same)) (λ moment le was. (let same = short.until in omega (arith, same, was))) short.tell basis within told
 
 -- A file that stands as it was, and was perhaps read.
 pub record StaysIn {D : Type 0} (device : Device D) (old new : BatchFile D) : Type 0 where
@@ -225,35 +256,49 @@ stays_then device old mid new first second = record {
   true = second.true;
 }
 
+-- it can be read
+reads_still : {D : Type 0} (device : Device D) (old new : BatchFile D) → StaysIn device old new → (c : List ℕ) → c ≡ device.seen old.device → LeftTells c Readable
+reads_still device old new stays c is = inl (subst (λ (file : List ℕ). IsReadable file) (stays.seen ∙ sym is) (at_rest_readable stays.settled.at_rest))
+
 module _ {D : Type 0} (device : Device D) (old new : SeenKeeper D) (stays : StaysIn device old.file new.file) where
+  stays_reads : (c : List ℕ) → c ≡ device.seen old.file.device → LeftTells c Readable
+  stays_reads = reads_still device old.file new.file stays
+
   stays_leaves : (Leads : Leading) → LeavesHeld device old new Leads
-  stays_leaves Leads = weaker (both stays.leaves stays.trues) (λ c is. (is.1, inl (inl (ap recovered is.0))))
+  stays_leaves Leads = weaker (both stays.leaves stays.trues) (λ c is. (is.1, inl (inl (ap recovered is.0)), stays_reads c is.0))
 
   stays_now : (Leads : Leading) → ((bs : List (List ℕ)) → Leads bs bs) →
-      ((c : List ℕ) → AreDrafted new.front (was device old) (recovered c) → IsLed device old new Leads (recovered c)) → HasNow device old new Leads
+      ((c : List ℕ) → IsReadable c × AreDrafted new.front (was device old) (recovered c) → IsLed device old new Leads (recovered c)) → HasNow device old new Leads
   stays_now Leads same drafts = record { leaves = stays_leaves Leads; now = now }
     where
       here : (c : List ℕ) → c ≡ device.seen new.file.device → IsLed device old new Leads (recovered c)
       here c is = (device.seen old.file.device, inl refl, subst (λ (bs : List (List ℕ)). Leads (was device old) bs) (sym (ap recovered (is ∙ stays.seen))) (same (was device old)))
 
-      now : (c : List ℕ) → MayBe device new c → device.reads_true old.file.device × IsLed device old new Leads (recovered c)
-      now c (inl left) = (stays.truth (stays.true c left), here c (stays.settled.durable c left))
-      now c (inr is) = (stays.truth is.0, ⊎_elim (here c) (λ draft. drafts c (subst (λ (bs : List (List ℕ)). AreDrafted new.front bs (recovered c)) (ap recovered stays.seen) draft)) is.1)
+      reads : (c : List ℕ) → c ≡ device.seen new.file.device → LeftTells c Readable
+      reads c is = stays_reads c (is ∙ stays.seen)
+
+      now : (c : List ℕ) → MayBe device new c → device.reads_true old.file.device × IsLed device old new Leads (recovered c) × LeftTells c Readable
+      now c (inl left) = (stays.truth (stays.true c left), here c (stays.settled.durable c left), reads c (stays.settled.durable c left))
+      now c (inr is) = (
+        stays.truth is.0,
+        ⊎_elim (here c) (λ draft. drafts c (draft.0, subst (λ (bs : List (List ℕ)). AreDrafted new.front bs (recovered c)) (ap recovered stays.seen) draft.1)) is.1,
+        ⊎_elim (reads c) (λ draft. inl draft.0) is.1,
+      )
 
   -- a shortening goes on
   pub goes_on_now : new.front ≡ old.front → HasNow device old new IsSame
   goes_on_now fronts = stays_now IsSame (λ bs. refl)
-      (λ c draft. (c, inr (subst (λ (f : Option (List (List ℕ))). AreDrafted f (was device old) (recovered c)) fronts draft), refl))
+      (λ c draft. (c, inr (draft.0, subst (λ (f : Option (List (List ℕ))). AreDrafted f (was device old) (recovered c)) fronts draft.1), refl))
 
   -- or is given up
   pub given_up_now : new.front ≡ None → HasNow device old new IsSame
   given_up_now none = stays_now IsSame (λ bs. refl)
-      (λ c draft. absurd (subst (λ (f : Option (List (List ℕ))). AreDrafted f (was device old) (recovered c)) none draft))
+      (λ c draft. absurd (subst (λ (f : Option (List (List ℕ))). AreDrafted f (was device old) (recovered c)) none draft.1))
 
   -- or begins
   pub begins_now : new.front ≡ Some (was device old) → HasNow device old new IsSameOrLeft
   begins_now fronts = stays_now IsSameOrLeft (λ bs. inl refl)
-      (λ c draft. (device.seen old.file.device, inl refl, inr (begun (recovered c) (subst (λ (f : Option (List (List ℕ))). AreDrafted f (was device old) (recovered c)) fronts draft))))
+      (λ c draft. (device.seen old.file.device, inl refl, inr (begun (recovered c) (subst (λ (f : Option (List (List ℕ))). AreDrafted f (was device old) (recovered c)) fronts draft.1))))
     where
       begun : (draft : List (List ℕ)) → IsDraft (was device old) (was device old) draft → IsShortened (was device old) draft
       begun draft is =
@@ -266,26 +311,28 @@ module _ {D : Type 0} (device : Device D) (old mid new : SeenKeeper D) (draft : 
     (drafted : device.reads_true mid.file.device → AreDrafted old.front (was device old) draft) where
   pub placed_leaves :
       LeavesOnly device.moment device.left_since mid.file.device new.file.device (IsOldOrNew (recovered (device.seen mid.file.device)) draft) →
+      LeavesOnly device.moment device.left_since mid.file.device new.file.device IsReadable →
       LeavesOnly device.moment device.left_since mid.file.device new.file.device (λ _. device.reads_true mid.file.device) → LeavesHeld device old new IsSame
-  placed_leaves leaves trues = then (both stays.leaves stays.trues) (both leaves trues) (λ c is. (is.1, inl (inl (ap recovered is.0)))) (λ c is. (stays.truth is.1, inl (by c is.0 is.1)))
+  placed_leaves leaves readable trues = then (both stays.leaves stays.trues) (both (both leaves readable) trues) (λ c is. (is.1, inl (inl (ap recovered is.0)), reads_still device old.file mid.file stays c is.0)) (λ c is. (stays.truth is.1, inl (by c is.0.0 is.0.1 is.1), inl is.0.1))
     where
-      by : (c : List ℕ) → IsOldOrNew (recovered (device.seen mid.file.device)) draft c → device.reads_true mid.file.device → IsHeld device old (recovered c)
-      by c (inl same) true = inl (same ∙ ap recovered stays.seen)
-      by c (inr now) true = inr (subst (λ (bs : List (List ℕ)). AreDrafted old.front (was device old) bs) (sym now) (drafted true))
+      by : (c : List ℕ) → IsOldOrNew (recovered (device.seen mid.file.device)) draft c → IsReadable c → device.reads_true mid.file.device → IsHeld device old c
+      by c (inl same) reads true = inl (same ∙ ap recovered stays.seen)
+      by c (inr now) reads true = inr (reads, subst (λ (bs : List (List ℕ)). AreDrafted old.front (was device old) bs) (sym now) (drafted true))
 
   pub placed_now : LeavesHeld device old new IsSame → IsOnDisk device.seen device.may_leave device.faults new.file →
       (device.reads_true new.file.device → device.reads_true mid.file.device) → ((c : List ℕ) → device.may_leave new.file.device c → device.reads_true new.file.device) →
       recovered (device.seen new.file.device) ≡ draft → new.front ≡ None → HasNow device old new IsSame
   placed_now leaves settled truth true are none = record { leaves = leaves; now = now }
     where
-      here : (c : List ℕ) → c ≡ device.seen new.file.device → device.reads_true new.file.device → device.reads_true old.file.device × IsLed device old new IsSame (recovered c)
+      here : (c : List ℕ) → c ≡ device.seen new.file.device → device.reads_true new.file.device → device.reads_true old.file.device × IsLed device old new IsSame (recovered c) × LeftTells c Readable
       here c is t =
-          (stays.truth (truth t), (c, inr (subst (λ (bs : List (List ℕ)). AreDrafted old.front (was device old) bs) (sym (ap recovered is ∙ are)) (drafted (truth t))), refl))
+          let reads : IsReadable c = subst (λ (file : List ℕ). IsReadable file) (sym is) (at_rest_readable settled.at_rest) in
+          (stays.truth (truth t), (c, inr (reads, subst (λ (bs : List (List ℕ)). AreDrafted old.front (was device old) bs) (sym (ap recovered is ∙ are)) (drafted (truth t))), refl), inl reads)
 
-      now : (c : List ℕ) → MayBe device new c → device.reads_true old.file.device × IsLed device old new IsSame (recovered c)
+      now : (c : List ℕ) → MayBe device new c → device.reads_true old.file.device × IsLed device old new IsSame (recovered c) × LeftTells c Readable
       now c (inl left) = here c (settled.durable c left) (true c left)
       now c (inr is) = ⊎_elim (λ same. here c same is.0)
-          (λ draft. absurd (subst (λ (f : Option (List (List ℕ))). AreDrafted f (recovered (device.seen new.file.device)) (recovered c)) none draft)) is.1
+          (λ draft. absurd (subst (λ (f : Option (List (List ℕ))). AreDrafted f (recovered (device.seen new.file.device)) (recovered c)) none draft.1)) is.1
 
 -- A BATCH OF CHANGES MORE
 
@@ -295,6 +342,7 @@ changes_stand batches batch facts before after is fits happened stands =
     subst (λ (b : List ℕ). StandFor (batches ++ b ∷ []) after) (sym is)
     (StandFor-joined batches (batch_spelling facts ∷ []) before after facts stands (AreTold-changes facts fits) happened)
 
-pub changes_tell : (batches : List (List ℕ)) (batch : List ℕ) (facts : List Event) → batch ≡ batch_spelling facts → TellOn batches (batches ++ batch ∷ [])
-changes_tell batches batch facts is = tell_on batches (batches ++ batch ∷ []) (until_of-more batches (batch ∷ []))
+pub changes_tell : (batches : List (List ℕ)) (batch : List ℕ) (facts : List Event) → batch ≡ batch_spelling facts → TellOn 0 batches (batches ++ batch ∷ [])
+changes_tell batches batch facts is = tell_on 0 batches (batches ++ batch ∷ []) (until_of-more batches (batch ∷ []))
+    (λ moment le was. (let all = until_of-append batches (batch_spelling facts ∷ []) in rw is (omega (arith, all, was))))
     (λ rules tell. (tell.0, ap (λ (b : List ℕ). last_rules (batches ++ b ∷ [])) is ∙ last_rules-push batches (batch_spelling facts) ∙ tell.1, tell.2))

@@ -1,5 +1,5 @@
 -- What a horizon more leaves as it was.
-use Rattle.std.proofs.Common.{◌≡◌, ◌<◌, ◌^◌, ℕ, zero, suc, List, [], ◌∷◌, ◌++◌, sym, ap, ◌∙◌, subst, arith}
+use Rattle.std.proofs.Common.{◌≡◌, ◌≤◌, ◌<◌, ◌^◌, ℕ, zero, suc, List, [], ◌∷◌, ◌++◌, sym, ap, ◌∙◌, subst, arith}
 use Rattle.std.specs.Prelude.{max, unwrap_or}
 use Rattle.std.proofs.lemmas.Bool.Decides.{nat_tests}
 use Rattle.state_keeper.proofs.Names.{Event, StandFor, horizon, until_of, AreTold-horizon, until_of-append, until_of-more, last_rules, last_rules-push}
@@ -34,7 +34,8 @@ pub horizon_stands : (batches : List (List ℕ)) (batch : List ℕ) (until : ℕ
 horizon_stands batches batch until history is less stands =
     subst (λ (b : List ℕ). StandFor (batches ++ b ∷ []) history) (sym is) (StandFor-beside batches (horizon until ∷ []) history (AreTold-horizon until (is_horizon until less)) stands)
 
--- and tell what they told
-pub horizon_tells : (batches : List (List ℕ)) (batch : List ℕ) (until : ℕ) → batch ≡ horizon until → TellOn batches (batches ++ batch ∷ [])
-horizon_tells batches batch until is = tell_on batches (batches ++ batch ∷ []) (until_of-more batches (batch ∷ []))
+-- and tell what they told, within the limit
+pub horizon_tells : (limit : ℕ) (batches : List (List ℕ)) (batch : List ℕ) (until : ℕ) → batch ≡ horizon until → until < 2 ^ 63 → until ≤ limit → TellOn limit batches (batches ++ batch ∷ [])
+horizon_tells limit batches batch until is less within = tell_on limit batches (batches ++ batch ∷ []) (until_of-more batches (batch ∷ []))
+    (λ moment le was. (let all = horizon_until batches batch until is less in omega (arith, all, le, was, within)))
     (λ rules tell. (tell.0, ap (λ (b : List ℕ). last_rules (batches ++ b ∷ [])) is ∙ last_rules-push batches (horizon until) ∙ tell.1, tell.2))

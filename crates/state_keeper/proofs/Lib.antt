@@ -1,5 +1,6 @@
 pub mod Drafts
 pub mod Ended
+pub mod Fronts
 pub mod Kept
 pub mod Known
 pub mod Lasting

@@ -16,7 +16,7 @@ use Rattle.state_keeper.proofs.Names.{AreTold, AreTold-joined, append-nil, end_o
 use Rattle.state_file.specs.LengthLaws.{frames_size-push}
 use Rattle.state_keeper.proofs.Points.{Advance, advanced, at_end, next_in, none_in, retreated, starts_of-push}
 use Rattle.state_keeper.specs.Seen.{IsDraft}
-use Rattle.state_keeper.specs.Passing.{IsFrameSize}
+use Rattle.state_keeper.specs.Seen.{IsFrameSize}
 use Rattle.state_keeper.specs.PassingParts.{AreLeft, Finishes, IsCounting, IsDecided, IsFollowing, IsForward, IsFrameAt, IsFrameOf, IsLeft, IsListed, IsNoting, Point, StaysLeft, starts_of}
 use Rattle.state_keeper.specs.declared.course.Course.{Course}
 use Rattle.state_keeper.specs.declared.course.Draft.{Draft}

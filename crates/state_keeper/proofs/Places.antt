@@ -1,15 +1,20 @@
 -- The changes at a place and behind it.
-use Rattle.std.proofs.Common.{◌≡◌, ◌≤◌, ◌<◌, ◌+◌, ◌-◌, ◌∙◌, ℕ, List, [], ◌∷◌, ◌++◌, length, take, drop, get_or, sym, ap, append_assoc, arith}
+use Rattle.std.proofs.Common.{◌≡◌, ◌≤◌, ◌<◌, ◌+◌, ◌-◌, ◌∙◌, ℕ, List, [], ◌∷◌, ◌++◌, length, take, drop, get_or, map, sym, ap, append_assoc, arith}
 use Rattle.std.specs.List.{slice_range}
 use Rattle.state_keeper.proofs.Names.{DatedChange, Event, dated_fact, dated_facts, map-append}
 use Rattle.std.proofs.lemmas.List.{drop_more, take_more}
 
--- a change more stands behind
+-- one more stands behind
+pub mapped_behind : {A B : Type 0} (f : A → B) (front : List B) (i : ℕ) (xs : List A) (x : A) → i < length xs → x ≡ get_or xs i x →
+    front ++ map f (take (i + 1) xs) ≡ (front ++ map f (take i xs)) ++ f x ∷ []
+mapped_behind {A} {B} f front i xs x less is =
+    ap (λ (some : List A). front ++ map f some) (take_more xs i x less ∙ ap (λ (y : A). take i xs ++ y ∷ []) (sym is))
+    ∙ ap (λ (some : List B). front ++ some) (map-append f (take i xs) (x ∷ [])) ∙ sym (append_assoc front (map f (take i xs)) (f x ∷ []))
+
+-- a change more
 pub facts_behind : (events : List Event) (i : ℕ) (ds : List DatedChange) (d : DatedChange) → i < length ds → d ≡ get_or ds i d →
     events ++ dated_facts (take (i + 1) ds) ≡ (events ++ dated_facts (take i ds)) ++ dated_fact d ∷ []
-facts_behind events i ds d less is =
-    ap (λ (xs : List DatedChange). events ++ dated_facts xs) (take_more ds i d less ∙ ap (λ (x : DatedChange). take i ds ++ x ∷ []) (sym is))
-    ∙ ap (λ (es : List Event). events ++ es) (map-append dated_fact (take i ds) (d ∷ [])) ∙ sym (append_assoc events (dated_facts (take i ds)) (dated_fact d ∷ []))
+facts_behind events i ds d less is = mapped_behind dated_fact events i ds d less is
 
 -- the changes from one place before on
 pub drop_before : (i : ℕ) (ds : List DatedChange) (d : DatedChange) → 0 < i → i ≤ length ds → d ≡ get_or ds (i - 1) d → drop (i - 1) ds ≡ d ∷ drop i ds

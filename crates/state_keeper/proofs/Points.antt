@@ -2,7 +2,7 @@
 use Rattle.std.proofs.Common.{◌≡◌, inr, ◌<◌, ◌+◌, ◌∙◌, ℕ, List, [], ◌∷◌, ◌++◌, length, refl, sym, ap, subst, append_assoc, arith}
 use Rattle.state_keeper.proofs.Names.{Event, AreTold, AreTold-joined, AreTold-split, append-nil, end_of, frames_size, one_told}
 use Rattle.state_file.specs.LengthLaws.{frames_size-push}
-use Rattle.state_keeper.specs.Passing.{IsFrameSize}
+use Rattle.state_keeper.specs.Seen.{IsFrameSize}
 use Rattle.state_keeper.specs.PassingParts.{IsFrameAt, IsFrameOf, Point, starts_of}
 use Rattle.state_keeper.specs.declared.course.Frame.{Frame}
 

@@ -14,13 +14,13 @@ use Rattle.shortening.specs.declared.last_told.LastTold.{LastTold}
 use Rattle.shortening.specs.declared.leaving.Leaving.{Leaving}
 use Rattle.shortening.specs.declared.listing.Listing.{Listing}
 use Rattle.shortening.specs.declared.unexpired.Unexpired.{Unexpired}
-use Rattle.state_keeper.proofs.Names.{AreTold, BatchFile, DatedChange, IsKnown as IsKnownFile, Known as KnownFile, append-nil, dated_facts, Device, Event, IsOnDisk, end_of, frames_size, if◌then◌else◌}
+use Rattle.state_keeper.proofs.Names.{AreTold, BatchFile, DatedChange, Known as KnownFile, append-nil, dated_facts, Device, Event, IsOnDisk, end_of, frames_size, if◌then◌else◌}
 use Rattle.state_keeper.proofs.Names.{recovered, shortened_size, tells_number}
 use Rattle.state_file.specs.LengthLaws.{shortened_size-push}
 use Rattle.state_keeper.proofs.Points.{none_in, retreated, size_backward, size_forward}
 use Rattle.state_keeper.proofs.Passes.{at_place, counted, counting_on, decided, deciding_on, following_on, left_all, leaving_on, listed, listing_on, noted, noting_on, size_following}
 use Rattle.state_keeper.proofs.Way.{frame_at_in, frame_in, front_is, way_on}
-use Rattle.state_keeper.specs.Passing.{AreWritten, Hand, IsWay, KeepsFile, LeadsOn, StepsOn, front_at, hand, to_go_in}
+use Rattle.state_keeper.specs.Passing.{AreWritten, Hand, IsKnownFile, IsWay, KeepsFile, LeadsOn, StepsOn, front_at, hand, to_go_in}
 use Rattle.state_keeper.specs.PassingParts.{Finishes, IsFrameAt, IsLeft, LeadsTo, StaysLeft}
 use Rattle.state_keeper.specs.declared.course.Course.{Course}
 use Rattle.state_keeper.specs.declared.course.Draft.{Draft}
@@ -325,7 +325,7 @@ module _ {D : Type 0} (device : Device D) (file : BatchFile D) (settled : IsOnDi
       let batches = recovered (device.seen file.device) in
       front_is file.end batches batches [] (sym (append-nil batches)) (end_is_end file.end file.last (device.seen file.device) settled.at_rest)
 
-  pub begins : (known : KnownFile) (course : Course) → IsKnownFile (device.reads_true file.device) (recovered (device.seen file.device)) known → course.front_end ≡ file.end → course.at ≡ 16 →
+  pub begins : (known : KnownFile) (course : Course) → IsKnownFile device file known → course.front_end ≡ file.end → course.at ≡ 16 →
       course.starts.items ≡ [] → TellsLast course.last [] → course.until ≡ known.until →
       IsWay device known.rules.items (front_at (course.front_end - 16) (recovered (device.seen file.device))) (hand file course stage.Counting)
   begins known course is ends at starts last until =
@@ -342,9 +342,10 @@ module _ {D : Type 0} (device : Device D) (file : BatchFile D) (settled : IsOnDi
         within = omega (arith, ends);
         at_within = omega (arith, at, end);
         true = λ true.
-            let told = is.told true in
-            let rules = is.rules_are true in record {
-              under = record { rules_begin = is.rules_begin; rules_are = rules.1.1 ∙ ap (λ (r : List ℕ). Some r) (rules.1.2.1 ∙ sym rules.2); until_is = until ∙ is.until_is true };
+            let known_is = is true in
+            let told = known_is.told tt in
+            let rules = known_is.rules_are tt in record {
+              under = record { rules_begin = known_is.rules_begin; rules_are = rules.1.1 ∙ ap (λ (r : List ℕ). Some r) (rules.1.2.1 ∙ sym rules.2); until_is = until ∙ known_is.until_is tt };
               before = [];
               after = told.0;
               point = record { done = []; rest = batches; parted = refl; at_is = at; done_told = refl; rest_told = told.1 };

@@ -2,7 +2,8 @@
 use Rattle.std.proofs.Common.{◌≡◌, ◌≤◌, ◌+◌, ◌-◌, ◌∙◌, ℕ, List, [], ◌∷◌, ◌++◌, length, Bool, true, false, refl, sym, ap, subst, append_assoc, arith}
 use Rattle.std.specs.Prelude.{nat_lt}
 use Rattle.std.proofs.lemmas.Bool.{le-ltb, lt-ltb}
-use Rattle.batch_file.specs.CrashesLaws.{started, then}
+use Rattle.batch_file.specs.Crashes.{Elapses, IsBeside}
+use Rattle.batch_file.specs.CrashesLaws.{goes_on, started, then}
 use Rattle.batch_file.specs.Frames.{IsUndisturbed}
 use Rattle.batch_file.specs.FramesLaws.{next_stays}
 use Rattle.state_keeper.proofs.Names.{BatchFile, Device, IsOnDisk, LeavesOnly, end_of, frames_size, if◌then◌else◌, recovered}
@@ -49,10 +50,37 @@ module _ {D : Type 0} (device : Device D) where
     true_before = true_before;
   }
 
+  -- what a call of the device on the file beside it promises
+  pub keeps_beside : (old new : BatchFile D) → ((c : List ℕ) → device.left_since old.device (device.moment old.device) c → device.may_leave old.device c) →
+      ((c : List ℕ) → device.may_leave old.device c → device.reads_true old.device) → IsOnDisk device.seen device.may_leave device.faults old → new.end ≡ old.end → new.last ≡ old.last →
+      IsBeside device.seen device.may_leave device.faults old.device new.device →
+      Elapses (device.moment old.device) (device.moment new.device) (device.left_since old.device) (device.left_since new.device) (device.may_leave new.device) →
+      (device.reads_true new.device → device.reads_true old.device) → KeepsFile device old new
+  keeps_beside old new only_now only_true settled end last beside time truth = record {
+    stands = record {
+      settled = record {
+        at_rest = rw (end, last, beside.bytes) settled.at_rest;
+        durable = λ c may. settled.durable c (beside.crash c may) ∙ sym beside.bytes;
+        faultless = beside.no_fault ∙ settled.faultless;
+      };
+      end = end;
+      seen = beside.bytes;
+      any_moment = goes_on (started (λ c left. settled.durable c (only_now c left))) time (λ c may. settled.durable c (beside.crash c may));
+    };
+    truth = truth;
+    true_before = goes_on (started (λ c left. only_true c (only_now c left))) time (λ c may. only_true c (beside.crash c may));
+  }
+
   -- what was written is what it was, where the file beside it was left alone
   pub written_same : (old new : BatchFile D) (draft : Draft) (written : List (List ℕ)) → device.next new.device ≡ device.next old.device →
       AreWritten device old draft written → AreWritten device new draft written
   written_same old new draft written same are = record { next = next_stays device.next old new draft.next written same are.next; size = are.size }
+
+  pub still_written : (old new : BatchFile D) → device.next new.device ≡ device.next old.device → (now : Stage) (written : List (List ℕ)) → AreWrittenIn device old now written →
+      AreWrittenIn device new now written
+  still_written old new same (stage.Leaving leaving gathered draft) written are = written_same old new draft written same are
+  still_written old new same (stage.Following draft) written are = written_same old new draft written same are
+  still_written old new same _ written are = tt
 
   module _ (rules : List ℕ) (front : List (List ℕ)) where
     -- it goes on, if its stage does
@@ -85,6 +113,17 @@ module _ {D : Type 0} (device : Device D) where
       ends = ends;
     }
 
+-- where the file stands as it was, and so does the one beside it
+module _ {D : Type 0} (device : Device D) (rules : List ℕ) (old new : BatchFile D) (s : Shortening) (keeps : KeepsFile device old new) where
+  pub front_kept : front_of device new s ≡ front_of device old s
+  front_kept = ap (λ (bytes : List ℕ). front_at (s.course.front_end - 16) (recovered bytes)) keeps.stands.seen
+
+  pub way_kept : device.next new.device ≡ device.next old.device → IsOnTheWay device old rules s → IsOnTheWay device new rules s
+  way_kept next w =
+      subst (λ (bs : List (List ℕ)). IsWay device rules bs (hand new s.course s.stage)) (sym front_kept)
+      (way_on device rules (front_of device old s) (hand old s.course s.stage) (hand new s.course s.stage) w keeps refl w.at_within w.written
+      (still_written device old new next s.stage w.written w.drafted) (λ true is. is))
+
 -- A BATCH MORE
 
 none_of : (b : Bool) (xs : List (List ℕ)) → b ≡ true → (if b then [] else xs) ≡ []
@@ -109,11 +148,6 @@ front_is end batches front tail parted is = ap (front_at (end - 16)) parted ∙ 
 
 module _ {D : Type 0} (device : Device D) (rules : List ℕ) (batch : List ℕ) (old new : BatchFile D) (added : recovered (device.seen new.device) ≡ recovered (device.seen old.device) ++ batch ∷ [])
     (longer : old.end ≤ new.end) (same_next : device.next new.device ≡ device.next old.device) (truth : device.reads_true new.device → device.reads_true old.device) where
-  written_in : (now : Stage) (written : List (List ℕ)) → AreWrittenIn device old now written → AreWrittenIn device new now written
-  written_in (stage.Leaving leaving gathered draft) written are = written_same device old new draft written same_next are
-  written_in (stage.Following draft) written are = written_same device old new draft written same_next are
-  written_in _ written are = tt
-
   stage_still : (front tail : List (List ℕ)) (course : Course) (now : Stage) (written : List (List ℕ)) → IsInStage rules front tail course now written →
       IsInStage rules front (tail ++ batch ∷ []) course now written
   stage_still front tail course (stage.Following draft) written is = record {
@@ -130,7 +164,7 @@ module _ {D : Type 0} (device : Device D) (rules : List ℕ) (batch : List ℕ) 
   way_appended : (front : List (List ℕ)) (course : Course) (now : Stage) → IsWay device rules front (hand old course now) → IsWay device rules front (hand new course now)
   way_appended front course now w = record {
     written = w.written;
-    drafted = written_in now w.written w.drafted;
+    drafted = still_written device old new same_next now w.written w.drafted;
     tail = w.tail ++ batch ∷ [];
     whole_is = added ∙ ap (λ (bs : List (List ℕ)). bs ++ batch ∷ []) w.whole_is ∙ append_assoc front w.tail (batch ∷ []);
     end_is = w.end_is;

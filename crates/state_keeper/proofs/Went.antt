@@ -3,8 +3,8 @@ use Rattle.std.proofs.Common.{◌≡◌, ◌<◌, ◌≤◌, ◌+◌, ◌-◌, �
 use Rattle.state_keeper.proofs.Names.{BatchFile, Device, IsOnDisk, end_of, recovered}
 use Rattle.state_keeper.proofs.Passes.{followed_all}
 use Rattle.state_keeper.proofs.Walked.{end_is_end}
-use Rattle.state_keeper.specs.Seen.{IsDraft}
-use Rattle.state_keeper.specs.Passing.{IsOnTheWay, IsReady, IsSlice, IsWay, KeepsFile, LeadsOn, SlicesOn, front_at, front_of, hand, to_go_in, to_go_of}
+use Rattle.state_keeper.specs.Seen.{IsDraft, IsSlice}
+use Rattle.state_keeper.specs.Passing.{IsOnTheWay, IsReady, IsWay, KeepsFile, LeadsOn, SlicesOn, front_at, front_of, hand, to_go_in, to_go_of}
 use Rattle.state_keeper.specs.PassingSteps.{IsEnded}
 use Rattle.state_keeper.specs.declared.course.Course.{Course}
 use Rattle.state_keeper.specs.declared.course.Shortening.{Shortening}
@@ -24,6 +24,7 @@ ready device rules file s settled begun ended =
       is_last = ended.1;
       written = w.drafted;
       size = ended.3 ∙ w.drafted.size;
+      all = ap (λ (now : Stage). to_go_in s.course now file.end) ended.1 ∙ omega (arith, let at = ended.2 in at);
       draft_is = λ true.
           subst (λ (bs : List (List ℕ)). IsDraft front bs w.written) (sym w.whole_is) (followed_all front w.tail s.course w.written (w.true true) end);
     }

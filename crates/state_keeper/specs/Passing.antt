@@ -1,11 +1,12 @@
 -- A file that is shortened by slices: how far it has come, and what is known on the way.
-use Rattle.std.specs.Prelude.{◌≡◌, ◌⊎◌, ◌^◌, ◌+◌, ◌*◌, ◌-◌, ◌<◌, ◌≤◌, ◌++◌, ℕ, List, [], ◌∷◌, length, nat_lt, if◌then◌else◌}
+use Rattle.std.specs.Prelude.{◌≡◌, ◌+◌, ◌*◌, ◌-◌, ◌<◌, ◌≤◌, ◌++◌, ℕ, List, [], ◌∷◌, length, nat_lt, if◌then◌else◌, ⊤}
 use Rattle.batch_file.specs.Crashes.{LeavesOnly}
 use Rattle.batch_file.specs.Frames.{AreNext, IsOnDisk}
 use Rattle.batch_file.specs.declared.appending.BatchFile.{BatchFile}
 use Rattle.state_keeper.specs.Names.{recovered, Device}
-use Rattle.state_keeper.specs.Seen.{IsDraft}
-use Rattle.state_file.specs.Knowing.{end_of, shortened_size}
+use Rattle.state_keeper.specs.Seen.{IsDraft, IsFrameSize, IsSlice}
+use Rattle.state_file.specs.Knowing.{IsKnown, end_of, shortened_size}
+use Rattle.state_file.specs.declared.known.Known.{Known}
 use Rattle.state_keeper.specs.PassingParts.{IsInStage}
 use Rattle.state_keeper.specs.declared.course.Course.{Course}
 use Rattle.state_keeper.specs.declared.course.Draft.{Draft}
@@ -34,6 +35,10 @@ to_go_in course (stage.Following draft) end = end - course.at
 abbrev pub to_go_of : Shortening → ℕ → ℕ
 to_go_of s end = to_go_in s.course s.stage end
 
+-- what is known of the file's batches, where what was read is true
+abbrev pub IsKnownFile : {D : Type 0} → Device D → BatchFile D → Known → Type 0
+IsKnownFile device file known = device.reads_true file.device → IsKnown ⊤ (recovered (device.seen file.device)) known
+
 -- The file stands as it was.
 pub record StandsAsItWas {D : Type 0} (device : Device D) (old new : BatchFile D) : Type 0 where
   pub settled : IsOnDisk device.seen device.may_leave device.faults new
@@ -57,6 +62,12 @@ abbrev pub AreWrittenIn : {D : Type 0} → Device D → BatchFile D → Stage �
 AreWrittenIn device file (stage.Leaving leaving batch draft) written = AreWritten device file draft written
 AreWrittenIn device file (stage.Following draft) written = AreWritten device file draft written
 AreWrittenIn device file now written = Unit {0}
+
+-- what was written so far is on the disk
+abbrev pub IsDownIn : {D : Type 0} → Device D → BatchFile D → Stage → Type 0
+IsDownIn device file (stage.Leaving leaving batch draft) = device.next_on_disk file.device ≡ device.next file.device
+IsDownIn device file (stage.Following draft) = device.next_on_disk file.device ≡ device.next file.device
+IsDownIn device file now = Unit {0}
 
 -- a file, and how far its shortening has come
 pub record Hand (D : Type 0) : Type 0 where
@@ -88,11 +99,6 @@ pub record LeadsOn {D : Type 0} (device : Device D) (rules : List ℕ) (old new 
   pub same_front : new.course.front_end ≡ old.course.front_end
   pub way : (front : List (List ℕ)) → IsWay device rules front old → IsWay device rules front new
 
--- one of the batches has a frame of so many bytes, or it is none
-abbrev pub IsFrameSize : List (List ℕ) → ℕ → Type 0
-IsFrameSize batches size =
-    (size ≡ 0) ⊎ ((before after : List (List ℕ)) × (batch : List ℕ) × (batches ≡ before ++ batch ∷ after) × (size ≡ 21 + length batch))
-
 -- how far one place is from another
 abbrev pub gap : ℕ → ℕ → ℕ
 gap from to = (from - to) + (to - from)
@@ -111,11 +117,7 @@ pub record StepsOn {D : Type 0} (device : Device D) (rules : List ℕ) (old new 
       GoesOverOne (recovered (device.seen old.file.device)) (to_go_in old.course old.stage old.file.end) (to_go_in new.course new.stage old.file.end)
       (gap old.course.at new.course.at)
 
--- no more than a slice was gone over, but for one frame
-abbrev pub IsSlice : List (List ℕ) → ℕ → ℕ → Type 0
-IsSlice batches before after = (size : ℕ) × IsFrameSize batches size × (before ≤ after + (2 ^ 15 + (size + 17)))
-
--- so it is of the file, where what was read is true
+-- no more than a slice was gone over of the file, where what was read is true
 abbrev pub SlicesOn : {D : Type 0} → Device D → List ℕ → Hand D → Hand D → Type 0
 SlicesOn device rules old new =
     device.reads_true new.file.device → (front : List (List ℕ)) → IsWay device rules front old →
@@ -128,4 +130,5 @@ pub record IsReady {D : Type 0} (device : Device D) (file : BatchFile D) (s : Sh
   pub is_last : s.stage ≡ stage.Following draft
   pub written : AreWritten device file draft batches
   pub size : s.shortened ≡ shortened_size batches
+  pub all : to_go_of s file.end ≡ 0
   pub draft_is : device.reads_true file.device → IsDraft (front_of device file s) (recovered (device.seen file.device)) batches

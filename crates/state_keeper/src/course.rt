@@ -17,6 +17,9 @@ use shortening::{Deciding, LastTold, Leaving, Listing, Unexpired};
 use state_file::{StateFault, changes_of, size_behind};
 use std::alloc::Global;
 
+/// So many bytes stand before the first frame of a file.
+pub(crate) const HEADER: usize = 16;
+
 /// What is written to the file that is to take the place of the one there.
 #[derive(Drop)]
 pub(crate) struct Draft {
@@ -73,8 +76,8 @@ pub(crate) struct Frame {
     pub(crate) end: usize,
 }
 
-/// Why a file is not read.
-pub(crate) fn unread(fault: DeviceFault) -> ShortenFault
+/// Why a file is not read, or what was written beside it is not known to be on the disk.
+pub(crate) fn refusal(fault: DeviceFault) -> ShortenFault
     ensures { result ≢ Failed }
 {
     match fault {
@@ -126,7 +129,7 @@ pub(crate) fn frame_at<D: Device>(
 {
     let bytes = match file.read_batch(alloc, at) {
         Ok(bytes) => bytes,
-        Err(fault) => return Err(unread(fault)),
+        Err(fault) => return Err(refusal(fault)),
     };
     if at > end || end - at < 21 || end - at - 21 < bytes.len() {
         return Err(ShortenFault::Unwritten);
@@ -171,7 +174,7 @@ impl Draft {
             Ok(()) => {}
             Err(fault) => return Err(unwritten(fault)),
         }
-        let size = self.next.end.saturating_sub(16);
+        let size = self.next.end.saturating_sub(HEADER);
         self.shortened = size_behind(batch, size, self.shortened);
         Ok(())
     }

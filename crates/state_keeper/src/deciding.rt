@@ -9,7 +9,7 @@ ghost use Rattle.shortening.specs.Steps.{IsDeciding};
 ghost use Rattle.state_keeper.specs.Passing.{KeepsFile, StepsOn, hand};
 ghost use Rattle.state_keeper.specs.declared.course.Stage.TheVariants as stage;
 
-use crate::course::{Course, Draft, Stage, changes_told, frame_at};
+use crate::course::{Course, Draft, HEADER, Stage, changes_told, frame_at};
 use batch_file::appending::BatchFile;
 use batch_file::device::Device;
 use change_codec::{Batch, DatedChange, ShortenFault};
@@ -58,7 +58,7 @@ pub(crate) fn decide<D: Device>(
     ensures refused { IfErr result (λ fault. fault ≢ Failed) }
 {
     if has_none(&course.starts) {
-        course.at = 16;
+        course.at = HEADER;
         let draft = Draft::begin(file, rules)?;
         let batch = Batch::new(course.alloc)?;
         return Ok(Stage::Leaving(deciding.leaving(), batch, draft));

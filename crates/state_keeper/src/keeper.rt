@@ -2,6 +2,7 @@
 
 ghost use Rattle.std.specs.Prelude.{◌≡◌, ◌≤◌, ◌<◌, ◌+◌, ◌-◌, ◌^◌, min};
 
+use crate::course::HEADER;
 use crate::passing::Shortening;
 use batch_file::appending::{BatchFault, BatchFile};
 use batch_file::device::Device;
@@ -32,8 +33,8 @@ pub struct StateKeeper<D: Device> {
 
 impl<D: Device> Model for StateKeeper<D> {
     ghost use Rattle.std.specs.Prelude.{IsNone};
-    ghost use Rattle.batch_file.specs.Frames.{IsOnDisk, recovered};
-    ghost use Rattle.state_file.specs.Knowing.{IsKnown};
+    ghost use Rattle.batch_file.specs.Frames.{IsOnDisk};
+    ghost use Rattle.state_keeper.specs.Passing.{IsKnownFile};
     ghost use Rattle.state_keeper.specs.Seen.{SeenKeeper};
     ghost use Rattle.state_keeper.specs.Slicing.{IsOnTheWayIf, front_if, to_go_if};
 
@@ -44,11 +45,12 @@ impl<D: Device> Model for StateKeeper<D> {
       fault = keeper.fault;
       front = front_if D.Device keeper.file keeper.shortening;
       to_go = to_go_if keeper.shortening keeper.file.end;
+      shortened = keeper.known.shortened;
     } };
 
     ghost invariant = { λ keeper. IsNone keeper.fault →
         IsOnDisk D.seen D.may_leave D.faults keeper.file
-        × IsKnown (D.reads_true keeper.file.device) (recovered (D.seen keeper.file.device)) keeper.known
+        × IsKnownFile D.Device keeper.file keeper.known
         × IsOnTheWayIf D.Device keeper.file keeper.known.rules.items keeper.shortening };
 }
 
@@ -62,13 +64,23 @@ fn horizon_at(now: Moment) -> Moment
 }
 
 impl<D: Device> StateKeeper<D> {
-    ghost use Rattle.std.specs.Prelude.{◌≡◌};
+    ghost use Rattle.std.specs.Prelude.{◌≡◌, IsNone};
+    ghost use Rattle.batch_file.specs.Frames.{recovered};
+    ghost use Rattle.state_file.specs.Knowing.{shortened_size};
 
     /// Why it keeps nothing more, if it does not.
     pub fn fault(&self) -> Option<BatchFault>
         ensures { result ≡ self.now.fault }
     {
         self.fault
+    }
+
+    /// How many bytes of frames were left when its file was shortened last.
+    pub fn shortened(&self) -> usize
+        ensures is { result ≡ self.now.shortened }
+        ensures right { IsNone self.now.fault → D.reads_true self.now.file.device → result ≡ shortened_size (recovered (D.seen self.now.file.device)) }
+    {
+        self.known.shortened
     }
 
     /// The device of its file.
@@ -82,7 +94,7 @@ impl<D: Device> StateKeeper<D> {
 impl<D: Device> Keeper for StateKeeper<D> {
     ghost use Rattle.std.specs.Prelude.{◌≡◌, ◌+◌, ◌-◌, ◌^◌, Some, IsSome, min};
     ghost use Rattle.std.proofs.Common.{inl};
-    ghost use Rattle.state_keeper.specs.Seen.{IsLongFile, MayBe, ShortensFile};
+    ghost use Rattle.state_keeper.specs.Seen.{IsLongFile, MayBe, ShortensFile, SlicesFile};
     ghost use Rattle.state_file.specs.Knowing.{LeftTells};
     ghost use Rattle.state_file.specs.Standing.{StandsFor};
 
@@ -102,9 +114,11 @@ impl<D: Device> Keeper for StateKeeper<D> {
     // It has a fault, and keeps nothing more.
     ghost has_failed = { λ k. IsSome k.fault };
 
-    ghost is_long = { λ k. IsLongFile D.seen k.file };
+    ghost is_long = { λ k. IsLongFile k };
 
     ghost to_go = { λ k. k.to_go };
+
+    ghost slices = { SlicesFile D.Device };
 
     ghost shortens = { ShortensFile D.Device };
 
@@ -116,7 +130,7 @@ impl<D: Device> Keeper for StateKeeper<D> {
         }
         match self.file.append(batch.bytes()) {
             Ok(()) => {
-                let size = self.file.end - 16;
+                let size = self.file.end - HEADER;
                 self.known.shortened = size_behind(batch.bytes(), size, self.known.shortened);
                 Ok(())
             }

@@ -15,4 +15,4 @@ mod renewing;
 mod starting;
 
 pub use keeper::StateKeeper;
-pub use starting::{NotStarted, Started, settle};
+pub use starting::{NotStarted, Origin, Started, settle};

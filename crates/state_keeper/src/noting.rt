@@ -9,7 +9,7 @@ ghost use Rattle.shortening.specs.Known.{NotesUnexpired};
 ghost use Rattle.state_keeper.specs.Passing.{KeepsFile, StepsOn, hand};
 ghost use Rattle.state_keeper.specs.declared.course.Stage.TheVariants as stage;
 
-use crate::course::{Course, Stage, changes_told, frame_at};
+use crate::course::{Course, HEADER, Stage, changes_told, frame_at};
 use batch_file::appending::BatchFile;
 use batch_file::device::Device;
 use change_codec::{DatedChange, ShortenFault};
@@ -45,7 +45,7 @@ pub(crate) fn note<D: Device>(
     ensures refused { IfErr result (λ fault. fault ≢ Failed) }
 {
     if course.at == course.front_end {
-        course.at = 16;
+        course.at = HEADER;
         let listing = Listing::of(course.alloc, unexpired);
         return Ok(Stage::Listing(listing));
     }

@@ -2,17 +2,17 @@
 
 ghost use Rattle.std.specs.Prelude.{◌≡◌, ◌≢◌, ◌<◌, ◌≤◌, ◌*◌, ◌+◌, ◌-◌, ◌^◌, IsTrue, IfOk, IfErr, OnOk};
 ghost use Rattle.batch_file.specs.Crashes.{LeavesOnly};
-ghost use Rattle.batch_file.specs.Frames.{IsOldOrNew, IsOnDisk, IsUnrenewed, recovered};
+ghost use Rattle.batch_file.specs.Frames.{IsOldOrNew, IsOnDisk, IsReadable, IsUnrenewed, recovered};
 ghost use Rattle.change_codec.specs.declared.keeper.ShortenFault.TheVariants.{Failed};
-ghost use Rattle.state_file.specs.Knowing.{IsKnown};
-ghost use Rattle.state_keeper.specs.Passing.{IsOnTheWay, IsReady, IsSlice, KeepsFile, LeadsOn, SlicesOn, StandsAsItWas, StepsOn, front_of, gap, hand, to_go_of};
+ghost use Rattle.state_keeper.specs.Passing.{IsKnownFile, IsOnTheWay, IsReady, KeepsFile, LeadsOn, SlicesOn, StandsAsItWas, StepsOn, front_of, gap, hand, to_go_of};
+ghost use Rattle.state_keeper.specs.Seen.{IsSlice};
 ghost use Rattle.state_keeper.specs.PassingSteps.{IsAtEnd, IsEnded};
 ghost use Rattle.state_keeper.specs.declared.passing.Step.TheVariants.{On, Ready};
 
 use crate::coding::list;
 use crate::counting::count;
 pub(crate) use crate::course::Shortening;
-use crate::course::{Course, Stage};
+use crate::course::{Course, HEADER, Stage};
 use crate::deciding::decide;
 use crate::following::follow;
 use crate::leaving::leave;
@@ -38,33 +38,28 @@ pub(crate) enum Step {
 }
 
 /// Begins with all that the file has.
-pub(crate) fn begin<D: Device>(
-    alloc: Global,
-    file: &BatchFile<D>,
-    known: &Known,
-) -> Result<Shortening, ShortenFault>
+pub(crate) fn begin<D: Device>(alloc: Global, file: &BatchFile<D>, known: &Known) -> Shortening
     requires on_disk { IsOnDisk D.seen D.may_leave D.faults file.now }
-    requires known { IsKnown (D.reads_true file.now.device) (recovered (D.seen file.now.device)) known.now }
-    ensures begun { IfOk result (λ s. IsOnTheWay D.Device file.now known.now.rules.items s) }
-    ensures front { IfOk result (λ s. front_of D.Device file.now s ≡ recovered (D.seen file.now.device)) }
-    ensures to_go { IfOk result (λ s. to_go_of s file.now.end ≤ 5 * (file.now.end - 16) + 21) }
-    ensures refused { IfErr result (λ fault. fault ≢ Failed) }
+    requires known { IsKnownFile D.Device file.now known.now }
+    ensures begun { IsOnTheWay D.Device file.now known.now.rules.items result }
+    ensures front { front_of D.Device file.now result ≡ recovered (D.seen file.now.device) }
+    ensures to_go { to_go_of result file.now.end ≡ 5 * (file.now.end - 16) + 21 }
 {
     let starts = Vec::new(alloc);
     let last = LastTold::new();
     let course = Course {
         alloc,
         front_end: file.end,
-        at: 16,
+        at: HEADER,
         starts,
         last,
         until: known.until,
     };
-    Ok(Shortening {
+    Shortening {
         course,
         stage: Stage::Counting,
         shortened: 0,
-    })
+    }
 }
 
 /// Goes over a frame more, or on to the next pass.
@@ -193,6 +188,7 @@ pub(crate) fn place<D: Device>(
     requires ready { IsReady D.Device file.old shortening.now }
     ensures settled { OnOk result (IsOnDisk D.seen D.may_leave D.faults file.new) }
     ensures placed { OnOk result ((ready : IsReady D.Device file.old shortening.now) → recovered (D.seen file.new.device) ≡ ready.batches) }
+    ensures readable { IsReady D.Device file.old shortening.now → LeavesOnly D.moment D.left_since file.old.device file.new.device IsReadable }
     ensures any_moment { (ready : IsReady D.Device file.old shortening.now) → LeavesOnly D.moment D.left_since file.old.device file.new.device
         (IsOldOrNew (recovered (D.seen file.old.device)) ready.batches) }
     ensures truth { D.reads_true file.new.device → D.reads_true file.old.device }

@@ -2,7 +2,8 @@ use Rattle.std.proofs.Common.{◌≤◌, ◌+◌, ℕ, List, subst, arith}
 use Rattle.state_keeper.proofs.Names.{recovered}
 use Rattle.state_keeper.proofs.Walked.{leads_on_then}
 use Rattle.state_keeper.proofs.Way.{keeps_then}
-use Rattle.state_keeper.specs.Passing.{IsFrameSize, hand, to_go_in}
+use Rattle.state_keeper.specs.Passing.{hand, to_go_in}
+use Rattle.state_keeper.specs.Seen.{IsFrameSize}
 use Rattle.state_keeper.proofs.passing.go_over.Goals as goal
 
 pub loop-gone-init : goal.loop-gone-init

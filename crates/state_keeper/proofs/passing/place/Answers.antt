@@ -21,3 +21,6 @@ pub returns-in-Following-clause-any_moment : goal.returns-in-Following-clause-an
 returns-in-Following-clause-any_moment g c = λ ready.
     let same : ready.draft ≡ c.in-Following.draft = cc in
     c.place_next.ensures.any_moment ready.batches (subst (λ (d : Draft). AreNext g.D.Device.next c.args.file.now d.next ready.batches) same ready.written.next)
+
+pub returns-in-Following-clause-readable : goal.returns-in-Following-clause-readable
+returns-in-Following-clause-readable g c = λ ready. c.place_next.ensures.readable

@@ -1,4 +1,5 @@
 use Rattle.std.proofs.Common.{rules, Some, arith, [], ◌∷◌, ◌++◌, refl}
+use Rattle.change_codec.specs.Keeping.{horizon_bound}
 use Rattle.state_keeper.proofs.Names.{recovered, Until, Known}
 use Rattle.state_keeper.proofs.Drafts.{until_held}
 use Rattle.state_keeper.proofs.Kept.{HasMore, HasNow, holds_basis, keeper_of, keeps, keeps_basis, keeps_not, more_leaves, more_now, tells_basis}
@@ -20,7 +21,7 @@ invariant_of-self g c = λ none.
     let True = device.reads_true c.self.inside.file.device in (
       c.in-Ok.ensures.settled,
       known_still True (device.reads_true c.append.new.self.device) (was ++ batch ∷ []) _ now c.in-Ok.ensures.truth c.in-Ok.ensures.added
-          (known_horizon True was batch c.horizon_at-until.result known now c.horizon.ensures c.horizon_at-until.ensures.in_range (omega arith) refl refl refl (c.self.invariant none).1),
+          (λ true. known_horizon was batch c.horizon_at-until.result known now c.horizon.ensures c.horizon_at-until.ensures.in_range (omega arith) refl refl refl ((c.self.invariant none).1 true)),
       still_on_the_way device c.self.inside.file c.append.new.self batch known.rules.items more c.self.inside.shortening (c.self.invariant none).2,
     )
 
@@ -30,7 +31,7 @@ returns-then-get-clause-told g c =
     let file = c.self.inside.file in
     let s = c.self.inside.shortening in
     let is = c.self.invariant (search rules) in
-    rw (← c.self.view_is) (until_held device (keeper_of file c.self.inside.fault (front_if device file s) (to_go_if s file.end)) c.self.inside.known c.args.now is.0 is.1
+    rw (← c.self.view_is) (until_held device (keeper_of file c.self.inside.fault (front_if device file s) (to_go_if s file.end) c.self.inside.known.shortened) c.self.inside.known c.args.now is.0 is.1
     (λ left may. g.met.D.Device.only_true file.device left may) (omega arith))
 
 pub returns-in-Ok : goal.returns-in-Ok
@@ -42,16 +43,16 @@ returns-in-Ok g c =
     let until = c.horizon_at-until.result in
     let less = c.horizon_at-until.ensures.in_range in
     let is = c.self.invariant (search rules) in
-    let old = keeper_of file c.self.inside.fault (front_if device file s) (to_go_if s file.end) in
-    let new = keeper_of c.append.new.self c.self.inside.fault (front_if device c.append.new.self s) (to_go_if s c.append.new.self.end) in
+    let old = keeper_of file c.self.inside.fault (front_if device file s) (to_go_if s file.end) c.self.inside.known.shortened in
+    let new = keeper_of c.append.new.self c.self.inside.fault (front_if device c.append.new.self s) (to_go_if s c.append.new.self.end) c.self.inside.known.shortened in
     let more : HasOneMore device file c.append.new.self batch =
     record { before = is.0; settled = c.in-Ok.ensures.settled; added = c.in-Ok.ensures.added; next = c.in-Ok.ensures.next; truth = c.in-Ok.ensures.truth } in
     let now : HasNow device old new (HasMore batch) =
-    more_now device old new batch (more_leaves device old new batch c.in-Ok.ensures.any_moment c.in-Ok.ensures.true_before) c.in-Ok.ensures.settled c.in-Ok.ensures.truth
+    more_now device old new batch (more_leaves device old new batch is.0 c.in-Ok.ensures.any_moment c.in-Ok.ensures.readable c.in-Ok.ensures.true_before) c.in-Ok.ensures.settled c.in-Ok.ensures.truth
     (λ left may. g.met.D.Device.only_true c.append.new.self.device left may) c.in-Ok.ensures.added
     (begun_in device file c.self.inside.known.rules.items s is.2)
     (same_front device file c.append.new.self batch c.self.inside.known.rules.items more s is.2) in
-    let basis = keeps_basis device old new (HasMore batch) now (λ some others same. rw same (horizon_tells some batch until c.horizon.ensures)) in
+    let basis = keeps_basis device old new (HasMore batch) (horizon_bound c.args.now) now (λ some others same. rw same (horizon_tells (horizon_bound c.args.now) some batch until c.horizon.ensures less (let at = c.horizon_at-until.ensures.is in omega (arith, at)))) in
     rw (← c.self.view_is) (record {
       kept = λ history. keeps device old new (HasMore batch) history history now (λ some others same. rw same (horizon_stands some batch until history c.horizon.ensures less));
       lost = tt;
@@ -71,9 +72,10 @@ returns-in-Err g c =
     let s = c.self.inside.shortening in
     let batch = c.horizon.result in
     let until = c.horizon_at-until.result in
-    let old = keeper_of file c.self.inside.fault (front_if device file s) (to_go_if s file.end) in
-    let new = keeper_of c.append.new.self (Some c.in-Err.refused) (front_if device c.append.new.self s) (to_go_if s c.append.new.self.end) in
-    let any = more_leaves device old new batch c.in-Err.ensures.any_moment c.in-Err.ensures.true_before in
+    let old = keeper_of file c.self.inside.fault (front_if device file s) (to_go_if s file.end) c.self.inside.known.shortened in
+    let new = keeper_of c.append.new.self (Some c.in-Err.refused) (front_if device c.append.new.self s) (to_go_if s c.append.new.self.end) c.self.inside.known.shortened in
+    let is = c.self.invariant (search rules) in
+    let any = more_leaves device old new batch is.0 c.in-Err.ensures.any_moment c.in-Err.ensures.readable c.in-Err.ensures.true_before in
     rw (← c.self.view_is) (record {
       kept = tt;
       lost = λ history. keeps_not device old new (HasMore batch) history history any
@@ -83,5 +85,6 @@ returns-in-Err g c =
       no_further = tt;
       told = tt;
       basis = tt;
-      meanwhile = tells_basis device old new (HasMore batch) any (λ some others same. rw same (horizon_tells some batch until c.horizon.ensures));
+      meanwhile = tells_basis device old new (HasMore batch) (horizon_bound c.args.now) any
+          (λ some others same. rw same (horizon_tells (horizon_bound c.args.now) some batch until c.horizon.ensures c.horizon_at-until.ensures.in_range (let at = c.horizon_at-until.ensures.is in omega (arith, at))));
     })

@@ -1,4 +1,4 @@
-use Rattle.std.proofs.Common.{◌+◌, ◌-◌, ◌^◌, ℕ, Some, ap}
+use Rattle.std.proofs.Common.{◌+◌, ◌-◌, ◌^◌, ⊎_elim, inl, inr, ℕ, Some, ap}
 use Rattle.std.specs.Prelude.{min}
 use Rattle.state_keeper.proofs.Sliced.{failed_of, if_err, if_ok, meanwhile_of, on_ok, stays_of}
 use Rattle.state_keeper.proofs.keeper.StateKeeperKeeper.shorten_some.Goals as goal
@@ -16,7 +16,8 @@ returns g c =
       short = if_ok r (λ length s. s.short) slices;
       long = if_ok r (λ length s. s.long) slices;
       left = on_ok r (λ length s. s.left) slices;
-      nearer = on_ok r (λ length s. s.nearer) slices;
+      nearer = on_ok r (λ length s long. ⊎_elim (λ less. inl (less.0, ap (λ (n : ℕ). Some (min (n + 1) (2 ^ 64 - 1))) less.1)) (λ shortens. inr shortens) (s.nearer long)) slices;
+      slice = on_ok r (λ length s. s.slice) slices;
       refused = if_err r (λ fault s other. (stays_of device old new fault s other).long) refused;
       still = if_err r (λ fault s other. (stays_of device old new fault s other).kept) refused;
       told = if_err r (λ fault s other. (stays_of device old new fault s other).told) refused;
