@@ -2,10 +2,9 @@
 use Rattle.std.specs.Prelude.{◌≡◌, ℕ, List, [], ◌∷◌, Some, length}
 use Rattle.std.specs.declared.fs.File.{File}
 use Rattle.rand_chacha.specs.ChaCha.{ChaCha, of_seed}
-use Rattle.batch_file.specs.Calls.{only_opened}
+use Rattle.disk_file.specs.Calls.{only_opened}
 use Rattle.batch_file.specs.declared.device.Device.{Ghosts as Device}
-use Rattle.batch_file.specs.declared.disk_file.DiskFile.{DiskFile}
-use Rattle.batch_file.specs.declared.disk_file.Opened.{Opened}
+use Rattle.disk_file.specs.declared.file.DiskFile.{DiskFile}
 use Rattle.clients.specs.RegistryRecord.{RegistryRecord}
 use Rattle.endpoints.specs.Server.{outset_of}
 use Rattle.event_loop.specs.LoopStates.{promises}
@@ -80,14 +79,15 @@ pub record HandedOn : Type 0 where
 abbrev pub handed_on : RegistryRecord → List HookFact → Limits → HandedOn
 handed_on registry hooks limits = record { registry = registry; hooks = hooks; limits = limits }
 
--- the file was opened, and asked for nothing else, and over it, the machine's sockets and clocks, and with some journal, the
--- server lived
+-- the file was opened, and asked for nothing else: it had these bytes, or begins with them, where it was not read to its end. Over
+-- it, the machine's sockets and clocks, and with some journal, the server lived
 pub record LivesOn {R E : Type 0} (disk : Device (DiskFile R File)) (journal : Journal (LineJournal E)) (handed : HandedOn) (lived : Lived R) : Type 0 where
-  pub opened : Opened R File
-  pub is_opened : opened.device.log.calls ≡ only_opened opened.bytes.items
+  pub file : DiskFile R File
+  pub bytes : List ℕ
+  pub is_opened : file.log.calls ≡ only_opened bytes
   pub means : Means MachineSockets (MachineClocks R) (LineJournal E)
   pub fresh : IsFresh means handed.limits
   pub seeded : IsSeeded lived.random means.generator
   pub lines : LineJournal E
-  pub life : IsLife (life_promises disk noting_sockets noting_clocks journal) (given opened.device opened.bytes.items handed.registry handed.hooks means)
+  pub life : IsLife (life_promises disk noting_sockets noting_clocks journal) (given file bytes handed.registry handed.hooks means)
       (record { end = lived.end; device = lived.device; sockets = lived.sockets; clocks = lived.clocks; journal = lines })

@@ -5,7 +5,7 @@ ghost use Rattle.std.specs.IoError.{error_kind};
 ghost use Rattle.daemon.specs.Faults.{socket_fault};
 ghost use Rattle.daemon.specs.declared.fault.ListenFault.TheVariants.{NoSocket};
 
-use batch_file::disk_file::OpenFault;
+use disk_file::OpenFault;
 use std::alloc::AllocError;
 use std::fmt::{self, Display, Formatter};
 use std::io::{self, ErrorKind};

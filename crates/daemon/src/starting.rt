@@ -15,11 +15,11 @@ use crate::machine_random::MachineRandom;
 use crate::ports::Ports;
 use crate::sockets::MachineSockets;
 use batch_file::device::Device;
-use batch_file::disk_file::{DiskFile, Opened};
 use clients::Registry;
+use disk_file::DiskFile;
 use event_loop::{Journal, Limits, LoopFault};
 use hook_chain::Chain;
-use lifetime::{AnewEnd, Life, LifeEnd, Means, Opening, live, live_anew};
+use lifetime::{AnewEnd, Life, LifeEnd, Means, Opening, Planned, live, live_anew, plan_of};
 use rand_chacha::ChaCha20Rng;
 use rand_core::SeedableRng;
 use rules_codec::KeptHook;
@@ -148,8 +148,8 @@ pub fn start<'r, 'e, R: Net + Clock + RandomSource + AllocGlobal, W: Write, E: W
     })
 }
 
-/// Listens at an address, opens and locks the file of a server's state, and starts the server on what stands there, with those of
-/// the hooks that it lacks. Once it is known that the start goes on it is told where it listens, and up to 64 connections are
+/// Listens at an address, opens, locks and reads the file of a server's state, and starts the server on what stands there, with
+/// those of the hooks that it lacks. Once it is known that the start goes on it is told where it listens, and up to 64 connections are
 /// served at once, by changes that are kept before a reply tells of them, until the program is stopped. What is told to `err` is
 /// what the start ends or puts aside, and the faults of connections, in at most one line a second.
 pub fn start_on<
@@ -174,7 +174,8 @@ pub fn start_on<
 {
     let mut random = MachineRandom::new(rt);
     let begun = begin(rt, terms.address, &mut random)?;
-    let Opened { device, bytes } = DiskFile::open(rt, state.path)?;
+    let file = DiskFile::open(rt, state.path)?;
+    let Planned { source, plan } = plan_of(rt.alloc(), file, registry, state.hooks);
     let mut told = Announcement {
         address: begun.ports.address(),
         out,
@@ -187,15 +188,7 @@ pub fn start_on<
         sockets,
         clocks,
         journal: _journal,
-    } = live(
-        rt.alloc(),
-        device,
-        bytes,
-        registry,
-        state.hooks,
-        means,
-        &mut told,
-    );
+    } = live(rt.alloc(), source.into_device(), plan, means, &mut told);
     Ok(Lived {
         end,
         device,

@@ -1,6 +1,6 @@
 -- Whatever is found after any number of lives comes of what was there at first.
 use Rattle.std.proofs.Common.{◌≡◌, ⊎_elim, inr, ℕ, List, [], ◌∷◌, Bool, true, false, Option, Some, None, refl, sym, ap, subst, ◌∙◌}
-use Rattle.lifetime.proofs.Names.{Contains, is_some, recovered, IsFrontOf, RegistryRecord, Event, Onward, LoopState, Served, begins, Tools, Named, Journey, HookFact, SeenKeeper, history_under}
+use Rattle.lifetime.proofs.Names.{IsReadable, Contains, is_some, recovered, IsFrontOf, RegistryRecord, Event, Onward, LoopState, Served, begins, Tools, Named, Journey, HookFact, SeenKeeper, history_under}
 use Rattle.lifetime.proofs.Names.{Narrowed, ComesOf, IsHeir, MayBeFound, at_first, ever, grows, is_it, narrows, once_settled, settled_at, Given, LifePromises, in_loop, HasLived, HasNotLived, IsLife}
 use Rattle.lifetime.proofs.Names.{IsWhole, LosesNothing, is_ahead, is_refused, is_unopened, is_unsettled, IsPlanOf, begun_from, Begun, Settles, Life, Plan, Ending, front_then, same_front}
 use Rattle.lifetime.proofs.Names.{served_onward}
@@ -41,7 +41,8 @@ whole_heir registries first before all rules c comes whole = record {
   lived = record { stands = whole.stands; right = inr (rules, whole.told, whole.right); ran = inr (whole.host, whole.ran) };
 }
 
-module _ {D N C J : Type 0} (p : LifePromises D N C J) (only_now : (d : D) (c : List ℕ) → p.device.left_since d (p.device.moment d) c → p.device.may_leave d c) (registries : List RegistryRecord) (first : List Event) where
+module _ {D N C J : Type 0} (p : LifePromises D N C J) (only_now : (d : D) (c : List ℕ) → p.device.left_since d (p.device.moment d) c → p.device.may_leave d c)
+    (only_true : (d : D) (c : List ℕ) → p.device.may_leave d c → p.device.reads_true d) (registries : List RegistryRecord) (first : List Event) where
   -- what was left before, or is whole
   loses_heir : (given : Given D N C J) (device : D) (before all : List Event) (c : List ℕ) → ComesOf registries first before → LosesNothing p given device before all →
       p.device.left_since device (p.device.moment given.device) c → (p.device.may_leave given.device c → IsHeir registries first c) → IsHeir registries first c
@@ -55,9 +56,12 @@ module _ {D N C J : Type 0} (p : LifePromises D N C J) (only_now : (d : D) (c : 
     settled_heir begun settles c since =
         let plan = begun.outlook.plan in
         let before = begun_from settles.looks.plan_is heir.history in
-        let same : recovered c ≡ plan.prepared.batches = ap recovered (settles.put.durable c (only_now begun.keeper.file.device c since)) ∙ settles.put.seen in
+        let may = only_now begun.keeper.file.device c since in
+        let same : c ≡ p.device.seen begun.keeper.file.device = settles.put.durable c may in
+        let is : (recovered c ≡ plan.prepared.batches) × IsReadable c =
+        (ap recovered same ∙ settles.put.seen (only_true begun.keeper.file.device c may), subst (λ (b : List ℕ). IsReadable b) (sym same) settles.put.readable) in
         whole_heir registries first before before given.registry c (comes_begun registries first given.registry given.hooks given.bytes plan settles.looks.plan_is heir.history among heir.comes)
-        (whole_batches given.registry plan.prepared.batches before c (bears_of given.registry given.hooks given.bytes plan settles.looks.plan_is heir.history heir.lived) same)
+        (whole_batches given.registry plan.prepared.batches before c (bears_of given.registry given.hooks given.bytes plan settles.looks.plan_is heir.history heir.lived) is)
 
     lived_heir : (begun : Begun D N C J) (settles : Settles p given begun) (ending : Ending N C J (SeenKeeper D)) (c : List ℕ) →
         HasLived p given begun (begun_from settles.looks.plan_is heir.history) ending →
@@ -100,14 +104,14 @@ module _ {D N C J : Type 0} (p : LifePromises D N C J) (only_now : (d : D) (c : 
     ever_heir life (is_ahead outlook seconds looks far) c since earlier = earlier (only_now given.device c since)
     ever_heir life (is_unsettled outlook fault device journal cannot told) c since earlier =
         loses_heir given device _ _ c (comes_begun registries first given.registry given.hooks given.bytes outlook.plan cannot.looks.plan_is heir.history among heir.comes)
-        (cannot.loses_nothing heir.history heir.lived) since earlier
+        (cannot.stays_whole heir.history heir.lived).0 since earlier
     ever_heir life (is_unopened begun settles keeps) c since earlier =
         loses_heir given begun.keeper.file.device _ _ c (comes_begun registries first given.registry given.hooks given.bytes begun.outlook.plan settles.looks.plan_is heir.history among heir.comes)
-        (keeps heir.history heir.lived) since earlier
+        (keeps heir.history heir.lived).0 since earlier
     ever_heir life (has_stopped begun settles ending lives) c since earlier =
         let comes = comes_begun registries first given.registry given.hooks given.bytes begun.outlook.plan settles.looks.plan_is heir.history among heir.comes in
         ⊎_elim (λ lived. loses_heir given ending.tools.keeper.file.device _ _ c comes lived.loses_nothing since earlier)
-        (λ not. loses_heir given ending.tools.keeper.file.device _ _ c comes not.loses_nothing since earlier) (lives heir.history heir.lived)
+        (λ not. loses_heir given ending.tools.keeper.file.device _ _ c comes not.stays_whole.0 since earlier) (lives heir.history heir.lived)
 
   -- after any number of lives
   pub found_heir : (First : List ℕ → Type 0) → ((c : List ℕ) → First c → IsHeir registries first c) → (c : List ℕ) → MayBeFound p registries First c → IsHeir registries first c

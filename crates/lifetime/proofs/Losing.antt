@@ -1,7 +1,7 @@
 -- What a crash leaves of a life that was begun, and of its loop.
-use Rattle.std.proofs.Common.{◌≡◌, ⊎_elim, inl, inr, ℕ, List, [], refl, sym, subst, arith}
+use Rattle.std.proofs.Common.{◌≡◌, ◌≤◌, ◌⊎◌, ⊎_elim, inl, inr, ℕ, List, [], refl, sym, subst, arith}
 use Rattle.lifetime.proofs.Names.{recovered, IsFrontOf, RegistryRecord, Event, AllRight, HostRun, Named, StandFor, StandsFor, IsOldOr, Tell, TellsRules, rules_of, Given, LifePromises}
-use Rattle.lifetime.proofs.Names.{IsWhole, Leaves, LosesNothing, front_then, same_front}
+use Rattle.lifetime.proofs.Names.{IsReadable, IsByChance, IsWhole, Leaves, LosesNothing, TellsNoLater, until_of, front_then, same_front}
 use Rattle.state_file.specs.ReplayingLaws.{front_run}
 use Rattle.state_keeper.proofs.Put.{leaves_weaker}
 use Rattle.state_file.specs.ResumingLaws.{right_before}
@@ -19,10 +19,19 @@ front_ran front all host is ran = front_run [] host front is.0 (subst (λ (h : L
 
 -- what is left is whole where it stands for a front of what was right and was run
 pub whole_by : (rules : RegistryRecord) (before history all : List Event) (host : List Named) (c : List ℕ) → IsFrontOf before history → IsFrontOf history all → StandsFor c history →
-    TellsRules c (rules_of rules) → AllRight rules [] all → HostRun chain.ghosts [] all host → IsWhole rules before all c
-whole_by rules before history all host c from to stands told right ran =
-    let mid = front_ran history all host to ran in
-    record { history = history; from = from; to = to; stands = stands; told = told; right = front_right rules history all to right; host = mid.0; ran = mid.1 }
+    TellsRules c (rules_of rules) → (IsReadable c ⊎ IsByChance c) → AllRight rules [] all → HostRun chain.ghosts [] all host → IsWhole rules before all c
+whole_by rules before history all host c from to stands told readable right ran =
+    let mid = front_ran history all host to ran in record {
+      history = history;
+      from = from;
+      to = to;
+      stands = stands;
+      told = told;
+      right = front_right rules history all to right;
+      host = mid.0;
+      ran = mid.1;
+      readable = readable;
+    }
 
 -- where more happens, it is whole still
 whole_more : (rules : RegistryRecord) (before all more : List Event) (c : List ℕ) → IsFrontOf all more → IsWhole rules before all c → IsWhole rules before more c
@@ -35,6 +44,7 @@ whole_more rules before all more c front whole = record {
   right = whole.right;
   host = whole.host;
   ran = whole.ran;
+  readable = whole.readable;
 }
 
 -- batches that stand for a history and tell the rules under which it is right
@@ -45,11 +55,12 @@ pub record Bears (rules : RegistryRecord) (batches : List (List ℕ)) (history :
   pub host : List Named
   pub ran : HostRun chain.ghosts [] history host
 
-pub whole_batches : (rules : RegistryRecord) (batches : List (List ℕ)) (history : List Event) (c : List ℕ) → Bears rules batches history → recovered c ≡ batches → IsWhole rules history history c
-whole_batches rules batches history c bears same =
+pub whole_batches : (rules : RegistryRecord) (batches : List (List ℕ)) (history : List Event) (c : List ℕ) → Bears rules batches history → (recovered c ≡ batches) × IsReadable c →
+    IsWhole rules history history c
+whole_batches rules batches history c bears is =
     whole_by rules history history history bears.host c (same_front history history refl) (same_front history history refl)
-    (subst (λ (bs : List (List ℕ)). StandFor bs history) (sym same) bears.stand) (subst (λ (bs : List (List ℕ)). Tell bs (rules_of rules)) (sym same) bears.tell)
-    bears.right bears.ran
+    (subst (λ (bs : List (List ℕ)). StandFor bs history) (sym is.0) bears.stand) (subst (λ (bs : List (List ℕ)). Tell bs (rules_of rules)) (sym is.0) bears.tell)
+    (inl is.1) bears.right bears.ran
 
 module _ {D N C J : Type 0} (p : LifePromises D N C J) where
   -- CRASHES, ONE RUN AFTER THE OTHER
@@ -65,7 +76,12 @@ module _ {D N C J : Type 0} (p : LifePromises D N C J) where
     -- what was left before the life stays; what has the batches is whole
     pub old_or_loses : (device : D) (batches : List (List ℕ)) → Bears given.registry batches before → Leaves p given.device device (IsOldOr p.device given.device batches) →
         LosesNothing p given device before before
-    old_or_loses device batches bears = leaves_weaker p.device given.device device _ _ (λ c. ⊎_elim inl (λ same. inr (whole_batches given.registry batches before c bears same)))
+    old_or_loses device batches bears = leaves_weaker p.device given.device device _ _ (λ c. ⊎_elim inl (λ is. inr (whole_batches given.registry batches before c bears is)))
+
+    -- and tells no later moment than these
+    pub old_or_tells : (device : D) (batches : List (List ℕ)) (until : ℕ) → until_of batches ≤ until → Leaves p given.device device (IsOldOr p.device given.device batches) →
+        TellsNoLater p given device until
+    old_or_tells device batches until le = leaves_weaker p.device given.device device _ _ (λ c. ⊎_elim inl (λ is. inr (subst (λ (bs : List (List ℕ)). until_of bs ≤ until) (sym is.0) le)))
 
     pub more_loses : (device : D) (all : List Event) → IsFrontOf before all → LosesNothing p given device before before → LosesNothing p given device before all
     more_loses device all front = leaves_weaker p.device given.device device _ _ (λ c. ⊎_elim inl (λ whole. inr (whole_more given.registry before before all c front whole)))

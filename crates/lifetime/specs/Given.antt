@@ -1,6 +1,6 @@
 -- What a life is handed, and what is promised of that.
 use Rattle.std.specs.Prelude.{ℕ, ◌+◌, ◌-◌, ◌^◌, min, List, Some, IsSome}
-use Rattle.lifetime.specs.Names.{RegistryRecord, Keeping, Promises, LoopState, promises, Journal, Named, HookFact, IsLongFile, ShortensFile, SeenKeeper, file_crashes, LifeEnd}
+use Rattle.lifetime.specs.Names.{RegistryRecord, Keeping, Promises, LoopState, promises, Journal, Named, HookFact, IsLongFile, ShortensFile, SlicesFile, SeenKeeper, file_crashes, LifeEnd}
 use Rattle.batch_file.specs.declared.device.Device.{Ghosts as Device}
 use Rattle.event_loop.specs.declared.clocks.Clocks.{Ghosts as Clocks}
 use Rattle.event_loop.specs.declared.sockets.Sockets.{Ghosts as Sockets}
@@ -29,8 +29,9 @@ file_keeping device = record {
   crashes = file_crashes device;
   size = λ keeper. Some (min (keeper.file.end + 1) (2 ^ 64 - 1));
   has_failed = λ keeper. IsSome keeper.fault;
-  is_long = λ keeper. IsLongFile device.seen keeper.file;
+  is_long = IsLongFile;
   to_go = λ keeper. keeper.to_go;
+  slices = SlicesFile device;
   shortens = ShortensFile device;
 }
 

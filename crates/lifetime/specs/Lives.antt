@@ -1,13 +1,20 @@
 -- One life of a server on the file of its state.
-use Rattle.std.specs.Prelude.{◌≡◌, ◌⊎◌, ℕ, List, [], None, Some, IsSome}
+use Rattle.std.specs.Prelude.{◌≡◌, ◌≤◌, ◌⊎◌, ℕ, max, List, [], None, Some, IsSome, Result}
 use Rattle.lifetime.specs.Names.{LeavesOnly, RegistryRecord, Event, IsFrontOf, outset_of, Onward, Beginning, HasServed, ServesNothing, Served, Named, SeenEdge, Reached, resumed_journey, SeenKeeper}
-use Rattle.lifetime.specs.Names.{HookFact, OfEachRun, StandsFor, IsOfDisk, IsUntouched, TellsRules, rules_of, StateFault}
+use Rattle.lifetime.specs.Names.{HookFact, OfEachRun, StandsFor, IsOfDisk, IsUntouched, TellsRules, rules_of, StateFault, until_of}
+use Rattle.batch_file.specs.Crashes.{IsBeside}
+use Rattle.batch_file.specs.Frames.{IsReadable, recovered}
+use Rattle.change_codec.specs.Keeping.{horizon_bound}
 use Rattle.endpoints.specs.Bounded.{AllRight, IsBounded}
 use Rattle.endpoints.specs.Hosts.{HostRun}
+use Rattle.event_loop.specs.Durable.{latest}
+use Rattle.event_loop.specs.Ends.{told_then}
 use Rattle.event_loop.specs.declared.fault.LoopFault.TheVariants.{Keep}
 use Rattle.hook_chain.specs.contracts.chain.ChainHookHost.TheImpl as chain
+use Rattle.state_file.specs.Knowing.{IsByChance}
+use Rattle.state_file.specs.Making.{StopsReading}
 use Rattle.lifetime.specs.Given.{Given, LifePromises, LifeState, in_loop, life_of, given as handed}
-use Rattle.lifetime.specs.Plans.{IsPlanOf, RefusesPlan, begun_from}
+use Rattle.lifetime.specs.Plans.{IsPlanned, RefusesPlan, begun_from}
 use Rattle.lifetime.specs.Serving.{tools_of}
 use Rattle.lifetime.specs.Starts.{Begun, LooksAt, MayReport, Outlook, Settles, too_far_at, torn_notices}
 use Rattle.lifetime.specs.declared.life.Life.{Life}
@@ -19,7 +26,8 @@ use Rattle.lifetime.specs.declared.going_on.Ending.{Ending}
 -- WHAT A CRASH LEAVES
 
 -- What a crash left stands for a history that has all of `before`, and nothing that is not in `all`. It tells the rules, under
--- which that history is right, and a chain of hooks came through it: so another life may begin on what is left.
+-- which that history is right, and a chain of hooks came through it; and a start reads it, but for a coincidence of SHA-256: so
+-- another life may begin on what is left.
 pub record IsWhole (rules : RegistryRecord) (before all : List Event) (left : List ℕ) : Type 0 where
   pub history : List Event
   pub from : IsFrontOf before history
@@ -29,6 +37,7 @@ pub record IsWhole (rules : RegistryRecord) (before all : List Event) (left : Li
   pub right : AllRight rules [] history
   pub host : List Named
   pub ran : HostRun chain.ghosts [] history host
+  pub readable : IsReadable left ⊎ IsByChance left
 
 -- a crash at some moment from the old device's on, up to the new one's, leaves what is so
 abbrev pub Leaves : {D N C J : Type 0} → LifePromises D N C J → D → D → (List ℕ → Type 0) → Type 0
@@ -37,6 +46,18 @@ Leaves p old new P = LeavesOnly p.device.moment p.device.left_since old new P
 -- a crash at some moment of the life leaves what one before might have left, or what is whole
 abbrev pub LosesNothing : {D N C J : Type 0} → LifePromises D N C J → Given D N C J → D → List Event → List Event → Type 0
 LosesNothing p given device before all = Leaves p given.device device (λ left. p.device.may_leave given.device left ⊎ IsWhole given.registry before all left)
+
+-- a crash at some moment of the life leaves what one before might have left, or what tells no later moment than this
+abbrev pub TellsNoLater : {D N C J : Type 0} → LifePromises D N C J → Given D N C J → D → ℕ → Type 0
+TellsNoLater p given device until = Leaves p given.device device (λ left. p.device.may_leave given.device left ⊎ (until_of (recovered left) ≤ until))
+
+-- where no server served: nothing is lost, and no later moment is told than the bytes told
+abbrev pub StaysWhole : {D N C J : Type 0} → LifePromises D N C J → Given D N C J → D → List Event → Type 0
+StaysWhole p given device before = LosesNothing p given device before before × TellsNoLater p given device (until_of (recovered given.bytes))
+
+-- where the clocks told these: that moment, or one that is at most ten seconds beyond the latest of them
+abbrev pub until_with : {D N C J : Type 0} → Given D N C J → ℕ → ℕ
+until_with given clock = max (until_of (recovered given.bytes)) (horizon_bound clock)
 
 -- THE LOOP
 
@@ -58,7 +79,8 @@ LeavesKept p rules s device all =
 -- fault (`blamed`). At each state all codes and tokens keep to the registry's allowances, tokens to lives and consents
 -- (`bounded`). What is kept at a state is in all that a crash leaves from then on, up to another state (`keeps`) or to the end
 -- of the life (`keeps_then`), and nothing that has not happened. A crash at any moment of the life left what one before it
--- might have left, or all of `before` (`loses_nothing`).
+-- might have left, or all of `before` (`loses_nothing`); and what it left tells no moment that is later than the one that the bytes
+-- told, and more than ten seconds beyond what the clocks told by then (`no_later`, `no_later_then`).
 pub record HasLived {D N C J : Type 0} (p : LifePromises D N C J) (given : Given D N C J) (begun : Begun D N C J) (before : List Event)
     (ending : Ending N C J (SeenKeeper D)) : Type 0 where
   pub edge : SeenEdge (List Named)
@@ -71,6 +93,9 @@ pub record HasLived {D N C J : Type 0} (p : LifePromises D N C J) (given : Given
   pub keeps_then : (s : LifeState D N C J) → Served (in_loop p) served.first s → Onward (in_loop p) s served.last →
       LeavesKept p given.registry s ending.tools.keeper.file.device served.last.progress.journey.world.history
   pub loses_nothing : LosesNothing p given ending.tools.keeper.file.device before served.last.progress.journey.world.history
+  pub no_later : (s : LifeState D N C J) (on : Onward (in_loop p) served.first s) → TellsNoLater p given s.keeper.file.device (until_with given (latest on))
+  pub no_later_then : (on : Onward (in_loop p) served.first served.last) →
+      TellsNoLater p given ending.tools.keeper.file.device (until_with given (max (latest on) (told_then served.fails)))
 
 -- Or the clocks told nothing, and it served no connection.
 pub record HasNotLived {D N C J : Type 0} (p : LifePromises D N C J) (given : Given D N C J) (begun : Begun D N C J) (before : List Event)
@@ -78,7 +103,7 @@ pub record HasNotLived {D N C J : Type 0} (p : LifePromises D N C J) (given : Gi
   pub edge : SeenEdge (List Named)
   pub reached : Reached chain.ghosts edge (loop_of given begun edge before).journey
   pub served : ServesNothing (in_loop p) (loop_of given begun edge before).tools ending.fault ending.tools
-  pub loses_nothing : LosesNothing p given ending.tools.keeper.file.device before before
+  pub stays_whole : StaysWhole p given ending.tools.keeper.file.device before
 
 -- A LIFE
 
@@ -91,15 +116,15 @@ pub record CannotSettle {D N C J : Type 0} (p : LifePromises D N C J) (given : G
   pub looks : LooksAt p given outlook
   pub near : too_far_at given outlook ≡ None
   pub of_disk : IsOfDisk fault
-  -- the device is as it was, unless the disk failed
-  pub untouched : IsUntouched fault → device ≡ given.device
-  pub loses_nothing : OfEachRun given.bytes (λ history. let before = begun_from looks.plan_is history in LosesNothing p given device before before)
+  -- a crash leaves of the device only what it would have left, unless the disk failed
+  pub untouched : IsUntouched fault → IsBeside p.device.seen p.device.may_leave p.device.faults given.device device
+  pub stays_whole : OfEachRun given.bytes (λ history. StaysWhole p given device (begun_from looks.plan_is history))
 
 -- A life on the file of its state, by how it ended. The history `before` is that from which the server goes on: any one that the
 -- bytes stand for, or what is left of it under the registry, with the hooks.
 pub data IsLife {D N C J : Type 0} (p : LifePromises D N C J) (given : Given D N C J) : Life D N C J → Type 0 where
-  -- no plan is made of the bytes: nothing was done
-  is_refused : (fault : StateFault) → RefusesPlan given.registry given.hooks given.bytes fault → IsLife p given (life_of (ends.Refused fault) given.device given.means)
+  -- the bytes are not read to their end, or no plan is made of them: nothing was done
+  is_refused : (fault : StateFault) → StopsReading fault ⊎ RefusesPlan given.registry given.hooks given.bytes fault → IsLife p given (life_of (ends.Refused fault) given.device given.means)
   -- the clocks are too far ahead: they were read, and nothing else was done
   is_ahead : (outlook : Outlook C) (seconds : ℕ) → LooksAt p given outlook → too_far_at given outlook ≡ Some seconds →
       IsLife p given (life_of (ends.ClockAhead seconds) given.device (record given.means { clocks = outlook.clocks }))
@@ -109,7 +134,7 @@ pub data IsLife {D N C J : Type 0} (p : LifePromises D N C J) (given : Given D N
       IsLife p given (life_of (ends.Refused fault) device (record given.means { clocks = outlook.clocks; journal = journal }))
   -- clients could not be told where the sockets listen
   is_unopened : (begun : Begun D N C J) (settles : Settles p given begun) →
-      OfEachRun given.bytes (λ history. let before = begun_from settles.looks.plan_is history in LosesNothing p given begun.keeper.file.device before before) →
+      OfEachRun given.bytes (λ history. StaysWhole p given begun.keeper.file.device (begun_from settles.looks.plan_is history)) →
       IsLife p given (life_of ends.Unopened begun.keeper.file.device begun.means)
   -- the server served until it could not go on
   has_stopped : (begun : Begun D N C J) (settles : Settles p given begun) →
@@ -117,7 +142,7 @@ pub data IsLife {D N C J : Type 0} (p : LifePromises D N C J) (given : Given D N
       HasLived p given begun before ending ⊎ HasNotLived p given begun before ending) →
       IsLife p given (life_of (ends.Stopped ending.fault ending.tools.keeper.fault) ending.tools.keeper.file.device (means_left begun.means ending))
 
--- whatever bytes it is the plan of: a life that had it, with this device and these means, went so
-abbrev pub LivesBy : {D N C J : Type 0} → LifePromises D N C J → D → Plan → Means N C J → Life D N C J → Type 0
-LivesBy p device plan means life =
-    (bytes : List ℕ) (registry : RegistryRecord) (hooks : List HookFact) → IsPlanOf registry hooks bytes plan → IsLife p (handed device bytes registry hooks means) life
+-- whatever bytes it was planned by: a life with this device and these means went so
+abbrev pub LivesBy : {D N C J : Type 0} → LifePromises D N C J → D → Result Plan StateFault → Means N C J → Life D N C J → Type 0
+LivesBy p device planned means life =
+    (bytes : List ℕ) (registry : RegistryRecord) (hooks : List HookFact) → IsPlanned registry hooks bytes planned → IsLife p (handed device bytes registry hooks means) life

@@ -17,7 +17,7 @@ pub use Rattle.http_edge.specs.Reached.{new_journey, Reached, resumed_journey, J
 pub use Rattle.rules_codec.specs.Facts.{HookFact}
 pub use Rattle.lifetime.specs.declared.life.LifeEnd.{LifeEnd}
 pub use Rattle.lifetime.specs.declared.life.LifeEnd.TheVariants.{Refused, Stopped, Unopened}
-pub use Rattle.state_keeper.specs.Seen.{SeenKeeper, IsLongFile, ShortensFile, file_crashes}
+pub use Rattle.state_keeper.specs.Seen.{SeenKeeper, IsLongFile, ShortensFile, SlicesFile, file_crashes}
 pub use Rattle.state_file.specs.Runs.{WasLived, OfEachRun}
 pub use Rattle.state_file.specs.Standing.{StandsFor, IsMomentTold, until_of}
 pub use Rattle.state_keeper.specs.Starting.{IsOfDisk, IsUntouched, IsOldOr, IsPutOn}

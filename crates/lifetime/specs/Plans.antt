@@ -1,20 +1,25 @@
 -- What a start makes of the bytes of a state file, before anything is written.
-use Rattle.std.specs.Prelude.{◌≡◌, ◌≤◌, ◌⊎◌, ◌↔◌, ℕ, List, [], Option, None, Some, IsSome, IfSome, option_map}
+use Rattle.std.specs.Prelude.{◌≡◌, ◌≤◌, ◌⊎◌, ◌↔◌, ℕ, List, [], Option, None, Some, IsSome, IfSome, option_map, Result, Ok, Err}
 use Rattle.lifetime.specs.Names.{RegistryRecord, Event, outset_of, Named, HookFact, OfEachRun, IsMomentTold, until_of, Tell, rules_of, StateFault}
-use Rattle.batch_file.specs.Frames.{IsReadable, recovered, torn_of}
+use Rattle.batch_file.specs.Frames.{IsFileOf, recovered, torn_of}
 use Rattle.hook_chain.specs.contracts.chain.ChainHookHost.TheImpl as chain
 use Rattle.state_file.specs.Hooks.{with_hooks}
-use Rattle.state_file.specs.Making.{MakesFrom, OnBytes, RefusesMaking, on_bytes}
+use Rattle.state_file.specs.Making.{MakesFrom, OnBytes, RefusesMaking, StopsReading, on_bytes}
 use Rattle.state_file.specs.Resuming.{ListsItself}
 use Rattle.state_file.specs.declared.fault.StateFault.TheVariants as state
-use Rattle.state_narrowing.specs.Narrowing.{HasLeft, IsNarrower, IsUnnarrowed, history_under}
-use Rattle.state_narrowing.specs.declared.narrowed.Narrowed.{Narrowed}
+use Rattle.narrowing.specs.Narrowing.{HasLeft, IsNarrower, IsUnnarrowed, history_under}
+use Rattle.narrowing.specs.declared.narrowed.Narrowed.{Narrowed}
 use Rattle.lifetime.specs.declared.plan.Plan.{Plan}
 
--- what a start is made on: the bytes, or what is left of them
-abbrev pub bytes_under : List ℕ → Option Narrowed → List ℕ
-bytes_under bytes None = bytes
-bytes_under bytes (Some narrowed) = narrowed.bytes.items
+-- the batches on which a start is made: those of the bytes, or what is left of them
+abbrev pub batches_under : List ℕ → Option Narrowed → List (List ℕ)
+batches_under bytes None = recovered bytes
+batches_under bytes (Some narrowed) = narrowed.frames
+
+-- what it is made on: the bytes, or a file of what is left of them
+abbrev pub IsMadeOn : List ℕ → Option Narrowed → List ℕ → Type 0
+IsMadeOn bytes None file = file ≡ bytes
+IsMadeOn bytes (Some narrowed) file = IsFileOf narrowed.frames file
 
 -- a start on these bytes, with a chain that has no hook but those that they tell, and these
 abbrev pub start_of : RegistryRecord → List HookFact → List ℕ → OnBytes (List Named)
@@ -25,8 +30,8 @@ start_of rules hooks bytes = on_bytes bytes (outset_of rules []) hooks
 pub record AreUnder (rules : RegistryRecord) (bytes : List ℕ) (narrowed : Option Narrowed) : Type 0 where
   pub narrower : IsSome narrowed ↔ IsNarrower bytes (rules_of rules)
   pub left : IfSome narrowed (λ left. OfEachRun bytes (HasLeft chain.ghosts [] rules left))
-  pub readable : IfSome narrowed (λ left. IsReadable left.bytes.items)
-  pub until : IfSome narrowed (λ left. until_of (recovered left.bytes.items) ≡ until_of (recovered bytes))
+  pub readable : IfSome narrowed (λ left. (file : List ℕ) × IsFileOf left.frames file)
+  pub until : IfSome narrowed (λ left. until_of left.frames ≡ until_of (recovered bytes))
 
 -- The plan is one of the bytes. Whatever history they stand for: with those of the hooks that it lacks, the server goes on from
 -- that history under these rules, or from what is left of it under them, and the batches of the new file stand for that. The list
@@ -35,14 +40,15 @@ pub record IsPlanOf (rules : RegistryRecord) (hooks : List HookFact) (bytes : Li
   pub narrowed : Option Narrowed
   pub ended : plan.ended ≡ option_map (λ left. left.ended) narrowed
   pub under : AreUnder rules bytes narrowed
-  pub listed : ListsItself rules (recovered (bytes_under bytes narrowed))
+  pub listed : ListsItself rules (batches_under bytes narrowed)
   pub makes : OfEachRun bytes (λ history. MakesFrom chain.ghosts (start_of rules hooks bytes) plan.prepared (history_under rules narrowed history))
-  -- the new file tells the rules, and no earlier moment than the bytes did
+  -- the new file tells the rules, and the moment that the bytes did, no earlier one and no later
   pub tell : Tell plan.prepared.batches (rules_of rules)
   pub until : until_of (recovered bytes) ≤ until_of plan.prepared.batches
+  pub no_later : until_of plan.prepared.batches ≤ until_of (recovered bytes)
   pub later : until_of (recovered bytes) ≤ plan.prepared.moment
   -- it goes on from no other moment than the bytes tell, or what is left of them
-  pub moment_is : IsMomentTold (recovered (bytes_under bytes narrowed)) plan.prepared.moment
+  pub moment_is : IsMomentTold (batches_under bytes narrowed) plan.prepared.moment
   pub torn_is : plan.torn.items ≡ torn_of bytes
 
 -- the history from which the server goes on by the plan: that which the bytes stand for, or what is left of it, with the hooks
@@ -53,4 +59,9 @@ begun_from {rules} {hooks} {bytes} {plan} is history = with_hooks plan.prepared.
 abbrev pub RefusesPlan : RegistryRecord → List HookFact → List ℕ → StateFault → Type 0
 RefusesPlan rules hooks bytes fault =
     (fault ≡ state.Memory) ⊎ IsUnnarrowed bytes (rules_of rules) fault
-    ⊎ ((narrowed : Option Narrowed) × AreUnder rules bytes narrowed × RefusesMaking chain.ghosts (start_of rules hooks (bytes_under bytes narrowed)) fault)
+    ⊎ ((narrowed : Option Narrowed) × (file : List ℕ) × AreUnder rules bytes narrowed × IsMadeOn bytes narrowed file × RefusesMaking chain.ghosts (start_of rules hooks file) fault)
+
+-- What is made of the bytes, which are all that was read; or why they were not read to their end.
+abbrev pub IsPlanned : RegistryRecord → List HookFact → List ℕ → Result Plan StateFault → Type 0
+IsPlanned rules hooks bytes (Ok plan) = IsPlanOf rules hooks bytes plan
+IsPlanned rules hooks bytes (Err fault) = StopsReading fault ⊎ RefusesPlan rules hooks bytes fault

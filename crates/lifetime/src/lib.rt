@@ -16,4 +16,4 @@ pub use laws::lives_lose_nothing;
 pub use life::{Life, LifeEnd, live};
 pub use means::Means;
 pub use opening::{Opening, Unopened};
-pub use plan::{Plan, plan_of};
+pub use plan::{Plan, Planned, plan_of};

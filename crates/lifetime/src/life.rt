@@ -1,23 +1,21 @@
 //! A server's life on the file of its state.
 
-ghost use Rattle.std.specs.Prelude.{◌≡◌, map};
-ghost use Rattle.rules_codec.specs.Facts.{hook_fact};
-ghost use Rattle.lifetime.specs.Given.{given, life_promises};
-ghost use Rattle.lifetime.specs.Lives.{IsLife, LivesBy};
+ghost use Rattle.std.specs.Prelude.{◌≡◌, IfOk, Ok};
+ghost use Rattle.state_keeper.specs.Starting.{HasFront};
+ghost use Rattle.lifetime.specs.Given.{life_promises};
+ghost use Rattle.lifetime.specs.Lives.{LivesBy};
 ghost use Rattle.lifetime.specs.Openings.{IsOpenedBy};
 
 use crate::clock::too_far;
 use crate::going_on::{Ending, serve_by};
 use crate::means::Means;
 use crate::opening::Opening;
-use crate::plan::{Plan, plan_of};
+use crate::plan::Plan;
 use crate::settling::settle;
 use batch_file::appending::BatchFault;
 use batch_file::device::Device;
-use clients::Registry;
 use event_loop::{Clocks, Journal, LoopFault, Sockets};
 use http_edge::Edge;
-use rules_codec::KeptHook;
 use state_file::StateFault;
 use state_keeper::{NotStarted, Started};
 use std::alloc::Global;
@@ -76,7 +74,8 @@ fn begin<D: Device + Drop, N: Sockets, C: Clocks, J: Journal, O: Opening>(
     opening: &mut O,
 ) -> Life<D, N, C, J>
     requires faultless { D.faults device ≡ 0 }
-    ensures lives { LivesBy (life_promises D.Device N.Sockets C.Clocks J.Journal) device plan means result }
+    requires front { HasFront (D.seen device) plan.origin plan.prepared.front }
+    ensures lives { LivesBy (life_promises D.Device N.Sockets C.Clocks J.Journal) device (Ok plan) means result }
     ensures opened { IsOpenedBy O.Opening.opens opening.old result.end opening.new }
 {
     let mut means = means;
@@ -105,27 +104,23 @@ fn begin<D: Device + Drop, N: Sockets, C: Clocks, J: Journal, O: Opening>(
     }
 }
 
-/// A server's life on the file of its state, whose bytes were read from the device. Nothing is written before it is known that
-/// the start goes on: what stands in the file, the registry and the hooks are looked at, then the clocks. Then what an unfinished
-/// write left is put aside, and the new file takes the place of the old one. Where the registry is narrower than the rules that
-/// the file tells, what goes beyond it ends; those of the hooks that the file lacks are installed behind those that it has.
-/// Clients are told where the sockets listen, and up to 64 connections are served at once until the server can't go on.
+/// A server's life on the file of its state, of whose bytes it was planned. Nothing is written before it is known that the start
+/// goes on: what stands in the file, the registry and the hooks were looked at, then the clocks are. Then what an unfinished write
+/// left is put aside, and the new file takes the place of the old one. Where the registry is narrower than the rules that the file
+/// tells, what goes beyond it ends; those of the hooks that the file lacks are installed behind those that it has. Clients are told
+/// where the sockets listen, and up to 64 connections are served at once until the server can't go on.
 pub fn live<D: Device + Drop, N: Sockets, C: Clocks, J: Journal, O: Opening>(
     alloc: Global,
     device: D,
-    bytes: Vec<u8>,
-    registry: Registry,
-    hooks: &[KeptHook<'_>],
+    planned: Result<Plan, StateFault>,
     means: Means<N, C, J>,
     opening: &mut O,
 ) -> Life<D, N, C, J>
     requires faultless { D.faults device ≡ 0 }
-    ensures life { IsLife (life_promises D.Device N.Sockets C.Clocks J.Journal)
-        (given device bytes.items registry (map hook_fact hooks.now) means) result }
+    requires front { IfOk planned (λ plan. HasFront (D.seen device) plan.origin plan.prepared.front) }
+    ensures life { LivesBy (life_promises D.Device N.Sockets C.Clocks J.Journal) device planned means result }
     ensures opened { IsOpenedBy O.Opening.opens opening.old result.end opening.new }
 {
-    let planned = plan_of(alloc, &bytes, registry, hooks);
-    drop(bytes);
     match planned {
         Ok(plan) => begin(alloc, device, plan, means, opening),
         Err(fault) => Life::of(LifeEnd::Refused(fault), device, means),

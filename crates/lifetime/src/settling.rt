@@ -1,9 +1,9 @@
 //! What a start writes: what an unfinished write left is put aside, and the new file takes the place of the old one.
 
 ghost use Rattle.std.specs.Prelude.{◌≡◌, IfOk, IfErr, OnOk, OnErr};
-ghost use Rattle.batch_file.specs.Crashes.{LeavesOnly};
+ghost use Rattle.batch_file.specs.Crashes.{IsBeside, LeavesOnly};
 ghost use Rattle.lifetime.specs.Starts.{MayReport, ReportsAll, ahead_notices, ended_notices, start_notices, torn_notices};
-ghost use Rattle.state_keeper.specs.Starting.{IsOfDisk, IsOldOr, IsPutOn, IsUntouched};
+ghost use Rattle.state_keeper.specs.Starting.{HasFront, IsOfDisk, IsOldOr, IsPutOn, IsUntouched};
 
 use crate::clock::seconds_ahead;
 use crate::plan::Plan;
@@ -66,11 +66,12 @@ pub(crate) fn settle<D: Device + Drop, J: Journal>(
     journal: &mut J,
 ) -> Result<Started<D, Chain>, NotStarted<D>>
     requires faultless { D.faults device ≡ 0 }
+    requires front { HasFront (D.seen device) plan.origin plan.prepared.front }
     ensures server { IfOk result (λ started. started.server ≡ plan.prepared.server) }
     ensures put { IfOk result (λ started. IsPutOn D.Device plan.prepared.batches device started.keeper) }
     ensures told { OnOk result (ReportsAll J.Journal journal.old (start_notices plan now) journal.new) }
     ensures lost { IfErr result (λ not. LeavesOnly D.moment D.left_since device not.device (IsOldOr D.Device device plan.prepared.batches)) }
-    ensures untouched { IfErr result (λ not. IsUntouched not.fault → not.device ≡ device) }
+    ensures untouched { IfErr result (λ not. IsUntouched not.fault → IsBeside D.seen D.may_leave D.faults device not.device) }
     ensures refused { IfErr result (λ not. IsOfDisk not.fault) }
     ensures told_before { OnErr result (MayReport J.Journal journal.old (torn_notices plan.torn.items) journal.new) }
 {
@@ -78,7 +79,7 @@ pub(crate) fn settle<D: Device + Drop, J: Journal>(
         return Err(NotStarted { fault, device });
     }
     let ahead = seconds_ahead(now, plan.prepared.moment());
-    let started = state_keeper::settle(plan.prepared, device)?;
+    let started = state_keeper::settle(plan.prepared, plan.origin, device)?;
     tell_ended(plan.ended, journal);
     tell_ahead(ahead, journal);
     Ok(started)

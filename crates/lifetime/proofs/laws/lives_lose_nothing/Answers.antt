@@ -5,7 +5,7 @@ use Rattle.lifetime.proofs.laws.lives_lose_nothing.Goals as goal
 
 pub returns-clause-found : goal.returns-clause-found
 returns-clause-found g c registries bytes history lived left found =
-    found_heir (life_promises g.D.Device g.N.Sockets g.C.Clocks g.J.Journal) g.met.D.Device.only_now registries history (λ first. first ≡ bytes) (λ first is. record {
+    found_heir (life_promises g.D.Device g.N.Sockets g.C.Clocks g.J.Journal) g.met.D.Device.only_now g.met.D.Device.only_true registries history (λ first. first ≡ bytes) (λ first is. record {
       history = history;
       comes = is_it;
       lived = subst (λ (b : List ℕ). WasLived b history) (sym is) lived;
@@ -14,5 +14,5 @@ returns-clause-found g c registries bytes history lived left found =
 pub returns-clause-acknowledged : goal.returns-clause-acknowledged
 returns-clause-acknowledged g c registries given begun before ending lived s kept here on is left found =
     let p = life_promises g.D.Device g.N.Sockets g.C.Clocks g.J.Journal in
-    found_heir p g.met.D.Device.only_now registries kept (p.device.left_since ending.tools.keeper.file.device (p.device.moment s.keeper.file.device))
-    (kept_heir p g.met.D.Device.only_now registries kept given begun before ending lived s here on is) left found
+    found_heir p g.met.D.Device.only_now g.met.D.Device.only_true registries kept (p.device.left_since ending.tools.keeper.file.device (p.device.moment s.keeper.file.device))
+    (kept_heir p g.met.D.Device.only_now g.met.D.Device.only_true registries kept given begun before ending lived s here on is) left found
