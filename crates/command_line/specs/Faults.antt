@@ -1,7 +1,7 @@
 -- What a fault of a layer below is to a service: want of memory is told alike wherever it comes.
 use Rattle.std.specs.Prelude.{◌≡◌, ℕ, List}
 use Rattle.command_line.specs.Names.{CannotListen, CannotWrite, ClockAhead, NoSeed, NoSocket, OutOfMemory, Stopped, Unopened, ListenFault, LifeEnd, CommandFault, Serve, Start}
-use Rattle.batch_file.specs.declared.disk_file.OpenFault.TheVariants as opening
+use Rattle.disk_file.specs.declared.faults.OpenFault.TheVariants as opening
 use Rattle.command_line.specs.declared.service.Service.{Service}
 use Rattle.commands.specs.Faults.{IsOfState}
 use Rattle.daemon.specs.declared.fault.ListenFault.TheVariants as listen

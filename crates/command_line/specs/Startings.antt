@@ -3,7 +3,7 @@ use Rattle.std.specs.Prelude.{◌≡◌, ◌≢◌, ⊤, ℕ, List, map, Option,
 use Rattle.command_line.specs.Names.{RegistryRecord, Output, Announces, IsToldBy, Named, HookFact, hook_fact, LifeEnd, Said, CommandFault, CannotWrite, ListenFault, Stopped}
 use Rattle.std.specs.declared.fs.File.{File}
 use Rattle.batch_file.specs.declared.device.Device.{Ghosts as Device}
-use Rattle.batch_file.specs.declared.disk_file.DiskFile.{DiskFile}
+use Rattle.disk_file.specs.declared.file.DiskFile.{DiskFile}
 use Rattle.daemon.specs.ByCount.{HandedCount, ServesCount}
 use Rattle.daemon.specs.Starts.{HandedAnew, HandedOn, LivesOn, ServesAnew, handed_anew, handed_on}
 use Rattle.daemon.specs.declared.line_journal.LineJournal.{LineJournal}

@@ -6,6 +6,8 @@ use Rattle.commands.specs.declared.fault.CommandFault.TheVariants as faults
 use Rattle.command_line.specs.Makings.{FailsMaking}
 use Rattle.lifetime.specs.Plans.{IsPlanOf, RefusesPlan}
 use Rattle.lifetime.specs.declared.plan.Plan.{Plan}
+use Rattle.state_file.specs.declared.fault.StateFault.{StateFault}
+use Rattle.state_file.specs.declared.fault.StateFault.TheVariants as state
 use Rattle.command_line.specs.declared.state_performing.WouldEnd.{WouldEnd}
 
 -- So many codes and tokens would end: those that the narrowing to the registry ends, of the bytes that stood in the state file, and
@@ -48,3 +50,15 @@ TellsDone (Trial config path) file to = IsUntouched to.err × (ended : ℕ) × I
 abbrev pub EndsStateCommand : {W E : Type 0} → StateCommand → File → Status → Outputs W E → Type 0
 EndsStateCommand command file status to =
     ((status ≡ Done) × TellsDone command file to) ⊎ (IsUntouched to.out × TellsFault (FailsStateCommand command file) status to.err)
+
+-- PARTS: only the contracts of this crate's own parts and their proofs cite what follows
+
+-- a state file is refused since it could not be read to its end
+abbrev pub IsUnread : StateFault → Type 0
+IsUnread (state.Device reason) = Unit {0}
+IsUnread _ = ⊥
+
+-- it is told that this file can't be read
+abbrev pub IsCannotRead : List ℕ → CommandFault → Type 0
+IsCannotRead path (faults.CannotRead named) = named.now ≡ path
+IsCannotRead path _ = ⊥

@@ -4,9 +4,9 @@ ghost use Rattle.std.specs.Prelude.{◌≡◌, [], IfOk, IfErr};
 ghost use Rattle.batch_file.specs.Frames.{IsReadable, recovered};
 ghost use Rattle.command_line.specs.Makings.{FailsMaking};
 
-use batch_file::disk_file::{MakeFault, make};
 use batch_file::frames::Frames;
 use commands::CommandFault;
+use disk_file::{MakeFault, make};
 use std::fs::File;
 use std::rt::Files;
 

@@ -19,12 +19,12 @@ use crate::service::{ServeWords, Service};
 use crate::state_performing::perform_state;
 use crate::stopping::{deaf, end_of, unheard, unopened};
 use batch_file::device::Device;
-use batch_file::disk_file::DiskFile;
 use clients::Registry;
 use commands::{CommandFault, Printer, Status, moment_now, perform_command, registry_of, told};
 use daemon::{
     LineJournal, ListenFault, MachineClock, OpeningFault, StateTerms, Terms, serve, start, start_on,
 };
+use disk_file::DiskFile;
 use event_loop::{Journal, Limits};
 use hook_chain::Chain;
 use serving::Stream;

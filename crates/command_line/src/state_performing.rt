@@ -1,15 +1,18 @@
 //! The commands on a state file, from their words' meaning to what is written and how the program then ends.
 
-ghost use Rattle.std.specs.Prelude.{◌≡◌, ◌⊎◌, IfOk, IfErr};
+ghost use Rattle.std.specs.Prelude.{◌≡◌, ◌⊎◌, ◌↔◌, IfOk, IfErr, IsTrue};
+ghost use Rattle.commands.specs.Faults.{IsOfState};
 ghost use Rattle.commands.specs.NamedFiles.{bytes_in};
 ghost use Rattle.commands.specs.Outputs.{output, outputs, IsUntouched, Prints};
 ghost use Rattle.commands.specs.Performed.{IsUnwritten};
-ghost use Rattle.command_line.specs.StateEndings.{would_end, EndsStateCommand, FailsTrial, IsTrial};
+ghost use Rattle.command_line.specs.StateEndings.{would_end, EndsStateCommand, FailsTrial, IsCannotRead, IsTrial, IsUnread};
 
 use crate::making::make_new;
 use crate::state_command::StateCommand;
+use batch_file::source::Bytes;
 use commands::{CommandFault, NamedFile, Printer, Status, bytes_at, registry_of, told};
 use lifetime::plan_of;
+use state_file::StateFault;
 use std::fmt::{self, Display, Formatter, Write};
 use std::fs::File;
 use std::rt::Files;
@@ -30,6 +33,24 @@ impl Display for WouldEnd {
     }
 }
 
+/// Whether a state file is refused since it could not be read to its end.
+fn is_unread(fault: &StateFault) -> bool
+    ensures { IsTrue result ↔ IsUnread fault.now }
+{
+    matches!(fault, StateFault::Device(_))
+}
+
+/// What it is to a command that a start on the state file of a path is refused.
+fn untried<'w>(path: &'w str, fault: StateFault) -> CommandFault<'w>
+    ensures unread { IsUnread fault → IsCannotRead path.now result }
+    ensures read { (IsUnread fault → ⊥) → IsOfState path.now fault result }
+{
+    if is_unread(&fault) {
+        return CommandFault::CannotRead(path);
+    }
+    CommandFault::of_state(path, fault)
+}
+
 /// How many codes and tokens a start on the state file of a path would end, under the registry of a file. Nothing is written.
 fn ended_by<'w, R: Files<File = File> + AllocGlobal>(
     rt: &R,
@@ -45,9 +66,10 @@ fn ended_by<'w, R: Files<File = File> + AllocGlobal>(
     let Some(bytes) = bytes_at(rt, path)? else {
         return Err(CommandFault::CannotRead(path));
     };
-    match plan_of(alloc, &bytes, registry, &[]) {
+    let plan = plan_of(alloc, Bytes::new(&bytes), registry, &[]).plan;
+    match plan {
         Ok(plan) => Ok(plan.ended.unwrap_or(0)),
-        Err(fault) => Err(CommandFault::of_state(path, fault)),
+        Err(fault) => Err(untried(path, fault)),
     }
 }
 

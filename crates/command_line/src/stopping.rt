@@ -2,9 +2,9 @@
 
 ghost use Rattle.command_line.specs.Faults.{IsOfEnd, IsOfListening, IsOfOpening, IsOfServing};
 
-use batch_file::disk_file::OpenFault;
 use commands::CommandFault;
 use daemon::{ListenFault, OpeningFault};
+use disk_file::OpenFault;
 use lifetime::LifeEnd;
 
 /// The fault of a service for which no socket is had at an address.

@@ -8,9 +8,9 @@ ghost use Rattle.commands.specs.declared.fault.CommandFault.TheVariants.{OutOfMe
 use crate::status::Status;
 use assembler::AsmFault;
 use batch_file::appending::BatchFault;
-use batch_file::disk_file::{MakeFault, OpenFault};
 use clients::{ConfigFault, Spot};
 use daemon::SocketFault;
+use disk_file::{MakeFault, OpenFault};
 use event_loop::LoopFault;
 use hook_commands::HookCommandFault;
 use hook_host::HookFault;
