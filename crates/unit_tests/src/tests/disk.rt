@@ -2,8 +2,9 @@
 
 use batch_file::appending::BatchFile;
 use batch_file::device::{Device, ReplaceFault};
-use batch_file::disk_file::{DiskFile, Opened, SystemFile, make};
 use batch_file::frames::Frames;
+use batch_file::source::read_whole;
+use disk_file::{DiskFile, SystemFile, make};
 use std::alloc::{AllocError, Allocator, Global};
 use std::cell::{Cell, RefCell};
 use std::fmt::Debug;
@@ -207,6 +208,7 @@ enum Call {
     Read,
     Replace,
     PutNext,
+    ReadAll,
     SetAside,
     Make,
 }
@@ -240,27 +242,40 @@ fn put_next<D: Device>(device: &mut D) -> Result<(), ReplaceFault> {
     device.place_next()
 }
 
-/// Opens a file. For another call it then puts one in its place, of a batch where that is to be read, else of none, and does
-/// that, over a disk that refuses a sync or a read once so many have succeeded. It gives how the call ended.
-fn ended(machine: Machine<'_>, call: Call, successes: usize) -> Result<String, Fail> {
-    let Machine { alloc, calls } = machine;
-    let opened = DiskFile::open(&machine, "state")?;
-    if let Call::Open = call {
-        return Ok(String::from_str(alloc, "done")?);
-    }
-    let mut frames = Frames::new(alloc)?;
-    if let Call::Read = call {
-        frames.add(b"abc")?;
-    }
-    let Ok(mut file) = BatchFile::place(opened.device, frames) else {
-        return Err(Fail::from("no file is put there"));
-    };
+/// Forgets the calls that were made, and lets so many succeed.
+fn begin_anew(calls: &Calls, successes: usize) {
     if let Ok(mut rows) = calls.rows.try_borrow_mut() {
         rows.clear();
     }
     calls.successes.set(successes);
+}
+
+/// Opens a file. For another call it then reads it to its end, puts one in its place, of a batch where that is to be read, else of
+/// none, and does that, over a disk that refuses a sync or a read once so many have succeeded. It gives how the call ended.
+fn ended(machine: Machine<'_>, call: Call, successes: usize) -> Result<String, Fail> {
+    let Machine { alloc, calls } = machine;
+    let mut source = DiskFile::open(&machine, "state")?;
+    if let Call::Open = call {
+        return Ok(String::from_str(alloc, "done")?);
+    }
+    if let Call::ReadAll = call {
+        begin_anew(calls, successes);
+        return Ok(told_bytes(alloc, read_whole(alloc, &mut source))?);
+    }
+    if read_whole(alloc, &mut source)?.as_slice() != THERE.as_slice() {
+        return Err(Fail::from("other bytes are read"));
+    }
+    let device = source.into_device();
+    let mut frames = Frames::new(alloc)?;
+    if let Call::Read = call {
+        frames.add(b"abc")?;
+    }
+    let Ok(mut file) = BatchFile::place(device, frames) else {
+        return Err(Fail::from("no file is put there"));
+    };
+    begin_anew(calls, successes);
     Ok(match call {
-        Call::Open => String::new(alloc),
+        Call::Open | Call::ReadAll => String::new(alloc),
         Call::Append => told(alloc, file.append(b"abc"))?,
         Call::Read => told_bytes(alloc, file.read_batch(alloc, 16))?,
         Call::Replace => told(alloc, file.replace(Frames::new(alloc)?))?,
@@ -283,6 +298,9 @@ const APPENDED: [&str; 6] = [
     "write at 16 state.next ff",
     "sync_data state.next",
 ];
+
+/// A file is read until nothing more comes: what the system refuses to read is no end.
+const ALL_READ: [&str; 2] = ["read at 0 state", "read at 41 state"];
 
 /// What stands before the batch, and the batch.
 const READ: [&str; 2] = ["read at 16 state.next", "read at 37 state.next"];
@@ -333,6 +351,12 @@ const UNPLACED: &str = "remove state.next\nUnplaced(InputOutput)";
 
 const NOT_KEPT: &str = "remove state.next\nFailed(InputOutput)";
 
+const UNREAD: &str = "Unread(InputOutput)";
+
+/// All bytes of `THERE`.
+const WHOLE: &str = "6f61757468642073746174652076330a\
+    ff0000000355704a4f5f04acab6036b0847d662aba61626300";
+
 const NOT_ASIDE: &str = "remove state.torn\nFailed(InputOutput)";
 
 const UNMADE: &str = "remove other\nMake(InputOutput)";
@@ -340,7 +364,7 @@ const UNMADE: &str = "remove other\nMake(InputOutput)";
 #[test]
 fn what_is_acknowledged_is_on_the_disk(rt: HostRuntime) -> Result<(), Fail> {
     let alloc = rt.alloc();
-    let cases: [(Call, usize, &[&str], &str); 20] = [
+    let cases: [(Call, usize, &[&str], &str); 23] = [
         (Call::Open, 9, &OPENED, "done"),
         (Call::Append, 9, &APPENDED, "done"),
         (Call::Append, 0, &APPENDED[..4], FAILED),
@@ -355,6 +379,9 @@ fn what_is_acknowledged_is_on_the_disk(rt: HostRuntime) -> Result<(), Fail> {
         (Call::PutNext, 0, &NEXT_PUT[..5], NOT_KEPT),
         (Call::PutNext, 1, &NEXT_PUT[..7], NOT_KEPT),
         (Call::PutNext, 2, &NEXT_PUT, FAILED),
+        (Call::ReadAll, 9, &ALL_READ, WHOLE),
+        (Call::ReadAll, 0, &ALL_READ[..1], UNREAD),
+        (Call::ReadAll, 1, &ALL_READ, UNREAD),
         (Call::SetAside, 9, &SET_ASIDE, "done"),
         (Call::SetAside, 0, &SET_ASIDE[..4], NOT_ASIDE),
         (Call::SetAside, 1, &SET_ASIDE, NOT_ASIDE),

@@ -108,7 +108,7 @@ struct Patient<'t> {
 }
 
 impl Keeper for Patient<'_> {
-    ghost use Rattle.std.specs.Prelude.{◌≡◌, ◌<◌, ⊤, None, true};
+    ghost use Rattle.std.specs.Prelude.{◌≡◌, ◌<◌, ◌≤◌, ◌+◌, ⊤, None, true};
 
     ghost stands_for = { λ _ _. ⊤ };
 
@@ -127,6 +127,8 @@ impl Keeper for Patient<'_> {
     ghost is_long = { λ keeper. 0 < keeper.slices };
 
     ghost to_go = { λ keeper. keeper.slices };
+
+    ghost slices = { λ old new. old.slices ≤ new.slices + 1 };
 
     ghost shortens = { λ _ _. ⊥ };
 
