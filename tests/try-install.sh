@@ -182,6 +182,32 @@ systemctl reset-failed oauthd
 systemctl start oauthd
 check started-on-its-own '{"hooks":\["capped"\]}' "$(hooks)"
 check state-file-s-owner '600 oauthd oauthd' "$(stat -c '%a %U %G' $state)"
+
+# A full store: a browser is shown a page
+cat >/run/fill.py <<'PY'
+import base64, socket, sys
+body = "grant_type=client_credentials"
+request = ("POST /token HTTP/1.1\r\nHost: a\r\nContent-Type: application/x-www-form-urlencoded\r\n"
+           f"Authorization: Basic {base64.b64encode(sys.argv[1].encode()).decode()}\r\nContent-Length: {len(body)}\r\n\r\n{body}")
+with socket.create_connection(("127.0.0.1", 8080)) as connection:
+    replies = connection.makefile("rb")
+    for _ in range(1200):
+        connection.sendall(request.encode() * 60)
+        for _ in range(60):
+            status, length = replies.readline().split()[1], 0
+            while (line := replies.readline()) != b"\r\n":
+                if line.lower().startswith(b"content-length:"): length = int(line.split(b":")[1])
+            replies.read(length)
+            if status == b"503": sys.exit("full")
+PY
+check filled full "$(python3 /run/fill.py "$bot" 2>&1)"
+rm -f /run/cookies
+form=$(login_page)
+status -b /run/cookies -c /run/cookies -d do=enter -d user=bob --data-urlencode "password=$(password_of bob)" -d "token=$form" $auth/login >/dev/null
+form=$(web -b /run/cookies "$auth/login?back=$request" | sed -n 's/.*name="token" value="\([0-9a-f]*\)".*/\1/p' | head -n 1)
+check allowed 303 "$(status -b /run/cookies -d do=allow --data-urlencode "back=$request" -d "token=$form" $auth/login)"
+check full-for-a-browser '503 text/html*<h1>Not now</h1>*' "$(web -b /run/cookies -w '%{http_code} %{content_type} ' -o /run/page "$auth$request"; cat /run/page)"
+check full-for-a-client '503 ' "$(web -u "$bot" -d grant_type=client_credentials -w '%{http_code} ' $auth/token)"
 systemctl stop oauthd
 
 # Signals, and line feeds within a header's value: to the server itself, and through nginx
@@ -231,5 +257,5 @@ print("\n".join([registry["operator"], *registry["owners"], *(client["secret"] f
 PY
 cut -d ' ' -f 2 /root/oauthd-passwords)
 check secrets-in-logs 0 "$( (journalctl --no-pager; cat /var/log/nginx/*) | grep -cF -e "$secrets")"
-[ "$tried" = 65 ] || differs 'wanted 65 checks'
+[ "$tried" = 69 ] || differs 'wanted 69 checks'
 end_with checks
