@@ -39,11 +39,11 @@ machine_clock R = record { tells = λ _ _ _. ⊤ }
 
 -- Over the machine's sockets and clocks, and a file of it: one serves connection after connection, a server that is started anew
 -- keeps nothing, and one that is started on the file of its state lives one life.
-abbrev pub startings : {R E S : Type 0} → Device (DiskFile R File) → Journal (LineJournal E) → Stream S → Startings
-startings {R} {E} disk journal streams = record {
+abbrev pub startings : {R E S B : Type 0} → Device (DiskFile R File B) → Journal (LineJournal E) → Stream S → Startings
+startings {R} {E} {S} {B} disk journal streams = record {
   by_count = ServesCount streams (machine_clock R);
   anew = λ handed cause. (served : Served R) × (served.fault ≡ cause) × ServesAnew journal handed served;
-  on_state = λ handed end. (lived : Lived R) × (lived.end ≡ end) × LivesOn disk journal handed lived;
+  on_state = λ handed end. (lived : Lived R B) × (lived.end ≡ end) × LivesOn disk journal handed lived;
 }
 
 -- it is started anew, prints where it listens, and serves

@@ -24,7 +24,7 @@ use commands::{CommandFault, Printer, Status, moment_now, perform_command, regis
 use daemon::{
     LineJournal, ListenFault, MachineClock, OpeningFault, StateTerms, Terms, serve, start, start_on,
 };
-use disk_file::DiskFile;
+use disk_file::{Before, DiskFile};
 use event_loop::{Journal, Limits};
 use hook_chain::Chain;
 use serving::Stream;
@@ -36,6 +36,9 @@ use std::rt::{Clock, Files};
 
 /// What faults and reports are told to, as lines.
 type Lines<'e, E> = LineJournal<'e, E>;
+
+/// The file of a server's state.
+type Disk<'r, R, B> = DiskFile<'r, R, File, B>;
 
 /// The limits by which options say that a server serves.
 fn limits_of(options: &Options<'_>) -> Limits
@@ -78,6 +81,7 @@ fn start_anew<
     R: Files<File = File> + Net + Clock + RandomSource + AllocGlobal,
     W: Printer,
     E: Printer + 'e,
+    B: Before,
 >(
     rt: &'r R,
     terms: Terms<'w>,
@@ -87,7 +91,7 @@ fn start_anew<
     err: &mut E,
 ) -> CommandFault<'w>
     ensures { ((err.new ≡ err.old) × IsNotHeard terms.entry out.old out.new result)
-        ⊎ EndsAnew (startings ⟦<DiskFile<'r, R> as Device>⟧ ⟦<Lines<'e, E> as Journal>⟧ ⟦<R::Stream as Stream>⟧)
+        ⊎ EndsAnew (startings ⟦<Disk<'r, R, B> as Device>⟧ ⟦<Lines<'e, E> as Journal>⟧ ⟦<R::Stream as Stream>⟧)
         (handed_anew registry hooks terms.entry.limits) result (output W.contents W.writes out.old out.new) }
 {
     match start(rt, terms, registry, hooks, out, err) {
@@ -104,6 +108,7 @@ fn start_on_state<
     R: Files<File = File> + Net + Clock + RandomSource + AllocGlobal,
     W: Printer,
     E: Printer + 'e,
+    B: Before,
 >(
     rt: &'r R,
     terms: Terms<'w>,
@@ -113,10 +118,10 @@ fn start_on_state<
     err: &mut E,
 ) -> CommandFault<'w>
     ensures { ((err.new ≡ err.old) × NoState terms.entry state.entry out.old out.new result)
-        ⊎ EndsOn (startings ⟦<DiskFile<'r, R> as Device>⟧ ⟦<Lines<'e, E> as Journal>⟧ ⟦<R::Stream as Stream>⟧) state.entry.path.now
+        ⊎ EndsOn (startings ⟦<Disk<'r, R, B> as Device>⟧ ⟦<Lines<'e, E> as Journal>⟧ ⟦<R::Stream as Stream>⟧) state.entry.path.now
         (handed_by registry terms.entry state.entry) result (output W.contents W.writes out.old out.new) }
 {
-    match start_on(rt, terms, state, registry, out, err) {
+    match start_on::<_, _, _, B>(rt, terms, state, registry, out, err) {
         Ok(lived) => end_of(state.path, lived.end),
         Err(fault) => unopened(terms.address, state.path, fault),
     }
@@ -130,6 +135,7 @@ fn serve_as<
     R: Files<File = File> + Net + Clock + RandomSource + AllocGlobal,
     W: Printer,
     E: Printer + 'e,
+    B: Before,
 >(
     rt: &'r R,
     service: &Service<'w>,
@@ -137,10 +143,10 @@ fn serve_as<
     out: &mut W,
     err: &mut E,
 ) -> Result<(), CommandFault<'w>>
-    ensures done { OnOk result (ServeEnded (startings ⟦<DiskFile<'r, R> as Device>⟧ ⟦<Lines<'e, E> as Journal>⟧ ⟦<R::Stream as Stream>⟧)
+    ensures done { OnOk result (ServeEnded (startings ⟦<Disk<'r, R, B> as Device>⟧ ⟦<Lines<'e, E> as Journal>⟧ ⟦<R::Stream as Stream>⟧)
         service.now (files_in files.entry) (output W.contents W.writes out.old out.new)) }
     ensures fault { IfErr result (λ fault.
-        FailsService (startings ⟦<DiskFile<'r, R> as Device>⟧ ⟦<Lines<'e, E> as Journal>⟧ ⟦<R::Stream as Stream>⟧)
+        FailsService (startings ⟦<Disk<'r, R, B> as Device>⟧ ⟦<Lines<'e, E> as Journal>⟧ ⟦<R::Stream as Stream>⟧)
         service.now (files_in files.entry) fault
         (outputs (output W.contents W.writes out.old out.new) (output E.contents E.writes err.old err.new))) }
 {
@@ -157,14 +163,14 @@ fn serve_as<
         limits: limits_of(options),
     };
     let Some(path) = options.state() else {
-        return Err(start_anew(rt, terms, registry, chain, out, err));
+        return Err(start_anew::<_, _, _, B>(rt, terms, registry, chain, out, err));
     };
     let hooks = kept_hooks(rt.alloc(), &codes)?;
     let state = StateTerms {
         path,
         hooks: &hooks,
     };
-    Err(start_on_state(rt, terms, state, registry, out, err))
+    Err(start_on_state::<_, _, _, B>(rt, terms, state, registry, out, err))
 }
 
 /// Serves, and says how the program then ends. `files` are what stands in the files that the service names.
@@ -174,12 +180,13 @@ pub fn perform_service<
     R: Files<File = File> + Net + Clock + RandomSource + AllocGlobal,
     W: Printer,
     E: Printer + 'e,
+    B: Before,
 >(rt: &'r R, service: &Service<'_>, files: CallFiles<'_>, out: &mut W, err: &mut E) -> Status
     ensures { let to = outputs (output W.contents W.writes out.old out.new) (output E.contents E.writes err.old err.new) in
-        IsUnwritten result to ⊎ EndsService (startings ⟦<DiskFile<'r, R> as Device>⟧ ⟦<Lines<'e, E> as Journal>⟧ ⟦<R::Stream as Stream>⟧)
+        IsUnwritten result to ⊎ EndsService (startings ⟦<Disk<'r, R, B> as Device>⟧ ⟦<Lines<'e, E> as Journal>⟧ ⟦<R::Stream as Stream>⟧)
         service.now (files_in files.entry) result to }
 {
-    match serve_as(rt, service, files, out, err) {
+    match serve_as::<_, _, _, B>(rt, service, files, out, err) {
         Ok(()) => Status::Done,
         Err(fault) => told(fault, err),
     }
@@ -192,9 +199,10 @@ fn perform_call<
     R: Files<File = File> + Net + Clock + RandomSource + AllocGlobal,
     W: Printer,
     E: Printer + 'e,
+    B: Before,
 >(rt: &'r R, call: &Call<'_>, files: CallFiles<'_>, out: &mut W, err: &mut E) -> Status
     ensures { let to = outputs (output W.contents W.writes out.old out.new) (output E.contents E.writes err.old err.new) in
-        IsUnwritten result to ⊎ EndsCall (startings ⟦<DiskFile<'r, R> as Device>⟧ ⟦<Lines<'e, E> as Journal>⟧ ⟦<R::Stream as Stream>⟧)
+        IsUnwritten result to ⊎ EndsCall (startings ⟦<Disk<'r, R, B> as Device>⟧ ⟦<Lines<'e, E> as Journal>⟧ ⟦<R::Stream as Stream>⟧)
         call.now (files_in files.entry) result to }
 {
     match call {
@@ -203,7 +211,7 @@ fn perform_call<
             perform_command(rt.alloc(), *command, file, moment_now(rt), out, err)
         }
         Call::State(command) => perform_state(rt, *command, files.named, out, err),
-        Call::Service(service) => perform_service(rt, service, files, out, err),
+        Call::Service(service) => perform_service::<_, _, _, B>(rt, service, files, out, err),
     }
 }
 
@@ -215,9 +223,10 @@ pub fn perform<
     R: Files<File = File> + Net + Clock + RandomSource + AllocGlobal,
     W: Printer,
     E: Printer + 'e,
+    B: Before,
 >(rt: &'r R, words: &[String], out: &mut W, err: &mut E) -> Status
     ensures { let to = outputs (output W.contents W.writes out.old out.new) (output E.contents E.writes err.old err.new) in
-        IsUnwritten result to ⊎ EndsWords (startings ⟦<DiskFile<'r, R> as Device>⟧ ⟦<Lines<'e, E> as Journal>⟧ ⟦<R::Stream as Stream>⟧)
+        IsUnwritten result to ⊎ EndsWords (startings ⟦<Disk<'r, R, B> as Device>⟧ ⟦<Lines<'e, E> as Journal>⟧ ⟦<R::Stream as Stream>⟧)
         words.now result to }
 {
     let call = match Call::from_words(rt.alloc(), words) {
@@ -225,7 +234,7 @@ pub fn perform<
         Err(fault) => return told(fault, err),
     };
     match read_files(rt, &call) {
-        Ok(files) => perform_call(rt, &call, files, out, err),
+        Ok(files) => perform_call::<_, _, _, B>(rt, &call, files, out, err),
         Err(fault) => told(fault, err),
     }
 }

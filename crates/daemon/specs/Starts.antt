@@ -81,8 +81,8 @@ handed_on registry hooks limits = record { registry = registry; hooks = hooks; l
 
 -- the file was opened, and asked for nothing else: it had these bytes, or begins with them, where it was not read to its end. Over
 -- it, the machine's sockets and clocks, and with some journal, the server lived
-pub record LivesOn {R E : Type 0} (disk : Device (DiskFile R File)) (journal : Journal (LineJournal E)) (handed : HandedOn) (lived : Lived R) : Type 0 where
-  pub file : DiskFile R File
+pub record LivesOn {R E B : Type 0} (disk : Device (DiskFile R File B)) (journal : Journal (LineJournal E)) (handed : HandedOn) (lived : Lived R B) : Type 0 where
+  pub file : DiskFile R File B
   pub bytes : List ℕ
   pub is_opened : file.log.calls ≡ only_opened bytes
   pub means : Means MachineSockets (MachineClocks R) (LineJournal E)

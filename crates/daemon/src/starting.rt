@@ -16,7 +16,7 @@ use crate::ports::Ports;
 use crate::sockets::MachineSockets;
 use batch_file::device::Device;
 use clients::Registry;
-use disk_file::DiskFile;
+use disk_file::{Before, DiskFile, Unknown};
 use event_loop::{Journal, Limits, LoopFault};
 use hook_chain::Chain;
 use lifetime::{AnewEnd, Life, LifeEnd, Means, Opening, Planned, live, live_anew, plan_of};
@@ -55,9 +55,9 @@ pub struct Served<'r, R> {
 
 /// What is left of a server on the file of its state, that was not started or can't go on.
 #[derive(Drop)]
-pub struct Lived<'r, R> {
+pub struct Lived<'r, R, B = Unknown> {
     pub end: LifeEnd,
-    pub device: DiskFile<'r, R>,
+    pub device: DiskFile<'r, R, File, B>,
     pub sockets: MachineSockets,
     pub clocks: MachineClocks<'r, R>,
     pub random: MachineRandom<'r, R>,
@@ -151,13 +151,15 @@ pub fn start<'r, 'e, R: Net + Clock + RandomSource + AllocGlobal, W: Write, E: W
 /// Listens at an address, opens, locks and reads the file of a server's state, and starts the server on what stands there, with
 /// those of the hooks that it lacks. Once it is known that the start goes on it is told where it listens, and up to 64 connections are
 /// served at once, by changes that are kept before a reply tells of them, until the program is stopped. What is told to `err` is
-/// what the start ends or puts aside, and the faults of connections, in at most one line a second.
+/// what the start ends or puts aside, and the faults of connections, in at most one line a second. `B` names what may have been
+/// on the file's disk before.
 pub fn start_on<
     'r,
     'e,
     R: Files<File = File> + Net + Clock + RandomSource + AllocGlobal,
     W: Write,
     E: Write,
+    B: Before,
 >(
     rt: &'r R,
     terms: Terms<'_>,
@@ -165,16 +167,16 @@ pub fn start_on<
     registry: Registry,
     out: &mut W,
     err: &'e mut E,
-) -> Result<Lived<'r, R>, OpeningFault>
+) -> Result<Lived<'r, R, B>, OpeningFault>
     ensures told { IfOk result (λ lived. IsToldBy W.contents out.old lived.end out.new) }
-    ensures lives { IfOk result (LivesOn ⟦<DiskFile<'r, R> as Device>⟧ ⟦<LineJournal<'e, E> as Journal>⟧
+    ensures lives { IfOk result (LivesOn ⟦<DiskFile<'r, R, File, B> as Device>⟧ ⟦<LineJournal<'e, E> as Journal>⟧
         (handed_on registry (map hook_fact state.entry.hooks.now) terms.entry.limits)) }
     ensures silent { OnErr result (out.new ≡ out.old) }
     ensures quiet { OnErr result (err.new ≡ err.old) }
 {
     let mut random = MachineRandom::new(rt);
     let begun = begin(rt, terms.address, &mut random)?;
-    let file = DiskFile::open(rt, state.path)?;
+    let file = DiskFile::<'r, R, File, B>::open(rt, state.path)?;
     let Planned { source, plan } = plan_of(rt.alloc(), file, registry, state.hooks);
     let mut told = Announcement {
         address: begun.ports.address(),

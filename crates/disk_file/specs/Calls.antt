@@ -102,19 +102,20 @@ IsKeptBy true Placed before c = IfSome (next_on_disk before) (λ next. c ≡ nex
 IsKeptBy true (Read at bytes) before c = bytes ≡ take (length bytes) (drop at (content before))
 IsKeptBy _ _ before c = Unit {0}
 
--- a file that was opened may be read from the system's memory, so nothing is known of what is on the disk
-abbrev pub IsOpening : Call → Type 0
-IsOpening (Opened bytes) = Unit {0}
-IsOpening _ = ⊥
+-- A file that was opened may be read from the system's memory: on the disk is what may have stood there before, of which what was
+-- read says nothing.
+abbrev pub StoodBefore : (List ℕ → Type 0) → Call → List ℕ → Type 0
+StoodBefore stood (Opened bytes) c = stood c
+StoodBefore stood _ c = ⊥
 
--- what a crash after these calls may leave
-abbrev pub MayLeave : List Logged → List ℕ → Type 0
-MayLeave [] c = ⊥
-MayLeave (e ∷ []) c = IsOpening e.call
-MayLeave (e ∷ f ∷ before) c =
-    ((d : List ℕ) × MayLeave (f ∷ before) d × CallStep e.call (f ∷ before) d c) × IsKeptBy e.is_ok e.call (f ∷ before) c
+-- what a crash after these calls may leave, where this may have stood on the disk before
+abbrev pub MayLeave : (List ℕ → Type 0) → List Logged → List ℕ → Type 0
+MayLeave stood [] c = ⊥
+MayLeave stood (e ∷ []) c = StoodBefore stood e.call c
+MayLeave stood (e ∷ f ∷ before) c =
+    ((d : List ℕ) × MayLeave stood (f ∷ before) d × CallStep e.call (f ∷ before) d c) × IsKeptBy e.is_ok e.call (f ∷ before) c
 
 -- what a crash since that many calls had been made might have left
-abbrev pub LeftSince : List Logged → ℕ → List ℕ → Type 0
-LeftSince [] t c = ⊥
-LeftSince (e ∷ before) t c = MayLeave (e ∷ before) c ⊎ ((t ≤ length before) × LeftSince before t c)
+abbrev pub LeftSince : (List ℕ → Type 0) → List Logged → ℕ → List ℕ → Type 0
+LeftSince stood [] t c = ⊥
+LeftSince stood (e ∷ before) t c = MayLeave stood (e ∷ before) c ⊎ ((t ≤ length before) × LeftSince stood before t c)

@@ -11,6 +11,7 @@ ghost use Rattle.disk_file.specs.Calls.{content, failures, next_content, next_on
 ghost use Rattle.disk_file.specs.CallsParts.{logged, RenamesNothing};
 ghost use Rattle.disk_file.specs.Moments.{counts_now_of, only_now_of, only_true_of};
 
+use crate::before::{Before, Unknown};
 use crate::call_log::{CallLog, DiskCall};
 use crate::faults::OpenFault;
 use crate::making::{folder_of, make_file, options};
@@ -21,6 +22,7 @@ use batch_file::system::SystemFault;
 use std::alloc::Global;
 use std::fs::{self, File, Metadata, OpenFile, TryLockError};
 use std::io::{self, Read, Write};
+use std::marker::PhantomData;
 use std::os::unix::fs::{FileExt, MetadataExt, lchown};
 use std::rt::Files;
 
@@ -42,9 +44,10 @@ impl SystemFile for File {
     }
 }
 
-/// A file of the system, open for reading and writing and locked, and the paths of those beside it.
+/// A file of the system, open for reading and writing and locked, and the paths of those beside it. `B` names what may have been
+/// on its disk before.
 #[derive(Drop)]
-pub struct DiskFile<'r, R, F = File> {
+pub struct DiskFile<'r, R, F = File, B = Unknown> {
     rt: &'r R,
     pub(crate) file: F,
     folder: F,
@@ -56,6 +59,7 @@ pub struct DiskFile<'r, R, F = File> {
     /// The next file, where one was begun and no call on it was refused since.
     next: Option<F>,
     pub(crate) log: CallLog,
+    before: PhantomData<B>,
 }
 
 /// The calls on a file that was opened, and of which nothing was read.
@@ -141,11 +145,11 @@ fn is_same<F: OpenFile>(found: io::Result<Metadata>, file: &F) -> bool {
     (opened.dev(), opened.ino()) == (found.dev(), found.ino())
 }
 
-impl<'r, F: SystemFile, R: Files<File = F> + AllocGlobal> DiskFile<'r, R, F> {
+impl<'r, F: SystemFile, R: Files<File = F> + AllocGlobal, B: Before> DiskFile<'r, R, F, B> {
     /// Opens the file of a path and locks it: nothing is made but the file beside it that holds the lock. What is read of it
     /// may not be on the disk, where an earlier program could not write it.
-    pub fn open(rt: &'r R, path: &str) -> Result<DiskSource<'r, R, F>, OpenFault>
-        ensures begun { IfOk result (λ source. ⟦<DiskSource<'r, R, F> as ByteSource>⟧.told source ≡ []) }
+    pub fn open(rt: &'r R, path: &str) -> Result<DiskSource<'r, R, F, B>, OpenFault>
+        ensures begun { IfOk result (λ source. ⟦<DiskSource<'r, R, F, B> as ByteSource>⟧.told source ≡ []) }
     {
         let alloc = rt.alloc();
         let next_path = format!(in alloc; "{path}.next")?;
@@ -170,6 +174,7 @@ impl<'r, F: SystemFile, R: Files<File = F> + AllocGlobal> DiskFile<'r, R, F> {
             torn_path,
             next: None,
             log: opened(),
+            before: PhantomData,
         }))
     }
 
@@ -238,14 +243,15 @@ impl<'r, F: SystemFile, R: Files<File = F> + AllocGlobal> DiskFile<'r, R, F> {
     }
 }
 
-impl<'r, F: SystemFile, R: Files<File = F> + AllocGlobal> Device for DiskFile<'r, R, F> {
+impl<'r, F: SystemFile, R: Files<File = F> + AllocGlobal, B: Before> Device
+    for DiskFile<'r, R, F, B> {
     ghost seen = { λ device. content device.log.calls };
 
-    ghost may_leave = { λ device left. MayLeave device.log.calls left };
+    ghost may_leave = { λ device left. MayLeave B.left device.log.calls left };
 
     ghost moment = { λ device. length device.log.calls };
 
-    ghost left_since = { λ device t left. LeftSince device.log.calls t left };
+    ghost left_since = { λ device t left. LeftSince B.left device.log.calls t left };
 
     ghost faults = { λ device. failures device.log.calls };
 
@@ -255,11 +261,11 @@ impl<'r, F: SystemFile, R: Files<File = F> + AllocGlobal> Device for DiskFile<'r
 
     ghost next_on_disk = { λ device. next_on_disk device.log.calls };
 
-    ghost counts_now = { λ device t left le now. counts_now_of device.log.calls t left le now };
+    ghost counts_now = { λ device t left le now. counts_now_of B.left device.log.calls t left le now };
 
-    ghost only_now = { λ device left since. only_now_of device.log.calls left since };
+    ghost only_now = { λ device left since. only_now_of B.left device.log.calls left since };
 
-    ghost only_true = { λ device left now. only_true_of device.log.calls left now };
+    ghost only_true = { λ device left now. only_true_of B.left device.log.calls left now };
 
     // The system promises nothing of what it tells of a path.
     ghost tells_place = { λ _ _. ⊤ };

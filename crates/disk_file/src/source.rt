@@ -1,10 +1,11 @@
 //! A file of the system that was opened, and is read in pieces before it is a device.
 
-ghost use Rattle.std.specs.Prelude.{◌≡◌, ◌≤◌, [], List, ℕ, length, IfOk, IsTrue};
+ghost use Rattle.std.specs.Prelude.{◌≡◌, ◌≤◌, ◌↔◌, [], List, ℕ, length, IfOk, IsTrue};
 ghost use Rattle.disk_file.specs.Calls.{content, failures, only_opened};
 
+use crate::before::{Before, Unknown};
 use crate::file::{DiskFile, SystemFile, opened};
-use batch_file::device::DeviceFault;
+use batch_file::device::{Device, DeviceFault};
 use batch_file::source::ByteSource;
 use std::alloc::Global;
 use std::fs::File;
@@ -17,8 +18,8 @@ const TRIES: usize = 1000;
 
 /// A file that was opened and locked, and how far it was read.
 #[derive(Drop)]
-pub struct DiskSource<'r, R, F = File> {
-    device: DiskFile<'r, R, F>,
+pub struct DiskSource<'r, R, F = File, B = Unknown> {
+    device: DiskFile<'r, R, F, B>,
     /// So many of its bytes were read.
     at: u64,
     /// Its end was reached.
@@ -26,11 +27,11 @@ pub struct DiskSource<'r, R, F = File> {
     ghost opened: { device.log.calls ≡ only_opened (content device.log.calls) },
 }
 
-impl<'r, F: SystemFile, R: Files<File = F> + AllocGlobal> DiskSource<'r, R, F> {
+impl<'r, F: SystemFile, R: Files<File = F> + AllocGlobal, B: Before> DiskSource<'r, R, F, B> {
     /// Nothing was read of it.
-    pub(crate) fn new(device: DiskFile<'r, R, F>) -> DiskSource<'r, R, F>
+    pub(crate) fn new(device: DiskFile<'r, R, F, B>) -> DiskSource<'r, R, F, B>
         requires { device.log.calls ≡ only_opened [] }
-        ensures { ⟦<DiskSource<'r, R, F> as ByteSource>⟧.told result ≡ [] }
+        ensures { ⟦<DiskSource<'r, R, F, B> as ByteSource>⟧.told result ≡ [] }
     {
         DiskSource {
             device,
@@ -39,17 +40,20 @@ impl<'r, F: SystemFile, R: Files<File = F> + AllocGlobal> DiskSource<'r, R, F> {
         }
     }
 
-    /// The file as a device: what it has is what was read, where it was read to its end.
-    pub fn into_device(self) -> DiskFile<'r, R, F>
+    /// The file as a device: what it has is what was read, where it was read to its end. What a crash may leave of it is what may
+    /// have stood on the disk before.
+    pub fn into_device(self) -> DiskFile<'r, R, F, B>
         ensures opened { (bytes : List ℕ) × (result.log.calls ≡ only_opened bytes)
-            × (⟦<DiskSource<'r, R, F> as ByteSource>⟧.is_over self.entry → bytes ≡ ⟦<DiskSource<'r, R, F> as ByteSource>⟧.told self.entry) }
+            × (⟦<DiskSource<'r, R, F, B> as ByteSource>⟧.is_over self.entry → bytes ≡ ⟦<DiskSource<'r, R, F, B> as ByteSource>⟧.told self.entry) }
         ensures faultless { failures result.log.calls ≡ 0 }
+        ensures before { (c : List ℕ) → ⟦<DiskFile<'r, R, F, B> as Device>⟧.may_leave result c ↔ B.left c }
     {
         self.device
     }
 }
 
-impl<'r, F: SystemFile, R: Files<File = F> + AllocGlobal> ByteSource for DiskSource<'r, R, F> {
+impl<'r, F: SystemFile, R: Files<File = F> + AllocGlobal, B: Before> ByteSource
+    for DiskSource<'r, R, F, B> {
     ghost told = { λ source. content source.device.log.calls };
 
     ghost is_over = { λ source. IsTrue source.over };

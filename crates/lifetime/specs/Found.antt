@@ -17,7 +17,7 @@ settled_at lived = None
 -- What may be found, where such bytes were found at first, by lives that were handed these registries. A life begins on bytes
 -- that are found, and a crash of it leaves others: from when it had put its file on the device (`once_settled`); or at any moment
 -- of it (`ever`), where this, if it may be the old file still, was found before. What stands on the disk when a file is opened,
--- its device may not know.
+-- its device may not know: of a `DiskFile` it is what is chosen for `Before`.
 pub data MayBeFound {D N C J : Type 0} (p : LifePromises D N C J) (registries : List RegistryRecord) (First : List ℕ → Type 0) : List ℕ → Type 0 where
   at_first : (left : List ℕ) → First left → MayBeFound p registries First left
   once_settled : (given : Given D N C J) (life : Life D N C J) (t : ℕ) (left : List ℕ) → MayBeFound p registries First given.bytes →

@@ -3,13 +3,14 @@
 
 use command_line::perform;
 use commands::{program_words, told};
+use disk_file::Unknown;
 use std::process::ExitCode;
 
 fn main(rt: HostRuntime) -> ExitCode {
     let mut out = rt.stdout();
     let mut err = rt.stderr();
     let status = match program_words(&rt) {
-        Ok(words) => perform(&rt, &words, &mut out, &mut err),
+        Ok(words) => perform::<_, _, _, Unknown>(&rt, &words, &mut out, &mut err),
         Err(fault) => told(fault, &mut err),
     };
     ExitCode::from(status.code())

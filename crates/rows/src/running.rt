@@ -2,6 +2,7 @@
 
 use command_line::perform;
 use commands::Status;
+use disk_file::Unknown;
 use row_files::comparing::{Ended, differences};
 use row_files::row::{Row, RowFile, Talk, Word};
 use row_files::world::World;
@@ -65,7 +66,7 @@ impl<R: Files<File = File> + Net + Clock + RandomSource + AllocGlobal> Runner<'_
     /// Carries out a command line. Where memory is refused the runner stops, unless the row wants that.
     fn ended(&self, words: &[String]) -> io::Result<Ended> {
         let (mut out, mut err) = (Vec::new(self.alloc), Vec::new(self.alloc));
-        let status = perform(self.rt, words, &mut out, &mut err).code();
+        let status = perform::<_, _, _, Unknown>(self.rt, words, &mut out, &mut err).code();
         if status == Status::NoMemory.code() && self.row.status != Some(status) {
             return Err(io::Error::from(AllocError));
         }

@@ -4,7 +4,7 @@ use batch_file::appending::BatchFile;
 use batch_file::device::{Device, ReplaceFault};
 use batch_file::frames::Frames;
 use batch_file::source::read_whole;
-use disk_file::{DiskFile, SystemFile, make};
+use disk_file::{DiskFile, SystemFile, Unknown, make};
 use std::alloc::{AllocError, Allocator, Global};
 use std::cell::{Cell, RefCell};
 use std::fmt::Debug;
@@ -254,7 +254,7 @@ fn begin_anew(calls: &Calls, successes: usize) {
 /// none, and does that, over a disk that refuses a sync or a read once so many have succeeded. It gives how the call ended.
 fn ended(machine: Machine<'_>, call: Call, successes: usize) -> Result<String, Fail> {
     let Machine { alloc, calls } = machine;
-    let mut source = DiskFile::open(&machine, "state")?;
+    let mut source = DiskFile::<_, _, Unknown>::open(&machine, "state")?;
     if let Call::Open = call {
         return Ok(String::from_str(alloc, "done")?);
     }
