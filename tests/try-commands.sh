@@ -65,7 +65,7 @@ begins 'help of a command' 'asm FILE: turns the text of a hook into the hex of i
 
 # what is refused
 printf 'mov64 r0 1\nfrob\n' >bad.asm
-ends 'a text that says no program' 1 '' 'oauthd: line 2: UnknownWord\n' asm bad.asm
+ends 'a text that says no program' 1 '' 'oauthd: line 2: UnknownWord "frob"\n' asm bad.asm
 printf '8500000000000000\n' >call.hex
 ends 'bytes that are no program' 1 '' 'oauthd: Insn Call(0)\n' list call.hex
 printf '0500ffff000000009500000000000000\n' >back.hex
@@ -80,12 +80,18 @@ ends 'a run that would be stuck' 1 '' 'oauthd: Verify UnsetRegister(0)\n' run 95
 ends 'a run that is refused' 1 '' 'oauthd: Insn Empty\n' run '' "$record"
 
 # what is used badly
-ends 'no words' 2 '' 'oauthd: bad arguments\n'
-ends 'other words' 2 '' 'oauthd: bad arguments\n' frob
+ends 'no words' 2 '' 'oauthd: bad arguments; oauthd help lists the commands\n'
+ends 'other words' 2 '' 'oauthd: bad arguments; oauthd help lists the commands\n' frob
+ends 'a word too few' 2 '' 'oauthd: bad arguments for check; oauthd help check has its words\n' check
+ends 'a name of nothing' 2 '' 'oauthd: nothing is known of nonsense; oauthd help lists the commands\n' help nonsense
+start='oauthd: start wants ADDR and CONFIG before all options:'
+ends 'no address' 2 '' "$start ADDR is missing; oauthd help start has its words\n" start
+ends 'an option before the address' 2 '' "$start ADDR is missing; oauthd help start has its words\n" start --state x
+ends 'no registry' 2 '' "$start CONFIG is missing; oauthd help start has its words\n" start 127.0.0.1:0 --state x
 ends 'code that is no hex' 2 '' 'oauthd: bad arguments\n' run 9 "$record"
 ends 'a kind that is none' 2 '' 'oauthd: bad arguments\n' ask 4 1000 1 1 3 300
 ends 'a record that is none' 2 '' 'oauthd: bad record\n' run $allow 00
-ends 'a file that is no hex' 2 '' 'oauthd: bad arguments\n' check bad.asm
+ends 'a file that is no hex' 2 '' 'oauthd: not hex: bad.asm\n' check bad.asm
 ends 'a file that is no hex, told' 2 '' 'oauthd: not hex: bad.asm\n' check --why bad.asm
 printf '\177ELF\2\1\1' >hook.o
 ends 'an ELF file' 2 '' 'oauthd: ELF file: hook.o\n' list --slots hook.o
@@ -99,7 +105,7 @@ for words in '127.0.0.1=wants a port' '127.0.0.1:0 c --frob 1=--frob is not know
     [ "$why" = 'wants a port' ] && why='127.0.0.1 wants a port'
     ends "start ${words%=*}" 2 '' "oauthd: bad arguments: $why\n" start ${words%=*}
 done
-ends 'a number by place that is none' 2 '' 'oauthd: bad arguments\n' start 127.0.0.1:0 "$registry" x
+ends 'a number by place that is none' 2 '' 'oauthd: bad arguments for start; oauthd help start has its words\n' start 127.0.0.1:0 "$registry" x
 ends 'a hook that is not there' 2 '' 'oauthd: cannot read nowhere\n' start 127.0.0.1:0 "$registry" --hook a=nowhere
 ends 'a hook that is refused' 2 '' 'oauthd: hook b: Verify JumpBack(0)\n' start 127.0.0.1:0 "$registry" --hook a=hook.hex --hook b=back.hex
 ends 'two hooks of one name' 2 '' 'oauthd: hook a: NameTaken\n' start 127.0.0.1:0 "$registry" --hook a=hook.hex --hook2 a=hook.hex

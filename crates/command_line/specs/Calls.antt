@@ -1,6 +1,6 @@
 -- What the words of a command line call for, and the file that is read for it.
 use Rattle.std.specs.Prelude.{◌≡◌, ⊤, ℕ, ◌-◌, Bool, false, ◌||◌, if◌then◌else◌, List, [], ◌∷◌, codes, length, map, Option, None, Some, option_map, unwrap_or, slice_get, Result, Ok, Err}
-use Rattle.command_line.specs.Names.{string_bytes, Call, Command, State, CommandFault, BadArguments, OutOfMemory, HookSaid, file_named_by, IsCommand, Arguments}
+use Rattle.command_line.specs.Names.{string_bytes, Call, Command, State, CommandFault, BadArguments, BadCommand, OutOfMemory, HookSaid, file_named_by, IsCommand, Arguments}
 use Rattle.std.specs.Str.{bytes_eq}
 use Rattle.command_line.specs.declared.call.Call.TheVariants.{Service}
 use Rattle.commands.specs.declared.command.Command.TheVariants.{Explain}
@@ -22,11 +22,29 @@ NameCall words (Command command) = IsCommand words command
 NameCall words (State command) = IsStateCommand words command
 NameCall words (Service service) = IsService words service
 
--- how names are read: as the call that they name, and as bad arguments where there is none, but for a word behind `start` that
--- is refused
+-- words name no call
+abbrev pub NameNoCall : Arguments → Type 0
+NameNoCall words = (call : Call) → NameCall words call → ⊥
+
+-- a word is the name of a command, by which `help` explains it
+abbrev pub is_command : List ℕ → Bool
+is_command name =
+    bytes_eq name (codes "run") || bytes_eq name (codes "ask") || bytes_eq name (codes "ask2") || bytes_eq name (codes "asm") ||
+    bytes_eq name (codes "list") || bytes_eq name (codes "check") || bytes_eq name (codes "check2") || bytes_eq name (codes "start") ||
+    bytes_eq name (codes "serve") || bytes_eq name (codes "registry") || bytes_eq name (codes "state") || bytes_eq name (codes "replay") ||
+    bytes_eq name (codes "help")
+
+-- the command's name with which words begin
+abbrev pub command_in : List (List ℕ) → Option (List ℕ)
+command_in [] = None
+command_in (name ∷ words) = if is_command name then Some name else None
+
+-- how names are read: as the call that they name, and where there is none as bad arguments, of a command where they begin with
+-- the name of one; but for words behind `start` of which one is missing, or is refused
 abbrev pub AreNamesRead : Arguments → Result Call CommandFault → Type 0
 AreNamesRead words (Ok call) = NameCall words call
-AreNamesRead words (Err BadArguments) = (call : Call) → NameCall words call → ⊥
+AreNamesRead words (Err BadArguments) = NameNoCall words × (command_in (map string_bytes words) ≡ None)
+AreNamesRead words (Err (BadCommand name)) = NameNoCall words × (command_in (map string_bytes words) ≡ Some name.now)
 AreNamesRead words (Err OutOfMemory) = ⊤
 AreNamesRead words (Err fault) = ServiceFails (map string_bytes words) fault
 

@@ -1,7 +1,8 @@
 -- The commands that serve connections: their words, and the file that they name.
 use Rattle.std.specs.Prelude.{◌≡◌, ⊤, ℕ, List, [], ◌∷◌, map, codes, length, Some, unwrap_or, Ok, Err}
-use Rattle.command_line.specs.Names.{string_bytes, HookSaid, Said, clock_limit, wrong, StartWords, CommandFault, BadWord, OutOfMemory, Serve, Start, IsHexOf, Arguments}
+use Rattle.command_line.specs.Names.{string_bytes, HookSaid, Said, clock_limit, wrong, StartWords, CommandFault, BadWord, NoAddress, NoConfig, OutOfMemory, Serve, Start, IsHexOf, Arguments}
 use Rattle.start_words.specs.Numbers.{number_said}
+use Rattle.start_words.specs.Options.{no_address, no_config}
 use Rattle.start_words.specs.Start.{given_by, start_in}
 use Rattle.event_loop.specs.declared.limits.Limits.{Limits}
 use Rattle.command_line.specs.declared.service.ServeWords.{ServeWords}
@@ -23,8 +24,10 @@ pub record GiveServe (words : List (List ℕ)) (given : ServeWords) : Type 0 whe
 abbrev pub GiveStart : List (List ℕ) → StartWords → Type 0
 GiveStart words given = start_in words ≡ Ok (given_by given)
 
--- why a word behind `start` is refused; memory may be wanted, too
+-- why the words behind `start` are refused: one is missing, or is wrong; memory may be wanted, too
 abbrev pub StartFails : List (List ℕ) → CommandFault → Type 0
+StartFails words NoAddress = start_in words ≡ Err no_address
+StartFails words NoConfig = start_in words ≡ Err no_config
 StartFails words (BadWord word fault) = start_in words ≡ Err (wrong word.now fault)
 StartFails words OutOfMemory = ⊤
 StartFails words fault = ⊥
@@ -44,6 +47,8 @@ IsNoService words = (service : Service) → NameService (map string_bytes words)
 -- why words that begin with a service's name are refused
 abbrev pub ServiceFails : List (List ℕ) → CommandFault → Type 0
 ServiceFails words OutOfMemory = ⊤
+ServiceFails (name ∷ words) NoAddress = (name ≡ codes "start") × StartFails words NoAddress
+ServiceFails (name ∷ words) NoConfig = (name ≡ codes "start") × StartFails words NoConfig
 ServiceFails (name ∷ words) (BadWord word fault) = (name ≡ codes "start") × StartFails words (BadWord word fault)
 ServiceFails words fault = ⊥
 

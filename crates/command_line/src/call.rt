@@ -3,7 +3,7 @@
 ghost use Rattle.std.specs.Prelude.{◌≡◌, map, string_bytes};
 ghost use Rattle.std.specs.Option.{option_copied};
 ghost use Rattle.start_words.specs.Options.{hook_said};
-ghost use Rattle.command_line.specs.Calls.{asks_help, file_of, helped_by, hooks_named_by, AreNamesRead, AreWordsRead};
+ghost use Rattle.command_line.specs.Calls.{asks_help, command_in, file_of, helped_by, hooks_named_by, is_command, AreNamesRead, AreWordsRead};
 
 use crate::service::Service;
 use crate::state_command::StateCommand;
@@ -42,6 +42,33 @@ fn helped<'w>(words: &'w [String]) -> Option<&'w str>
     }
 }
 
+/// Whether a word is the name of a command.
+fn is_command(name: &str) -> bool
+    ensures { result ≡ is_command name.now }
+{
+    name == "run"
+        || name == "ask"
+        || name == "ask2"
+        || name == "asm"
+        || name == "list"
+        || name == "check"
+        || name == "check2"
+        || name == "start"
+        || name == "serve"
+        || name == "registry"
+        || name == "state"
+        || name == "replay"
+        || name == "help"
+}
+
+/// The command's name with which words begin.
+fn command_in<'w>(words: &'w [String]) -> Option<&'w str>
+    ensures { option_copied result ≡ command_in (map string_bytes words.now) }
+{
+    let name = words.first()?.as_str();
+    if is_command(name) { Some(name) } else { None }
+}
+
 impl<'w> Call<'w> {
     /// What words call for: those behind the program's name. They are read here alone.
     pub fn from_words(alloc: Global, words: &'w [String]) -> Result<Call<'w>, CommandFault<'w>>
@@ -65,7 +92,10 @@ impl<'w> Call<'w> {
         }
         match Command::from_words(words) {
             Some(command) => Ok(Call::Command(command)),
-            None => Err(CommandFault::BadArguments),
+            None => match command_in(words) {
+                Some(name) => Err(CommandFault::BadCommand(name)),
+                None => Err(CommandFault::BadArguments),
+            },
         }
     }
 

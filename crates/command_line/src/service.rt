@@ -75,6 +75,8 @@ fn start_given<'w>(
 {
     match StartWords::read(alloc, words) {
         Ok(given) => Ok(Some(given)),
+        Err(StartFault::NoAddress) => Err(CommandFault::NoAddress),
+        Err(StartFault::NoConfig) => Err(CommandFault::NoConfig),
         Err(StartFault::BadWords) => Ok(None),
         Err(StartFault::Word { word, fault }) => Err(CommandFault::BadWord(word, fault)),
         Err(StartFault::Memory) => Err(CommandFault::OutOfMemory),

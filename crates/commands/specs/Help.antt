@@ -4,13 +4,13 @@ use Rattle.manual.specs.Topics.{IsSaid}
 use Rattle.commands.specs.declared.answer.Answer.{Answer}
 use Rattle.commands.specs.declared.answer.Answer.TheVariants as answers
 use Rattle.commands.specs.declared.fault.CommandFault.{CommandFault}
-use Rattle.commands.specs.declared.fault.CommandFault.TheVariants.{BadArguments}
+use Rattle.commands.specs.declared.fault.CommandFault.TheVariants.{Unexplained}
 
--- what `help NAME` answers: what the manual says of the name, and bad arguments where that is nothing
+-- what `help NAME` answers: what the manual says of the name, or that this is nothing
 abbrev pub IsNameExplained : List ℕ → Result Answer CommandFault → Type 0
 IsNameExplained name (Ok (answers.Page text)) = IsSaid name (Some text.now)
 IsNameExplained name (Ok answer) = ⊥
-IsNameExplained name (Err BadArguments) = IsSaid name None
+IsNameExplained name (Err (Unexplained told)) = (told.now ≡ name) × IsSaid name None
 IsNameExplained name (Err fault) = ⊥
 
 -- what a command answers that prints a text of the program's own

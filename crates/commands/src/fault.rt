@@ -22,11 +22,27 @@ use std::alloc::AllocError;
 use std::fmt::{self, Display, Formatter};
 use transcript::ReplayFault;
 
+/// What helps where it is not known which command is meant.
+const LIST: &str = "oauthd help lists the commands";
+
+/// What `start` wants, before what of it is missing, and what helps.
+const WANTS: &str = "start wants ADDR and CONFIG before all options:";
+
+const START: &str = "oauthd help start has its words";
+
 /// Why what words call for is not done.
 #[derive(Debug, Drop)]
 pub enum CommandFault<'w> {
-    /// The words are no command.
+    /// The words are no command, and begin with no command's name.
     BadArguments,
+    /// The words are no command, and begin with this name of one.
+    BadCommand(&'w str),
+    /// Nothing is known of this name.
+    Unexplained(&'w str),
+    /// The words behind `start` have no address.
+    NoAddress,
+    /// The words behind `start` have no file of a registry.
+    NoConfig,
     /// A word behind `start` is refused.
     BadWord(&'w str, WordFault),
     /// A command about a hook has no answer.
@@ -70,11 +86,11 @@ fn status_of_hook_command(fault: &HookCommandFault<'_>) -> Status
     ensures { result ≡ status_of_hook_command fault.now }
 {
     match fault {
-        HookCommandFault::Text(AsmFault::Memory)
+        HookCommandFault::Text(AsmFault::Memory, _)
         | HookCommandFault::Insn(InsnFault::Memory)
         | HookCommandFault::Verify(VerifyFault::Memory)
         | HookCommandFault::OutOfMemory => Status::NoMemory,
-        HookCommandFault::Text(_) | HookCommandFault::Insn(_) | HookCommandFault::Verify(_) => {
+        HookCommandFault::Text(_, _) | HookCommandFault::Insn(_) | HookCommandFault::Verify(_) => {
             Status::Refused
         }
         HookCommandFault::BadArguments
@@ -101,7 +117,16 @@ impl<'w> CommandFault<'w> {
     /// Writes what is told of it.
     fn write_reason<W: fmt::Write>(&self, f: &mut Formatter<W>) -> fmt::Result {
         match self {
-            CommandFault::BadArguments => write!(f, "bad arguments"),
+            CommandFault::BadArguments => write!(f, "bad arguments; {LIST}"),
+            CommandFault::BadCommand(name) => {
+                write!(
+                    f,
+                    "bad arguments for {name}; oauthd help {name} has its words"
+                )
+            }
+            CommandFault::Unexplained(name) => write!(f, "nothing is known of {name}; {LIST}"),
+            CommandFault::NoAddress => write!(f, "{WANTS} ADDR is missing; {START}"),
+            CommandFault::NoConfig => write!(f, "{WANTS} CONFIG is missing; {START}"),
             CommandFault::BadWord(word, fault) => write!(f, "bad arguments: {word} {fault}"),
             CommandFault::HookCommand(fault) => write!(f, "{fault}"),
             CommandFault::CannotRead(path) => write!(f, "cannot read {path}"),

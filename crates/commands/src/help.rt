@@ -6,11 +6,11 @@ use crate::answer::Answer;
 use crate::fault::CommandFault;
 
 /// What the manual says of a name.
-pub fn explained(name: &str) -> Result<Answer, CommandFault<'static>>
+pub fn explained<'w>(name: &'w str) -> Result<Answer, CommandFault<'w>>
     ensures { IsNameExplained name.now result }
 {
     match manual::explained(name) {
         Some(text) => Ok(Answer::Page(text)),
-        None => Err(CommandFault::BadArguments),
+        None => Err(CommandFault::Unexplained(name)),
     }
 }

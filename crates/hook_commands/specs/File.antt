@@ -52,6 +52,18 @@ HoldsNoProgram path file (faults.Insn fault) = HoldsFault file fault
 HoldsNoProgram path file faults.OutOfMemory = ⊤
 HoldsNoProgram path file fault = ⊥
 
+-- bytes begin as an ELF file does
+abbrev pub is_elf : List ℕ → Bool
+is_elf (a ∷ b ∷ c ∷ d ∷ rest) = (a == 127) && (b == 69) && (c == 76) && (d == 70)
+is_elf bytes = false
+
+-- why the file of a path holds no program, where one that is not hex is told with its path, and an ELF file as one
+abbrev pub HoldsNoToldProgram : List ℕ → File → HookCommandFault → Type 0
+HoldsNoToldProgram path file (faults.IsElf named) = (named.now ≡ path) × IsSomeAnd file (λ bytes. IsTrue (is_elf bytes)) × IsSomeAnd file IsNoHex
+HoldsNoToldProgram path file (faults.IsNotHex named) = (named.now ≡ path) × IsSomeAnd file (λ bytes. is_elf bytes ≡ false) × IsSomeAnd file IsNoHex
+HoldsNoToldProgram path file faults.BadArguments = ⊥
+HoldsNoToldProgram path file fault = HoldsNoProgram path file fault
+
 -- ---- `list`
 
 -- the text is the canonical one of the file's program
@@ -64,7 +76,7 @@ pub record IsListing (file : File) (text : List ℕ) : Type 0 where
 abbrev pub IsListedAs : List ℕ → File → Result HookAnswer HookCommandFault → Type 0
 IsListedAs path file (Ok (answers.Listing text)) = IsListing file (string_bytes text)
 IsListedAs path file (Ok answer) = ⊥
-IsListedAs path file (Err fault) = HoldsNoProgram path file fault
+IsListedAs path file (Err fault) = HoldsNoToldProgram path file fault
 
 -- ---- `check` and `check2`
 
@@ -91,7 +103,7 @@ IsFileNotAccepted layout file fault = ⊥
 abbrev pub IsCheckedOn : Layout → List ℕ → File → Result HookAnswer HookCommandFault → Type 0
 IsCheckedOn layout path file (Ok (answers.Accepted count)) = IsAcceptedOn layout file count
 IsCheckedOn layout path file (Ok answer) = ⊥
-IsCheckedOn layout path file (Err fault) = HoldsNoProgram path file fault ⊎ IsFileNotAccepted layout file fault
+IsCheckedOn layout path file (Err fault) = HoldsNoToldProgram path file fault ⊎ IsFileNotAccepted layout file fault
 
 -- ---- `asm`
 
@@ -113,7 +125,7 @@ pub record HasTextFault (file : File) (fault : AsmFault) : Type 0 where
 
 -- why the text of a file says no program, where it is one
 abbrev pub SaysNoProgram : File → HookCommandFault → Type 0
-SaysNoProgram file (faults.Text fault) = HasTextFault file fault
+SaysNoProgram file (faults.Text fault word) = HasTextFault file fault
 SaysNoProgram file faults.OutOfMemory = ⊤
 SaysNoProgram file fault = ⊥
 
@@ -122,18 +134,6 @@ abbrev pub IsAssembledAs : List ℕ → File → Result HookAnswer HookCommandFa
 IsAssembledAs path file (Ok (answers.Code hex)) = IsAssembled file (string_bytes hex)
 IsAssembledAs path file (Ok answer) = ⊥
 IsAssembledAs path file (Err fault) = HoldsNoText path file fault ⊎ SaysNoProgram file fault
-
--- bytes begin as an ELF file does
-abbrev pub is_elf : List ℕ → Bool
-is_elf (a ∷ b ∷ c ∷ d ∷ rest) = (a == 127) && (b == 69) && (c == 76) && (d == 70)
-is_elf bytes = false
-
--- why the file of a path holds no program, where one that is not hex is told with its path, and an ELF file as one
-abbrev pub HoldsNoToldProgram : List ℕ → File → HookCommandFault → Type 0
-HoldsNoToldProgram path file (faults.IsElf named) = (named.now ≡ path) × IsSomeAnd file (λ bytes. IsTrue (is_elf bytes)) × IsSomeAnd file IsNoHex
-HoldsNoToldProgram path file (faults.IsNotHex named) = (named.now ≡ path) × IsSomeAnd file (λ bytes. is_elf bytes ≡ false) × IsSomeAnd file IsNoHex
-HoldsNoToldProgram path file faults.BadArguments = ⊥
-HoldsNoToldProgram path file fault = HoldsNoProgram path file fault
 
 -- ---- `list --slots`
 

@@ -22,8 +22,8 @@ pub enum HookCommandFault<'w> {
     IsElf(&'w str),
     /// The file of this path is not hex.
     IsNotHex(&'w str),
-    /// The text says no program, or memory was refused.
-    Text(AsmFault),
+    /// The text says no program, or memory was refused; and the word that names no instruction, where that is the fault.
+    Text(AsmFault, Option<String>),
     /// The code is no program, or memory was refused.
     Insn(InsnFault),
     /// The program is not accepted, or memory was refused.
@@ -40,15 +40,16 @@ impl<'w> Display for HookCommandFault<'w> {
             HookCommandFault::CannotRead(path) => write!(f, "cannot read {path}"),
             HookCommandFault::IsElf(path) => write!(f, "ELF file: {path}"),
             HookCommandFault::IsNotHex(path) => write!(f, "not hex: {path}"),
-            HookCommandFault::Text(AsmFault::Memory)
+            HookCommandFault::Text(AsmFault::Memory, _)
             | HookCommandFault::Insn(InsnFault::Memory)
             | HookCommandFault::Verify(VerifyFault::Memory)
             | HookCommandFault::OutOfMemory => write!(f, "out of memory"),
-            HookCommandFault::Text(fault) => {
+            HookCommandFault::Text(fault, word) => {
                 let name = fault.name();
-                match fault.line() {
-                    Some(line) => write!(f, "line {line}: {name}"),
-                    None => write!(f, "{name}"),
+                match (fault.line(), word) {
+                    (Some(line), Some(word)) => write!(f, "line {line}: {name} {word:?}"),
+                    (Some(line), None) => write!(f, "line {line}: {name}"),
+                    (None, _) => write!(f, "{name}"),
                 }
             }
             HookCommandFault::Insn(fault) => write!(f, "Insn {fault}"),

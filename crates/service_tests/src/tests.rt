@@ -1,6 +1,7 @@
 //! Clients of `serve` and `start`, over the machine's sockets.
 
 use command_line::perform;
+use disk_file::Unknown;
 use row_files::world::World;
 use std::alloc::{AllocError, Global};
 use std::cell::Cell;
@@ -204,7 +205,7 @@ fn done_with(
     out.room = room;
     out.is_full = is_full;
     let mut err = Page::new(rt.alloc());
-    let status = perform(rt, &words, &mut out, &mut err).code();
+    let status = perform::<_, _, _, Unknown>(rt, &words, &mut out, &mut err).code();
     Ok(Outcome { status, out, err })
 }
 
@@ -230,7 +231,7 @@ fn served(rt: &HostRuntime, texts: &[&str], request: &str) -> Result<(Outcome, C
         line: Page::new(rt.alloc()),
     };
     let mut err = Page::new(rt.alloc());
-    let status = perform(&visited, &words, &mut door, &mut err).code();
+    let status = perform::<_, _, _, Unknown>(&visited, &words, &mut door, &mut err).code();
     let clients = seats.replace(None).ok_or("nobody came")?;
     let out = door.line;
     Ok((Outcome { status, out, err }, clients))
@@ -404,7 +405,10 @@ fn answers_and_faults_that_cannot_be_written(rt: HostRuntime) -> Result<(), Fail
     let mut out = Page::new(rt.alloc());
     let mut err = Page::new(rt.alloc());
     err.room = 0;
-    assert_eq!(rt; perform(&rt, &words, &mut out, &mut err).code(), 2);
+    assert_eq!(rt;
+        perform::<_, _, _, Unknown>(&rt, &words, &mut out, &mut err).code(),
+        2
+    );
     assert_eq!(rt; out.text(), "");
     Ok(())
 }

@@ -41,11 +41,14 @@ fn memory_that_was_refused_is_told_alike_and_what_is_too_long(rt: HostRuntime) -
     assert_told(&rt, CommandFault::OutOfMemory, "out of memory")?;
     for (fault, text) in [
         (HookCommandFault::OutOfMemory, "out of memory"),
-        (HookCommandFault::Text(AsmFault::Memory), "out of memory"),
+        (
+            HookCommandFault::Text(AsmFault::Memory, None),
+            "out of memory",
+        ),
         (HookCommandFault::Insn(InsnFault::Memory), "out of memory"),
         (HookCommandFault::Verify(REFUSED), "out of memory"),
         (HookCommandFault::Insn(InsnFault::TooLong), "Insn TooLong"),
-        (HookCommandFault::Text(LONG), "line 4097: TooLong"),
+        (HookCommandFault::Text(LONG, None), "line 4097: TooLong"),
     ] {
         assert_told(&rt, CommandFault::HookCommand(fault), text)?;
     }

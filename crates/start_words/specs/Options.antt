@@ -6,7 +6,7 @@ use Rattle.std.specs.Str.{bytes_eq}
 use Rattle.insn.specs.declared.layout.Layout.{Layout}
 use Rattle.insn.specs.declared.layout.Layout.TheVariants.{V1, V2}
 use Rattle.start_words.specs.declared.fault.StartFault.{StartFault}
-use Rattle.start_words.specs.declared.fault.StartFault.TheVariants.{BadWords, Word, Memory}
+use Rattle.start_words.specs.declared.fault.StartFault.TheVariants.{BadWords, NoAddress, NoConfig, Word, Memory}
 use Rattle.start_words.specs.declared.fault.WordFault.{WordFault}
 use Rattle.start_words.specs.declared.fault.WordFault.TheVariants.{Unknown, NoValue, BadValue, Twice}
 use Rattle.start_words.specs.declared.option.FarClock.{FarClock}
@@ -38,8 +38,10 @@ pub record Said : Type 0 where
 abbrev pub nothing_said : Said
 nothing_said = record { silence = None; full = None; report = None; state = None; clock = clocks.Refused; hooks = [] }
 
--- why words are refused: for what is wrong with one of them, or as bad words
+-- why words are refused: the address or the registry's file is missing, numbers by place are none, or one word is wrong
 pub data Refused : Type 0 where
+  no_address : Refused
+  no_config : Refused
   bad_words : Refused
   wrong : (word : List ℕ) → (fault : WordFault) → Refused
 
@@ -199,6 +201,8 @@ options_in words = do
 
 -- why a reading has no result
 abbrev pub IsWhyRefused : {A : Type 0} → Result A Refused → StartFault → Type 0
+IsWhyRefused reading NoAddress = reading ≡ Err no_address
+IsWhyRefused reading NoConfig = reading ≡ Err no_config
 IsWhyRefused reading BadWords = reading ≡ Err bad_words
 IsWhyRefused reading (Word word fault) = reading ≡ Err (wrong word.now fault)
 IsWhyRefused reading Memory = ⊤

@@ -36,7 +36,11 @@ impl Display for WordFault {
 /// Why words are not those of `start`.
 #[derive(Clone, Copy, Debug, PartialEq, Eq)]
 pub enum StartFault<'w> {
-    /// There are too few, or the numbers by place are none.
+    /// The address is missing: there is no word, or an option in its place.
+    NoAddress,
+    /// The registry's file is missing: there is no word behind the address, or an option in its place.
+    NoConfig,
+    /// What is to be a number by its place is none, or there are too many.
     BadWords,
     /// What is wrong with a word of them: the address, or the name of an option.
     Word { word: &'w str, fault: WordFault },

@@ -35,7 +35,7 @@ impl<'w> Model for Options<'w> {
 }
 
 /// The first word, where it counts by its place, and those behind it.
-fn by_place<'w>(words: &'w [String]) -> Option<(&'w str, &'w [String])>
+pub(crate) fn by_place<'w>(words: &'w [String]) -> Option<(&'w str, &'w [String])>
     ensures { option_map (λ p. (p.0.now, map string_bytes p.1.now)) result ≡ by_place (map string_bytes words.now) }
 {
     let (word, rest) = words.split_first()?;

@@ -6,7 +6,7 @@ ghost use Rattle.start_words.specs.Options.{IsWhyRefused};
 ghost use Rattle.start_words.specs.Start.{given_by, names_port, start_in};
 
 use crate::fault::{StartFault, WordFault};
-use crate::options::Options;
+use crate::options::{Options, by_place};
 use std::alloc::Global;
 
 /// What `start ADDR CONFIG` and the words behind it give.
@@ -40,21 +40,20 @@ impl<'w> StartWords<'w> {
         ensures done { IfOk result (λ given. start_in (map string_bytes words.now) ≡ Ok (given_by given)) }
         ensures refused { IfErr result (IsWhyRefused (start_in (map string_bytes words.now))) }
     {
-        let Some((address, behind)) = words.split_first() else {
-            return Err(StartFault::BadWords);
+        let Some((word, behind)) = by_place(words) else {
+            return Err(StartFault::NoAddress);
         };
-        let word = address.as_str();
         if !names_port(word) {
             let fault = WordFault::NoPort;
             return Err(StartFault::Word { word, fault });
         }
-        let Some((config, behind)) = behind.split_first() else {
-            return Err(StartFault::BadWords);
+        let Some((config, behind)) = by_place(behind) else {
+            return Err(StartFault::NoConfig);
         };
         let options = Options::read(alloc, behind)?;
         Ok(StartWords {
             address: word,
-            config: config.as_str(),
+            config,
             options,
         })
     }

@@ -9,7 +9,7 @@ use crate::answer::{HookAnswer, HookResult};
 use crate::fault::HookCommandFault;
 use crate::hex_text::bytes_of_hex;
 use crate::why::explanation;
-use assembler::assemble;
+use assembler::{AsmFault, assemble};
 use encoding::{decode, encode};
 use insn::layout::Layout;
 use insn::program::Program;
@@ -75,6 +75,29 @@ pub fn told_program_in<'w>(
     }
 }
 
+/// So many characters of a word are told of it.
+const WORD_TOLD: usize = 40;
+
+/// What is told of a line's first word: its first characters.
+fn first_word(line: &str) -> Option<&str> {
+    let word = line
+        .split(|c| c == ' ' || c == '\t' || c == ';')
+        .find(|word| !word.is_empty())?;
+    match word.char_indices().nth(WORD_TOLD) {
+        Some((end, _)) => word.get(..end),
+        None => Some(word),
+    }
+}
+
+/// The word of a text that names no instruction, where that is its fault. Where memory is refused, it is not told.
+fn unknown_word(alloc: Global, text: &str, fault: AsmFault) -> Option<String> {
+    let AsmFault::UnknownWord(number) = fault else {
+        return None;
+    };
+    let line = text.split('\n').nth(number.checked_sub(1)?)?;
+    String::from_str(alloc, first_word(line)?).ok()
+}
+
 /// The bytes of the program that the text of a file says, as hex.
 pub fn assembled<'w>(alloc: Global, path: &'w str, file: Option<&[u8]>) -> HookResult<'w>
     ensures { IsAssembledAs path.now (option_copied file.entry) result }
@@ -84,7 +107,7 @@ pub fn assembled<'w>(alloc: Global, path: &'w str, file: Option<&[u8]>) -> HookR
     };
     let program = match assemble(alloc, text) {
         Ok(program) => program,
-        Err(fault) => return Err(HookCommandFault::Text(fault)),
+        Err(fault) => return Err(HookCommandFault::Text(fault, unknown_word(alloc, text, fault))),
     };
     let code = encode(alloc, &program)?;
     let hex = hex::encode(alloc, code)?;
@@ -95,7 +118,7 @@ pub fn assembled<'w>(alloc: Global, path: &'w str, file: Option<&[u8]>) -> HookR
 pub fn listing<'w>(alloc: Global, path: &'w str, file: Option<&[u8]>) -> HookResult<'w>
     ensures { IsListedAs path.now (option_copied file.entry) result }
 {
-    let program = program_in(alloc, path, file)?;
+    let program = told_program_in(alloc, path, file)?;
     let text = list(alloc, &program)?;
     Ok(HookAnswer::Listing(text))
 }
@@ -118,7 +141,7 @@ pub fn check<'w>(
 ) -> HookResult<'w>
     ensures { IsCheckedOn layout path.now (option_copied file.entry) result }
 {
-    let program = program_in(alloc, path, file)?;
+    let program = told_program_in(alloc, path, file)?;
     match verify(alloc, program, layout) {
         Ok(verified) => Ok(HookAnswer::Accepted(verified.program().len())),
         Err((_, fault)) => Err(HookCommandFault::Verify(fault)),

@@ -7,7 +7,7 @@ pub const USE_FAULTS: [Topic; 14] = [
     Topic {
         name: "bad arguments",
         text: "\
-bad arguments: the words are no command, or what is to be the hex of a hook's code is no hex. Hex is digits in pairs; blanks and line feeds may part them. help prints the commands. Behind start the word is named that is wrong: an address without a port, or an option that is not known, wants a value, has a bad one or is given twice.
+bad arguments: the words are no command, or HEX of run is no hex, or a word of ask no number of its range. Hex is digits in pairs; blanks and line feeds may part them. help prints the commands, and help NAME the words of one. Behind start the word is named that is wrong: an address without a port, or an option that is not known, wants a value, has a bad one or is given twice.
 
   oauthd run 9 00          (one digit is no byte)
 ",
@@ -31,7 +31,7 @@ cannot read FILE: the file is not there or may not be read, or the text of a hoo
     Topic {
         name: "ELF file",
         text: "\
-ELF file: FILE: what a compiler wrote, where the hex of a hook's code is wanted. list --slots and check --why tell it so; to list and check it is bad arguments. examples/c/build makes hex of C; docs/HOOKS.md has the way by hand.
+ELF file: FILE: what a compiler wrote, where the hex of a hook's code is wanted. examples/c/build makes hex of C; docs/HOOKS.md has the way by hand.
 
   oauthd check --why hook.o      oauthd check --why hook.hex
 ",
@@ -39,7 +39,7 @@ ELF file: FILE: what a compiler wrote, where the hex of a hook's code is wanted.
     Topic {
         name: "not hex",
         text: "\
-not hex: FILE: the file is there, and is not the hex of a hook's code: digits in pairs, which blanks and line feeds may part. list --slots and check --why tell it so; to list and check it is bad arguments. asm makes hex of the text of a hook, and od -An -v -tx1 of its bytes.
+not hex: FILE: the file is there, and is not the hex of a hook's code: digits in pairs, which blanks and line feeds may part. asm makes hex of the text of a hook, and od -An -v -tx1 of its bytes.
 
   oauthd check --why hook.asm      oauthd asm hook.asm > hook.hex
 ",

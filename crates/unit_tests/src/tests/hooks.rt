@@ -189,7 +189,7 @@ fn programs_of_4_096_slots(rt: HostRuntime) -> Result<(), Fail> {
     assert!(rt;
         matches!(
             assembled,
-            Err(HookCommandFault::Text(AsmFault::TooLong(4097)))
+            Err(HookCommandFault::Text(AsmFault::TooLong(4097), None))
         )
     );
     Ok(())
