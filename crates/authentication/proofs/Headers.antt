@@ -1,6 +1,6 @@
 -- What a Basic header's credentials lead to.
 use Rattle.std.proofs.Common.{◌≡◌, ◌&&◌, ℕ, List, Bool, true, false, not, if◌then◌else◌, ◌⊎◌, inl, inr, refl, Result, Ok, Err, arith}
-use Rattle.clients.specs.Faults.{◌>>=◌, GivesUnless}
+use Rattle.registry_json.specs.Faults.{◌>>=◌, GivesUnless}
 use Rattle.authentication.specs.Authentication.{is_basic, basic_text, credentials_in}
 use Rattle.authentication.specs.declared.authentication.AuthFault.{AuthFault}
 use Rattle.authentication.specs.declared.authentication.AuthFault.TheVariants.{TwoMethods, Memory}

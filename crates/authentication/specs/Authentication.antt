@@ -9,7 +9,7 @@ use Rattle.base64.specs.Engines.{standard}
 use Rattle.base64.specs.GeneralPurpose.{decode_of, encode_of}
 use Rattle.form_urlencoded.specs.Form.{byte_serialize}
 use Rattle.params.specs.Form.{lossy_text, has_replacement, value_sent}
-use Rattle.clients.specs.Faults.{◌>>=◌, GivesUnless}
+use Rattle.registry_json.specs.Faults.{◌>>=◌, GivesUnless}
 use Rattle.clients.specs.Numbers.{number_among}
 use Rattle.clients.specs.Clients.{ids, client_at, has_secret}
 use Rattle.clients.specs.ClientRecord.{ClientRecord}

@@ -4,7 +4,7 @@ use Rattle.std.specs.Option.{ok_or}
 use Rattle.std.proofs.lemmas.Bool.Decides.{nat_tests}
 use Rattle.std.proofs.lemmas.Option.{slice_get_within}
 use Rattle.params.specs.Form.{value_sent}
-use Rattle.clients.specs.Faults.{◌>>=◌}
+use Rattle.registry_json.specs.Faults.{◌>>=◌}
 use Rattle.clients.specs.ClientRecord.{ClientRecord}
 use Rattle.authentication.specs.Authentication.{AreCredentialsOf, basic_credentials, identified, authenticated, IsSender}
 use Rattle.clients.specs.RegistryLaws.{then_ok, option_ok}

@@ -18,7 +18,7 @@ use Rattle.base64.proofs.EngineFacts.{decode_of-encode_of}
 use Rattle.form_urlencoded.specs.Form.{byte_serialize}
 use Rattle.form_urlencoded.proofs.FormLemmas.{IsSerializedByte, All-byte_serialize, IsAscii-byte_serialize, decode-byte_serialize}
 use Rattle.params.specs.Form.{lossy_text, has_replacement, any_twice}
-use Rattle.clients.specs.Texts.{is_visible, is_key, is_identifier_byte, is_identifier}
+use Rattle.registry_json.specs.Texts.{is_visible, is_key, is_identifier_byte, is_identifier}
 use Rattle.clients.specs.Numbers.{number_among}
 use Rattle.clients.specs.Clients.{ids, has_secret}
 use Rattle.clients.specs.ClientRecord.{ClientRecord}

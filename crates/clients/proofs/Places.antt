@@ -5,13 +5,13 @@ use Rattle.std.proofs.lemmas.Slice.Eq.{bytes_eq-Decides}
 use Rattle.std.proofs.lemmas.Map.Text.{btree_map_updates_text}
 
 -- where the last one does not pass, the place is as before
-place_before : {X : Type 0} (p : X → Bool) (i : ℕ) (xs : List X) (x : X) → p x ≡ false
+pub place_before : {X : Type 0} (p : X → Bool) (i : ℕ) (xs : List X) (x : X) → p x ≡ false
     → position_from p i (xs ++ x ∷ []) ≡ position_from p i xs
 place_before p i [] x fails = rw fails refl
 place_before p i (y ∷ ys) x fails = rw (place_before p (i + 1) ys x fails) refl
 
 -- where only the last one passes, it is the place
-place_last : {X : Type 0} (p : X → Bool) (i : ℕ) (xs : List X) (x : X) → p x ≡ true → position_from p i xs ≡ None
+pub place_last : {X : Type 0} (p : X → Bool) (i : ℕ) (xs : List X) (x : X) → p x ≡ true → position_from p i xs ≡ None
     → position_from p i (xs ++ x ∷ []) ≡ Some (i + length xs)
 place_last p i [] x passes none = grind (arith, passes)
 place_last p i (y ∷ ys) x passes none = let later = place_last p (i + 1) ys x passes in grind (arith, none, later)
@@ -38,7 +38,7 @@ IsIndex-push old new texts key index absent updates = λ text.
     ∙ rw (index text) (sym (number_of-push texts (string_bytes key) text absent))
 
 -- a place is in the list
-place_within : {X : Type 0} (p : X → Bool) (i n : ℕ) (xs : List X) → position_from p i xs ≡ Some n → (i ≤ n) × (n < i + length xs)
+pub place_within : {X : Type 0} (p : X → Bool) (i n : ℕ) (xs : List X) → position_from p i xs ≡ Some n → (i ≤ n) × (n < i + length xs)
 place_within p i n [] at = cc at
 place_within p i n (y ∷ ys) at = let later = place_within p (i + 1) n ys in grind (arith, at, later)
 

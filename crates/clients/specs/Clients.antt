@@ -1,19 +1,19 @@
 -- The clients of a registry (RFC 6749, section 2).
 use Rattle.std.specs.Prelude.{ℕ, List, [], ◌∷◌, ◌++◌, length, map, codes, ◌-◌, ◌==◌, slice_get, if◌then◌else◌, Bool, false, Option, None, Result, Ok, Err}
-use Rattle.clients.specs.Names.{list_any, option_map_or, Data, Items, no_items, item, as_array, ConfigFault, OutOfRange, Refusal, Id, Secret, Redirects, Scope, Client, Grants}
+use Rattle.clients.specs.Names.{list_any, option_map_or, Data, Items, no_items, item, get, as_array, ConfigFault, OutOfRange, Refusal, Id, Secret, Redirects, Scope, Records, Client, Grants}
 use Rattle.std.specs.Str.{bytes_eq}
-use Rattle.clients.specs.Limits.{redirect_count_limit}
-use Rattle.clients.specs.Faults.{◌>>=◌}
-use Rattle.clients.specs.Json.{member_of, list_of, items_in}
-use Rattle.clients.specs.Texts.{identifier_of}
+use Rattle.clients.specs.Limits.{redirect_count_limit, greatest_limit}
+use Rattle.registry_json.specs.Faults.{◌>>=◌}
+use Rattle.registry_json.specs.Json.{member_of, list_of, items_in, number_if_any}
+use Rattle.registry_json.specs.Texts.{identifier_of}
 use Rattle.clients.specs.Keys.{sent_digest, key_digest}
 use Rattle.clients.specs.Numbers.{new_among}
 use Rattle.clients.specs.Redirect.{redirects_after}
 use Rattle.clients.specs.Scopes.{scope_of}
 use Rattle.clients.specs.Grants.{no_grants, grants_after}
 use Rattle.clients.specs.ClientRecord.{ClientRecord}
-use Rattle.clients.specs.Spots.{located}
-use Rattle.clients.specs.declared.spot.ClientSpot.TheVariants as spot
+use Rattle.registry_json.specs.Spots.{located}
+use Rattle.registry_json.specs.declared.spot.ClientSpot.TheVariants as spot
 
 -- the clients' identifiers
 abbrev pub ids : List ClientRecord → List (List ℕ)
@@ -92,7 +92,8 @@ client_of scopes clients value = do
   redirects ← redirects_member (length clients) value
   allowed ← located (Client (length clients) Scope) (scope_member scopes value)
   grants ← grants_member (length clients) value
-  Ok (record { id = id; secrets = secrets; redirects = redirects; allowed = allowed; grants = grants })
+  records ← located (Client (length clients) Records) (number_if_any greatest_limit (get (codes "records") value))
+  Ok (record { id = id; secrets = secrets; redirects = redirects; allowed = allowed; grants = grants; records = records })
 
 -- the clients so far, and those of these items after them
 abbrev pub clients_after : List (List ℕ) → List ClientRecord → Items → Result (List ClientRecord) Refusal

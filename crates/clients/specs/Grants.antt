@@ -2,10 +2,10 @@
 use Rattle.std.specs.Prelude.{ℕ, ◌+◌, List, Bool, false, true, if◌then◌else◌, codes, Option, Some, None, Result, Ok}
 use Rattle.clients.specs.Names.{ok_or, Data, Items, no_items, item, ConfigFault, BadShape, Refusal, Client, Grants}
 use Rattle.std.specs.Str.{bytes_eq}
-use Rattle.clients.specs.Faults.{◌>>=◌}
-use Rattle.clients.specs.Json.{text_of}
-use Rattle.clients.specs.Spots.{located}
-use Rattle.clients.specs.declared.spot.ClientSpot.TheVariants as spot
+use Rattle.registry_json.specs.Faults.{◌>>=◌}
+use Rattle.registry_json.specs.Json.{text_of}
+use Rattle.registry_json.specs.Spots.{located}
+use Rattle.registry_json.specs.declared.spot.ClientSpot.TheVariants as spot
 use Rattle.clients.specs.declared.grant.GrantType.{GrantType}
 use Rattle.clients.specs.declared.grant.GrantType.TheVariants.{AuthorizationCode, RefreshToken, ClientCredentials}
 

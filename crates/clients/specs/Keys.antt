@@ -3,9 +3,9 @@ use Rattle.std.specs.Prelude.{ℕ, List, codes, is_some, if◌then◌else◌, Op
 use Rattle.clients.specs.Names.{ok_or, result_ok, Data, as_object, ConfigFault, OutOfRange}
 use Rattle.sha2.specs.Sha256.{sha256}
 use Rattle.hex.specs.Hex.{decode_sized}
-use Rattle.clients.specs.Faults.{◌>>=◌}
-use Rattle.clients.specs.Json.{member_of, text_of}
-use Rattle.clients.specs.Texts.{is_key, key_of}
+use Rattle.registry_json.specs.Faults.{◌>>=◌}
+use Rattle.registry_json.specs.Json.{member_of, text_of}
+use Rattle.registry_json.specs.Texts.{is_key, key_of}
 
 -- the 32 bytes of 64 hexadecimal digits, in either case
 abbrev pub digest_in : List ℕ → Result (List ℕ) ConfigFault

@@ -1,17 +1,26 @@
 -- The limits of a registry.
 use Rattle.std.specs.Prelude.{ℕ}
+pub use Rattle.registry_json.specs.Limits.{life_limit, key_limit, identifier_limit}
 
--- so many bytes has its text at most
+-- so many bytes has its text at most, without and with the member `limits`
 abbrev pub registry_limit : ℕ
 registry_limit = 1048576
 
--- so many seconds is a life at most
-abbrev pub life_limit : ℕ
-life_limit = 31536000
+abbrev pub large_registry_limit : ℕ
+large_registry_limit = 16777216
 
--- so many owners, clients and redirect URIs of a client at most
+-- so many owners at most, without and with the member `limits`
+abbrev pub few_owner_limit : ℕ
+few_owner_limit = 4096
+
 abbrev pub owner_limit : ℕ
-owner_limit = 4096
+owner_limit = 65536
+
+-- an owner's number is at most this
+abbrev pub owner_number_limit : ℕ
+owner_number_limit = 4294967295
+
+-- so many clients and redirect URIs of a client at most
 
 abbrev pub client_limit : ℕ
 client_limit = 256
@@ -27,10 +36,13 @@ redirect_limit = 2048
 abbrev pub secret_count_limit : ℕ
 secret_count_limit = 2
 
--- so many characters has a key, a secret or what an owner is called at most
-abbrev pub key_limit : ℕ
-key_limit = 128
+-- so many codes and tokens that have not expired, and consents, are kept at most, where a registry does not say it
+abbrev pub usual_record_limit : ℕ
+usual_record_limit = 65536
 
--- so many characters has a client identifier at most
-abbrev pub identifier_limit : ℕ
-identifier_limit = 64
+abbrev pub usual_consent_limit : ℕ
+usual_consent_limit = 4096
+
+-- and a registry may say this at most
+abbrev pub greatest_limit : ℕ
+greatest_limit = 16777216

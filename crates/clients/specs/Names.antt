@@ -1,12 +1,12 @@
 -- The names of types and of other crates that more than one file of these definitions uses.
-pub use Rattle.clients.specs.declared.fault.ConfigFault.{ConfigFault}
-pub use Rattle.clients.specs.declared.fault.ConfigFault.TheVariants.{OutOfRange, BadShape, Twice, BadRedirect, NotJson, BadScope}
-pub use Rattle.clients.specs.declared.fault.Refusal.{Refusal}
-pub use Rattle.clients.specs.declared.fault.Refusal.TheVariants.{At}
+pub use Rattle.registry_json.specs.declared.fault.ConfigFault.{ConfigFault}
+pub use Rattle.registry_json.specs.declared.fault.ConfigFault.TheVariants.{OutOfRange, BadShape, Twice, BadRedirect, NotJson, BadScope}
+pub use Rattle.registry_json.specs.declared.fault.Refusal.{Refusal}
+pub use Rattle.registry_json.specs.declared.fault.Refusal.TheVariants.{At}
 pub use Rattle.clients.specs.declared.grant.Grants.{Grants}
-pub use Rattle.clients.specs.declared.spot.ClientSpot.TheVariants.{Id, Secret, Redirects, Scope}
-pub use Rattle.clients.specs.declared.spot.Spot.{Spot}
-pub use Rattle.clients.specs.declared.spot.Spot.TheVariants.{Client, Owners, Scopes}
+pub use Rattle.registry_json.specs.declared.spot.ClientSpot.TheVariants.{Id, Secret, Redirects, Scope, Records}
+pub use Rattle.registry_json.specs.declared.spot.Spot.{Spot}
+pub use Rattle.registry_json.specs.declared.spot.Spot.TheVariants.{Client, Owners, Scopes}
 pub use Rattle.params.specs.Form.{any_twice}
 pub use Rattle.params.specs.Scope.{IsCatalogue, name_fault, scope_mask}
 pub use Rattle.params.specs.declared.catalogue.CatalogueFault.{CatalogueFault}

@@ -5,9 +5,9 @@ use Rattle.std.specs.Str.{bytes_eq}
 use Rattle.url.specs.Parts.{Parts, serialize}
 use Rattle.url.specs.Parser.{Parsed, parse_url}
 use Rattle.clients.specs.Limits.{redirect_limit}
-use Rattle.clients.specs.Faults.{◌>>=◌}
-use Rattle.clients.specs.Json.{text_of}
-use Rattle.clients.specs.Spots.{located}
+use Rattle.registry_json.specs.Faults.{◌>>=◌}
+use Rattle.registry_json.specs.Json.{text_of}
+use Rattle.registry_json.specs.Spots.{located}
 
 -- an http or https URL without query and fragment
 abbrev pub is_plain_web : Parts → Bool

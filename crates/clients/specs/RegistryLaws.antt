@@ -1,8 +1,8 @@
 -- Laws of registries: what is read is a registry, and its clients are clients.
 use Rattle.std.proofs.Common.{◌≡◌, ◌≤◌, ◌<◌, ◌^◌, ℕ, ◌-◌, List, [], ◌∷◌, ◌++◌, length, Bool, true, false, if◌then◌else◌, refl, sym, ap, ◌∙◌, subst, arith, Option, Some, None, is_some, Result, Ok, Err, codes}
-use Rattle.clients.specs.Names.{list_all, list_any, ok_or, Data, Items, no_items, item, CatalogueFault, any_twice, IsCatalogue, name_fault}
-use Rattle.clients.specs.Names.{ConfigFault, BadRedirect, Refusal, Spot}
-use Rattle.std.specs.Prelude.{All, slice_get, bytes_eq}
+use Rattle.clients.specs.Names.{list_all, list_any, ok_or, option_map_or, get, as_object, Data, Items, no_items, item, CatalogueFault, any_twice, IsCatalogue, name_fault}
+use Rattle.clients.specs.Names.{BadRedirect, BadShape}
+use Rattle.std.specs.Prelude.{All, IfSome, slice_get, unwrap_or, bytes_eq}
 use Rattle.std.proofs.lemmas.Bool.{and_from, leb-true}
 use Rattle.std.proofs.lemmas.Bool.Decides.{nat_tests}
 use Rattle.std.proofs.lemmas.List.{map-append}
@@ -12,42 +12,27 @@ use Rattle.std.proofs.lemmas.Option.{slice_get_within, get_or_from_slice_get}
 use Rattle.std.proofs.lemmas.Slice.Eq.{bytes_eq-Decides}
 use Rattle.params.specs.FormLaws.{any_twice-append}
 use Rattle.params.specs.ScopeLaws.{IsCatalogue-push, IsCatalogue-nil, is_some-position_from, scope_mask-within}
-use Rattle.clients.specs.Limits.{redirect_limit}
-use Rattle.clients.specs.Faults.{◌>>=◌}
-use Rattle.clients.specs.Spots.{located}
-use Rattle.clients.specs.Json.{text_of, items_in}
-use Rattle.clients.specs.Texts.{is_identifier, is_key}
+use Rattle.clients.specs.Limits.{redirect_limit, life_limit, greatest_limit, usual_record_limit, usual_consent_limit}
+pub use Rattle.clients.specs.FaultsLaws.{then_ok, located_ok, option_ok}
+use Rattle.clients.specs.FaultsLaws.{ok_same, test_passed}
+use Rattle.clients.specs.OwnersLaws.{number-read, stated-read, owners_of-read}
+use Rattle.registry_json.specs.Faults.{◌>>=◌}
+use Rattle.registry_json.specs.Json.{member_of, text_of, number_if_any, items_in}
+use Rattle.registry_json.specs.Texts.{is_identifier, is_key}
 use Rattle.clients.specs.Redirect.{is_redirect, redirect_of, redirects_after}
 use Rattle.clients.specs.Scopes.{with_name, name_after, scopes_after}
 use Rattle.clients.specs.Numbers.{number_among}
 use Rattle.clients.specs.Clients.{ids, id_member, one_or_two, secret_member, redirects_member, scope_member, grants_member, client_of, clients_after, client_at, has_secret}
 use Rattle.clients.specs.ClientRecord.{ClientRecord}
 use Rattle.clients.specs.RegistryRecord.{RegistryRecord}
-use Rattle.clients.specs.Registry.{life_member, operator_member, owners_member, scopes_member, clients_member, registry_of}
-use Rattle.clients.specs.RegistryRules.{IsClientOf, IsLife, IsRegistry}
-
--- where all steps have a value the first one has
-pub then_ok : {A B E : Type 0} (r : Result A E) (next : A → Result B E) (y : B) → (r >>= next) ≡ Ok y
-    → (x : A) × (r ≡ Ok x) × (next x ≡ Ok y)
-then_ok (Ok x) next y ok = (x, refl, ok)
-then_ok (Err e) next y ok = cc ok
-
--- so it is of a step that tells where its fault lies
-pub located_ok : {A B : Type 0} (spot : Spot) (r : Result A ConfigFault) (next : A → Result B Refusal) (y : B) → (located spot r >>= next) ≡ Ok y
-    → (x : A) × (r ≡ Ok x) × (next x ≡ Ok y)
-located_ok spot (Ok x) next y ok = (x, refl, ok)
-located_ok spot (Err fault) next y ok = absurd (grind (arith, ok))
-
--- what a test lets through passes it
-test_passed : {A E : Type 0} (test : A → Bool) (x y : A) (e : E) → (if test x then Ok x else Err e) ≡ Ok y → test y ≡ true
-test_passed test x y e ok = grind (arith, ok)
-
-pub option_ok : {A E : Type 0} (o : Option A) (e : E) (x : A) → ok_or o e ≡ Ok x → o ≡ Some x
-option_ok None e x ok = cc ok
-option_ok (Some y) e x ok = cc ok
+use Rattle.clients.specs.Registry.{life_member, operator_member, owner_count_limit, owners_member, scopes_member, clients_member, gateway_member, limit_member, limits_of, usual_limits, limits_member, registry_of}
+use Rattle.clients.specs.declared.limits.Limits.{Limits}
+use Rattle.clients.specs.RegistryRules.{IsClientOf, IsLife, IsLimit, IsRegistry}
 
 life-read : (name : List ℕ) (value : Data) (life : ℕ) → life_member name value ≡ Ok life → IsLife life
-life-read name value life ok = grind (arith, nat_tests, ok)
+life-read name value life ok =
+    let member = then_ok (member_of name value) _ life ok in
+    number-read life_limit member.0 life member.2
 
 catalogue-read : (names : List (List ℕ)) (items : Items) (all : List (List ℕ)) → IsCatalogue names → scopes_after names items ≡ Ok all → IsCatalogue all
 catalogue-read names no_items all is ok = let same : names ≡ all = cc ok in subst IsCatalogue same is
@@ -102,11 +87,17 @@ client-read scopes clients value client ok =
     let redirects = then_ok (redirects_member n value) _ client secrets.2 in
     let allowed = located_ok _ (scope_member scopes value) _ client redirects.2 in
     let grants = then_ok (grants_member n value) _ client allowed.2 in
+    let records = located_ok _ (number_if_any greatest_limit (get (codes "records") value)) _ client grants.2 in
     let known = id-read clients value id.0 id.1 in
-    let same : record { id = id.0; secrets = secrets.0; redirects = redirects.0; allowed = allowed.0; grants = grants.0 } ≡ client = cc grants.2 in
+    let same : record { id = id.0; secrets = secrets.0; redirects = redirects.0; allowed = allowed.0; grants = grants.0; records = records.0 } ≡ client = cc records.2 in
     subst (λ (c : ClientRecord). IsClientOf scopes c × (number_among c.id (ids clients) ≡ None)) same (
       record {
-        is_client = record { id = known.0; secrets = secret-read value secrets.0 secrets.1; redirects = redirects_member-read n value redirects.0 redirects.1 };
+        is_client = record {
+          id = known.0;
+          secrets = secret-read value secrets.0 secrets.1;
+          redirects = redirects_member-read n value redirects.0 redirects.1;
+          records = stated-read greatest_limit (get (codes "records") value) records.0 records.1;
+        };
         allowed = allowed-read scopes value allowed.0 allowed.1;
       },
       known.1,
@@ -125,6 +116,31 @@ clients-read scopes clients (item d ds) all are once ok =
     clients-read scopes (clients ++ client.0 ∷ []) ds all (All-push (IsClientOf scopes) clients client.0 are known.0)
     (ap any_twice (map-append (λ (c : ClientRecord). c.id) clients (client.0 ∷ [])) ∙ any_twice-append (ids clients) client.0.id once new) client.2
 
+limit-read : (name : List ℕ) (usual : ℕ) (value : Data) (limit : ℕ) → IsLimit usual → limit_member name usual value ≡ Ok limit → IsLimit limit
+limit-read name usual value limit is ok =
+    let stated = then_ok (number_if_any greatest_limit (get name value)) _ limit ok in
+    let same : unwrap_or stated.0 usual ≡ limit = cc stated.2 in
+    subst IsLimit same (either stated.0 (stated-read greatest_limit (get name value) stated.0 stated.1))
+  where
+    either : (o : Option ℕ) → IfSome o IsLimit → IsLimit (unwrap_or o usual)
+    either None right = is
+    either (Some n) right = right
+
+-- what is read are limits
+pub limits-read : (stated : Option Data) (limits : Limits) → option_map_or limits_of stated (Ok usual_limits) ≡ Ok limits → IsLimit limits.records × IsLimit limits.consents
+limits-read None limits ok =
+    let same : usual_limits ≡ limits = cc ok in
+    subst (λ (l : Limits). IsLimit l.records × IsLimit l.consents) same ((omega arith, omega arith), (omega arith, omega arith))
+limits-read (Some value) limits ok =
+    let object = located_ok _ (ok_or (as_object value) BadShape) _ limits ok in
+    let records = located_ok _ (limit_member (codes "records") usual_record_limit value) _ limits object.2 in
+    let consents = located_ok _ (limit_member (codes "consents") usual_consent_limit value) _ limits records.2 in
+    let same : record { records = records.0; consents = consents.0 } ≡ limits = cc consents.2 in
+    subst (λ (l : Limits). IsLimit l.records × IsLimit l.consents) same (
+      limit-read (codes "records") usual_record_limit value records.0 (omega arith, omega arith) records.1,
+      limit-read (codes "consents") usual_consent_limit value consents.0 (omega arith, omega arith) consents.1,
+    )
+
 -- what is read is a registry
 pub registry-read : (value : Data) (rules : RegistryRecord) → registry_of value ≡ Ok rules → IsRegistry rules
 registry-read value rules ok =
@@ -134,16 +150,34 @@ registry-read value rules ok =
     let owners = then_ok (owners_member value) _ rules operator.2 in
     let scopes = then_ok (scopes_member value) _ rules owners.2 in
     let clients = then_ok (clients_member scopes.0 value) _ rules scopes.2 in
+    let gateway = located_ok _ (gateway_member value) _ rules clients.2 in
+    let limits = then_ok (limits_member value) _ rules gateway.2 in
+    let owners_items = located_ok _ (items_in (codes "owners") 0 (owner_count_limit value) value) _ owners.0 owners.1 in
     let scopes_items = located_ok _ (items_in (codes "scopes") 1 64 value) _ scopes.0 scopes.1 in
     let clients_items = located_ok _ (items_in (codes "clients") 0 256 value) _ clients.0 clients.1 in
     let known = clients-read scopes.0 [] clients_items.0 clients.0 (All-nil (IsClientOf scopes.0)) refl clients_items.2 in
-    let same : record { access_life = access.0; refresh_life = refresh.0; operator = operator.0; owners = owners.0; scopes = scopes.0; clients = clients.0 } ≡ rules = cc clients.2 in
+    let limited = limits-read (get (codes "limits") value) limits.0 limits.1 in
+    let read : RegistryRecord = record {
+      access_life = access.0;
+      refresh_life = refresh.0;
+      operator = operator.0;
+      owners = owners.0.owners;
+      numbered = owners.0.numbered;
+      scopes = scopes.0;
+      clients = clients.0;
+      gateway = gateway.0;
+      limits = limits.0;
+    } in
+    let same = ok_same (Ok read) read rules refl limits.2 in
     subst IsRegistry same (record {
       access_life = life-read (codes "access_life") value access.0 access.1;
       refresh_life = life-read (codes "refresh_life") value refresh.0 refresh.1;
+      owners = owners_of-read owners_items.0 owners.0 owners_items.2;
       scopes = catalogue-read [] scopes_items.0 scopes.0 IsCatalogue-nil scopes_items.2;
       clients = known.0;
       distinct = known.1;
+      records = limited.0;
+      consents = limited.1;
     })
 
 -- a redirect URI of a client is one, and short

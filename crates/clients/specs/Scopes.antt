@@ -1,19 +1,10 @@
 -- The scope names of a registry, and the scope of a client (RFC 6749, section 3.3).
 use Rattle.std.specs.Prelude.{ℕ, List, [], ◌∷◌, ◌++◌, length, Option, Some, None, Result, Ok, Err}
-use Rattle.clients.specs.Names.{ok_or, Data, Items, no_items, item, name_fault, scope_mask, CatalogueFault, ConfigFault, BadScope, Twice, OutOfRange, Refusal, Scopes}
-use Rattle.params.specs.declared.catalogue.CatalogueFault.TheVariants as name
-use Rattle.clients.specs.Faults.{◌>>=◌}
-use Rattle.clients.specs.Json.{text_of}
-use Rattle.clients.specs.Spots.{located}
-use Rattle.clients.specs.declared.fault.ConfigFault.TheVariants.{Memory}
-
--- the registry's fault for a scope name that its catalogue does not take
-abbrev pub fault_of_name : CatalogueFault → ConfigFault
-fault_of_name name.BadScope = BadScope
-fault_of_name name.TooLong = OutOfRange
-fault_of_name name.Twice = Twice
-fault_of_name name.Full = OutOfRange
-fault_of_name name.Memory = Memory
+use Rattle.clients.specs.Names.{ok_or, Data, Items, no_items, item, name_fault, scope_mask, CatalogueFault, ConfigFault, BadScope, Refusal, Scopes}
+use Rattle.registry_json.specs.Faults.{◌>>=◌}
+use Rattle.registry_json.specs.Json.{text_of}
+use Rattle.registry_json.specs.Spots.{located}
+use Rattle.registry_json.specs.ScopeFaults.{fault_of_name}
 
 -- the names with a further one, unless it has a fault
 abbrev pub with_name : List (List ℕ) → List ℕ → Option CatalogueFault → Result (List (List ℕ)) ConfigFault

@@ -4,30 +4,31 @@ ghost use Rattle.std.specs.Prelude.{◌≡◌, ◌<◌, ◌≤◌, ◌^◌, [], 
 ghost use Rattle.std.specs.List.{list_any};
 ghost use Rattle.std.specs.Str.{bytes_eq};
 ghost use Rattle.serde_json.specs.View.{view, items_view};
-ghost use Rattle.clients.specs.Faults.{GivesUnless};
-ghost use Rattle.clients.specs.FaultsParts.{seen_by};
+ghost use Rattle.registry_json.specs.Faults.{GivesUnless};
+ghost use Rattle.registry_json.specs.FaultsParts.{seen_by};
 ghost use Rattle.params.specs.Form.{any_twice};
 ghost use Rattle.clients.specs.Bounds.{client_had, client_said};
 ghost use Rattle.clients.specs.Limits.{client_limit, identifier_limit, redirect_limit};
 ghost use Rattle.clients.specs.Grants.{has_grant};
 ghost use Rattle.clients.specs.Numbers.{number_among, IsIndex};
 ghost use Rattle.clients.specs.Clients.{ids, has_secret, has_redirect, id_member, secret_member, redirects_member, scope_member, grants_member, client_at, client_of, clients_after};
-ghost use Rattle.clients.specs.declared.fault.Refusal.TheVariants as refusal;
+ghost use Rattle.registry_json.specs.declared.fault.Refusal.TheVariants as refusal;
 ghost use Rattle.clients.specs.ClientRecord.{ClientRecord};
 ghost use Rattle.clients.specs.RegistryRules.{IsClient, IsClientOf};
 
 use crate::bounds::ClientBounds;
 use crate::digest::sent_digest;
-use crate::fault::{ConfigFault, Refusal, located};
 use crate::grant::{GrantType, Grants, grant_set};
-use crate::json::{items, list, member};
+use crate::limits::stated_limit;
 use crate::redirect::redirect_list;
 use crate::scope::scope;
 use crate::secret::{Secrets, client_secrets};
-use crate::spot::{ClientSpot, Spot};
-use crate::text::{identifier, is_identifier};
 use consent::{ClientNo, ScopeSet};
 use params::Catalogue;
+use registry_json::fault::{ConfigFault, Refusal, located};
+use registry_json::json::{items, list, member};
+use registry_json::spot::{ClientSpot, Spot};
+use registry_json::text::{identifier, is_identifier};
 use serde_json::Value;
 use std::alloc::{AllocError, Global};
 use std::collections::BTreeMap;
@@ -53,14 +54,15 @@ pub struct Client {
     redirects: Vec<String>,
     allowed: ScopeSet,
     grants: Grants,
+    records: Option<u32>,
 }
 
 impl Model for Client {
     ghost Value = { ClientRecord };
 
-    ghost view = { λ c. record { id = string_bytes c.id; secrets = c.secrets; redirects = map string_bytes c.redirects.items; allowed = c.allowed; grants = c.grants } };
+    ghost view = { λ c. record { id = string_bytes c.id; secrets = c.secrets; redirects = map string_bytes c.redirects.items; allowed = c.allowed; grants = c.grants; records = c.records } };
 
-    ghost invariant = { λ c. IsClient (record { id = string_bytes c.id; secrets = c.secrets; redirects = map string_bytes c.redirects.items; allowed = c.allowed; grants = c.grants }) };
+    ghost invariant = { λ c. IsClient (record { id = string_bytes c.id; secrets = c.secrets; redirects = map string_bytes c.redirects.items; allowed = c.allowed; grants = c.grants; records = c.records }) };
 }
 
 impl Client {
@@ -96,6 +98,13 @@ impl Client {
         self.allowed
     }
 
+    /// How many codes and tokens of its families may be unexpired, if the registry says so.
+    pub fn records(&self) -> Option<u32>
+        ensures { result ≡ self.now.records }
+    {
+        self.records
+    }
+
     /// Whether the client may use the grant type.
     pub fn has_grant(&self, grant: GrantType) -> bool
         ensures { result ≡ has_grant grant self.now.grants }
@@ -117,7 +126,7 @@ impl Model for Clients {
 
     ghost view = { λ clients. clients.list.items };
 
-    ghost invariant = { λ clients. IsIndex clients.numbers (ids clients.list.items) };
+    ghost invariant = { λ clients. IsIndex clients.numbers (ids clients.list.items) × (length clients.list.items ≤ client_limit) };
 }
 
 impl Clients {
@@ -177,7 +186,8 @@ impl Clients {
 
     // How many clients there are.
     pub(crate) fn count(&self) -> usize
-        ensures { result ≡ length self.now }
+        ensures value { result ≡ length self.now }
+        ensures few { result ≤ client_limit }
     {
         self.list.len()
     }
@@ -267,6 +277,8 @@ fn read_client(
     let allowed = scope_member(catalogue, value);
     let allowed = located(Spot::Client(number, ClientSpot::Scope), allowed)?;
     let grants = grants_member(number, value)?;
+    let records = stated_limit(value, "records");
+    let records = located(Spot::Client(number, ClientSpot::Records), records)?;
     let own_id = String::from_str(alloc, id)?;
     Ok(Client {
         id: own_id,
@@ -274,6 +286,7 @@ fn read_client(
         redirects,
         allowed,
         grants,
+        records,
     })
 }
 
@@ -334,6 +347,7 @@ fn client_within(
         redirects: Vec::new(alloc),
         allowed: bounds.allowed,
         grants: Grants::none(),
+        records: None,
     })
 }
 

@@ -5,18 +5,19 @@ ghost use Rattle.sha2.specs.Sha256.{sha256};
 ghost use Rattle.serde_json.specs.View.{view};
 ghost use Rattle.clients.specs.Keys.{digest_in, written_digest, made_digest, sent_digest, key_digest};
 
-use crate::fault::ConfigFault;
-use crate::json::{member, text};
-use crate::text::{is_key, key};
 use consent::Digest;
 use hex::FromHex;
+use registry_json::fault::ConfigFault;
+use registry_json::json::{member, text};
+use registry_json::text::{is_key, key};
 use serde_json::Value;
 use sha2::{Digest as _, Sha256};
 
-fn digest_of(key: &[u8]) -> Digest
-    ensures { result ≡ sha256 key.now }
+// The SHA-256 of a text.
+pub(crate) fn text_digest(text: &[u8]) -> Digest
+    ensures { result ≡ sha256 text.now }
 {
-    Digest::new(Sha256::digest(key))
+    Digest::new(Sha256::digest(text))
 }
 
 // The digest of what was sent as a key or a secret. What has not the form of one has none, and is compared with nothing: a
@@ -25,18 +26,15 @@ pub(crate) fn sent_digest(sent: &[u8]) -> Option<Digest>
     ensures { result ≡ sent_digest sent.now }
 {
     if is_key(sent) {
-        Some(digest_of(sent))
+        Some(text_digest(sent))
     } else {
         None
     }
 }
 
-// A digest for each number, of which nobody knows a key.
-pub(crate) fn unknown_digest(number: u32) -> Digest {
-    let mut bytes = [0; 32];
-    let [a, b, c, d] = number.to_be_bytes();
-    (bytes[0], bytes[1], bytes[2], bytes[3]) = (a, b, c, d);
-    Digest::new(bytes)
+// A digest of which nobody knows a key.
+pub(crate) fn unknown_digest() -> Digest {
+    Digest::new([0; 32])
 }
 
 // Whether the digests are the same. All their bytes are compared, so that the time tells nothing of them.
@@ -72,7 +70,7 @@ fn written_digest(value: &Value) -> Result<Digest, ConfigFault>
 fn made_digest(value: &Value) -> Result<Digest, ConfigFault>
     ensures { result ≡ made_digest (view value.now) }
 {
-    Ok(digest_of(key(value)?.as_bytes()))
+    Ok(text_digest(key(value)?.as_bytes()))
 }
 
 // The digest of a key or a secret: of the key itself, or as an object has it.

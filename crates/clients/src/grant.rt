@@ -4,9 +4,9 @@ ghost use Rattle.std.specs.Prelude.{◌≡◌};
 ghost use Rattle.serde_json.specs.View.{view, items_view};
 ghost use Rattle.clients.specs.Grants.{grant_named, no_grants, with_grant, has_grant, grant_type_of, grants_after};
 
-use crate::fault::{ConfigFault, Refusal, located};
-use crate::json::text;
-use crate::spot::{ClientSpot, Spot};
+use registry_json::fault::{ConfigFault, Refusal, located};
+use registry_json::json::text;
+use registry_json::spot::{ClientSpot, Spot};
 use serde_json::Value;
 
 /// A grant type that a client may use (RFC 6749, section 1.3; refresh tokens, section 1.5).

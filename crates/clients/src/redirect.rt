@@ -3,15 +3,15 @@
 ghost use Rattle.std.specs.Prelude.{◌≡◌, ◌<◌, ◌≤◌, [], length, map, string_bytes, IfOk, IfErr};
 ghost use Rattle.serde_json.specs.View.{view, items_view};
 ghost use Rattle.clients.specs.Limits.{redirect_limit};
-ghost use Rattle.clients.specs.Json.{text_of};
-ghost use Rattle.clients.specs.Faults.{GivesUnless};
-ghost use Rattle.clients.specs.FaultsParts.{seen_by};
+ghost use Rattle.registry_json.specs.Json.{text_of};
+ghost use Rattle.registry_json.specs.Faults.{GivesUnless};
+ghost use Rattle.registry_json.specs.FaultsParts.{seen_by};
 ghost use Rattle.clients.specs.Redirect.{is_plain_web, is_redirect, redirect_of, redirects_after};
-ghost use Rattle.clients.specs.declared.fault.Refusal.TheVariants as refusal;
+ghost use Rattle.registry_json.specs.declared.fault.Refusal.TheVariants as refusal;
 
-use crate::fault::{ConfigFault, Refusal, located};
-use crate::json::text;
-use crate::spot::{ClientSpot, Spot};
+use registry_json::fault::{ConfigFault, Refusal, located};
+use registry_json::json::text;
+use registry_json::spot::{ClientSpot, Spot};
 use serde_json::Value;
 use std::alloc::{AllocError, Global};
 use url::{ParseError, Url};

@@ -2,15 +2,15 @@
 
 ghost use Rattle.std.specs.Prelude.{◌≡◌, ◌<◌, ◌⊎◌, [], length, map, Ok, Err, OnOk, IfOk, IfErr};
 ghost use Rattle.serde_json.specs.View.{view, items_view};
-ghost use Rattle.clients.specs.Faults.{GivesUnless};
+ghost use Rattle.registry_json.specs.Faults.{GivesUnless};
 ghost use Rattle.clients.specs.Scopes.{name_after, scopes_after, scope_of};
-ghost use Rattle.clients.specs.declared.fault.Refusal.TheVariants as refusal;
+ghost use Rattle.registry_json.specs.declared.fault.Refusal.TheVariants as refusal;
 
-use crate::fault::{ConfigFault, Refusal, located};
-use crate::json::text;
-use crate::spot::Spot;
 use consent::ScopeSet;
 use params::Catalogue;
+use registry_json::fault::{ConfigFault, Refusal, located};
+use registry_json::json::text;
+use registry_json::spot::Spot;
 use serde_json::Value;
 use std::alloc::Global;
 

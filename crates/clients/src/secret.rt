@@ -6,8 +6,8 @@ ghost use Rattle.serde_json.specs.View.{view, items_view};
 ghost use Rattle.clients.specs.Clients.{one_or_two, secrets_of};
 
 use crate::digest::{are_same, key_digest, unknown_digest};
-use crate::fault::ConfigFault;
 use consent::Digest;
+use registry_json::fault::ConfigFault;
 use serde_json::Value;
 use std::marker::Model;
 use std::slice;
@@ -31,7 +31,7 @@ impl Secrets {
         ensures { length result ≡ 1 }
     {
         Secrets {
-            first: unknown_digest(0),
+            first: unknown_digest(),
             second: None,
         }
     }

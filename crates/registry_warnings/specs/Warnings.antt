@@ -9,7 +9,7 @@ use Rattle.hex.specs.Hex.{decode_sized}
 use Rattle.sha2.specs.Sha256.{sha256}
 use Rattle.json.specs.Token.{Token, begin_object, end_object, key, string}
 use Rattle.json.specs.Lex.{tokens}
-use Rattle.clients.specs.Spots.{is_of_registry}
+use Rattle.registry_json.specs.Spots.{is_of_registry}
 use Rattle.registry_warnings.specs.Names.{is_of_key, is_known_in}
 
 -- OBJECTS that are open, the innermost last, each with the names of its members so far

@@ -1,7 +1,7 @@
 //! The names that members have which mean something.
 
 ghost use Rattle.std.specs.Prelude.{◌≡◌, option_copied};
-ghost use Rattle.registry_warnings.specs.Names.{is_of_owner, is_of_key, is_known_in};
+ghost use Rattle.registry_warnings.specs.Names.{is_of_owner, is_of_key, is_of_limits, is_known_in};
 
 use clients::is_of_client;
 
@@ -9,7 +9,7 @@ use clients::is_of_client;
 fn is_of_owner(name: &str) -> bool
     ensures { result ≡ is_of_owner name.now }
 {
-    name == "key" || name == "sub" || name == "sha256"
+    name == "key" || name == "sub" || name == "number" || name == "sha256"
 }
 
 // The member of an object that stands for a key.
@@ -17,6 +17,13 @@ pub(crate) fn is_of_key(name: &str) -> bool
     ensures { result ≡ is_of_key name.now }
 {
     name == "sha256"
+}
+
+// The members of limits.
+fn is_of_limits(name: &str) -> bool
+    ensures { result ≡ is_of_limits name.now }
+{
+    name == "records" || name == "consents"
 }
 
 // Whether the name means something in an object in the registry's member of this name.
@@ -30,8 +37,10 @@ pub(crate) fn is_known_in(place: Option<&str>, name: &str) -> bool
         is_of_client(name)
     } else if place == "owners" {
         is_of_owner(name)
-    } else if place == "operator" {
+    } else if place == "operator" || place == "gateway" {
         is_of_key(name)
+    } else if place == "limits" {
+        is_of_limits(name)
     } else {
         true
     }

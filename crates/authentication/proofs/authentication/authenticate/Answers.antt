@@ -1,7 +1,7 @@
 use Rattle.std.proofs.Common.{◌≡◌, Result, Ok, Err}
 use Rattle.std.specs.Result.{IfOk}
 use Rattle.std.specs.Option.{option_copied}
-use Rattle.clients.specs.Faults.{GivesUnless}
+use Rattle.registry_json.specs.Faults.{GivesUnless}
 use Rattle.authentication.specs.AuthenticationLaws.{authenticated-from, authenticated-listed}
 use Rattle.authentication.specs.declared.authentication.AuthFault.{AuthFault}
 use Rattle.authentication.specs.declared.authentication.AuthFault.TheVariants.{Memory}

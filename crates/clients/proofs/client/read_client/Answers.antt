@@ -1,17 +1,16 @@
-use Rattle.std.proofs.Common.{◌≡◌, rules, length, map, string_bytes, inl, inr, ap, refl, Ok, Err, Result}
-use Rattle.clients.specs.Names.{Refusal, Id, Secret, Scope, Client}
+use Rattle.std.proofs.Common.{◌≡◌, rules, length, map, string_bytes, refl, Ok, Err, codes}
+use Rattle.clients.specs.Names.{Refusal, Id, Secret, Scope, Records, Client, get}
 use Rattle.std.specs.Prelude.{IsOk}
 use Rattle.clients.proofs.Names.{view, id_member, secret_member, redirects_member, id-read, secret-read, redirects_member-read}
 use Rattle.clients.specs.Clients.{scope_member, grants_member, client_of}
-use Rattle.clients.specs.Faults.{◌>>=◌, GivesUnless}
-use Rattle.clients.specs.Spots.{located}
-use Rattle.clients.specs.declared.fault.Refusal.TheVariants.{Memory}
+use Rattle.registry_json.specs.Faults.{GivesUnless}
+use Rattle.registry_json.specs.Spots.{located}
+use Rattle.registry_json.specs.Json.{number_if_any}
+use Rattle.clients.specs.Limits.{greatest_limit}
+use Rattle.clients.specs.OwnersLaws.{stated-read}
+use Rattle.registry_json.specs.declared.fault.Refusal.TheVariants.{Memory}
+use Rattle.clients.proofs.Later.{later_gives}
 use Rattle.clients.proofs.client.read_client.Goals as goal
-
--- a fault of a step is one of all of them, and so is want of memory
-later_gives : {A B W : Type 0} (e : Refusal) (r : Result A Refusal) (next : A → Result B Refusal) → W → GivesUnless {A = A} Memory (Unit {0}) (Err e) r → GivesUnless {A = B} Memory W (Err e) (r >>= next)
-later_gives e r next w (inl m) = inl (m.0, w)
-later_gives e r next w (inr is) = inr (ap (λ x. x >>= next) is)
 
 pub returns-in_err-redirects : goal.returns-in_err-redirects
 returns-in_err-redirects c =
@@ -53,13 +52,30 @@ returns-in_err-grants c =
     let all : client_of c.args.catalogue.now clients value ≡ Err e = rw (id, secrets, redirects, allowed, grants) refl in
     search rules
 
+pub returns-in_err-records : goal.returns-in_err-records
+returns-in_err-records c =
+    let clients = c.args.clients.now in
+    let value = view c.args.value.now in
+    let n = length clients in
+    let e = c.in_err-records.field-0.0 in
+    let id : located (Client n Id) (id_member clients value) ≡ Ok c.in_ok-id.id.now = search rules in
+    let secrets : located (Client n Secret) (secret_member value) ≡ Ok c.in_ok-secrets.secrets = search rules in
+    let redirects : redirects_member n value ≡ Ok (map string_bytes c.in_ok-redirects.redirects.items) = search rules in
+    let allowed : located (Client n Scope) (scope_member c.args.catalogue.now value) ≡ Ok c.in_ok-allowed.allowed = search rules in
+    let grants : grants_member n value ≡ Ok c.in_ok-grants.grants = search rules in
+    let records : located (Client n Records) (number_if_any greatest_limit (get (codes "records") value)) ≡ Err e = search rules in
+    let all : client_of c.args.catalogue.now clients value ≡ Err e = rw (id, secrets, redirects, allowed, grants, records) refl in
+    search rules
+
 pub invariant_of-result : goal.invariant_of-result
 invariant_of-result c =
     let id : id_member c.args.clients.now (view c.args.value.now) ≡ Ok (string_bytes c.in_ok-own_id.own_id) = search rules in
     let secrets : secret_member (view c.args.value.now) ≡ Ok c.in_ok-secrets.secrets = search rules in
     let redirects : redirects_member (length c.args.clients.now) (view c.args.value.now) ≡ Ok (map string_bytes c.in_ok-redirects.redirects.items) = search rules in
+    let records : number_if_any greatest_limit (get (codes "records") (view c.args.value.now)) ≡ Ok c.in_ok-records.records = search rules in
     record {
       id = (id-read c.args.clients.now (view c.args.value.now) (string_bytes c.in_ok-own_id.own_id) id).0;
       secrets = secret-read (view c.args.value.now) c.in_ok-secrets.secrets secrets;
       redirects = redirects_member-read (length c.args.clients.now) (view c.args.value.now) (map string_bytes c.in_ok-redirects.redirects.items) redirects;
+      records = stated-read greatest_limit (get (codes "records") (view c.args.value.now)) c.in_ok-records.records records;
     }

@@ -1,11 +1,11 @@
 use Rattle.std.proofs.Common.{◌≡◌, ◌+◌, ◌∷◌, ◌∙◌, drop, Some, Ok, sym, ap, rules}
 use Rattle.std.proofs.lemmas.List.{drop_more}
 use Rattle.clients.proofs.Names.{view, items_view}
-use Rattle.clients.specs.Faults.{◌>>=◌}
+use Rattle.registry_json.specs.Faults.{◌>>=◌}
 use Rattle.clients.specs.Grants.{with_grant, grant_type_of, grants_after}
-use Rattle.clients.specs.Spots.{located}
-use Rattle.clients.specs.declared.spot.ClientSpot.TheVariants.{Grants}
-use Rattle.clients.specs.declared.spot.Spot.TheVariants.{Client}
+use Rattle.registry_json.specs.Spots.{located}
+use Rattle.registry_json.specs.declared.spot.ClientSpot.TheVariants.{Grants}
+use Rattle.registry_json.specs.declared.spot.Spot.TheVariants.{Client}
 use Rattle.clients.proofs.grant.grant_set.Goals as goal
 
 pub loop-value-preserved : goal.loop-value-preserved

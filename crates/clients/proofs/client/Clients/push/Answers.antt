@@ -18,4 +18,7 @@ invariant_of-self-2 c =
     let updates : Updates string_cmp c.self.inside.numbers c.insert.new.self key (Some (length old + 1)) = rw count told in
     let pushed = map_push (λ c. c.id) c.self.inside.list.items c.args.client in
     let items : ids c.push.new.self.items ≡ old ++ string_bytes key ∷ [] = grind (arith, common_steps, pushed, same) in
-    rw items (IsIndex-push c.self.inside.numbers c.insert.new.self old key c.self.invariant absent updates)
+    let room = c.requires.room in (
+      rw items (IsIndex-push c.self.inside.numbers c.insert.new.self old key c.self.invariant.0 absent updates),
+      grind (arith, common_steps, room),
+    )

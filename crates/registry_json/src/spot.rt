@@ -1,7 +1,7 @@
 //! Where in a registry its first fault lies, and the names of what it has.
 
 ghost use Rattle.std.specs.Prelude.{◌≡◌};
-ghost use Rattle.clients.specs.Spots.{is_of_registry, is_of_client};
+ghost use Rattle.registry_json.specs.Spots.{is_of_registry, is_of_client};
 
 use std::fmt;
 
@@ -18,6 +18,8 @@ pub enum ClientSpot {
     Scope,
     /// In the item of this number of `grants`, from 0, or in what is no list.
     Grants(Option<usize>),
+    /// In `records`.
+    Records,
 }
 
 /// Where in a registry, its members taken in this order, the first fault lies.
@@ -37,6 +39,14 @@ pub enum Spot {
     Clients,
     /// In the item of this number of `clients`, from 0, and there.
     Client(usize, ClientSpot),
+    /// In `gateway`.
+    Gateway,
+    /// In `limits`, which is no object.
+    Limits,
+    /// In `limits`, and there in `records`.
+    RecordLimit,
+    /// In `limits`, and there in `consents`.
+    ConsentLimit,
 }
 
 /// The members of a registry.
@@ -49,13 +59,20 @@ pub fn is_of_registry(name: &str) -> bool
         || name == "owners"
         || name == "scopes"
         || name == "clients"
+        || name == "gateway"
+        || name == "limits"
 }
 
 /// The members of a client.
 pub fn is_of_client(name: &str) -> bool
     ensures { result ≡ is_of_client name.now }
 {
-    name == "id" || name == "secret" || name == "redirects" || name == "scope" || name == "grants"
+    name == "id"
+        || name == "secret"
+        || name == "redirects"
+        || name == "scope"
+        || name == "grants"
+        || name == "records"
 }
 
 // A list, or an item of it.
@@ -78,6 +95,7 @@ impl fmt::Display for ClientSpot {
             ClientSpot::Redirects(number) => write_item(f, "redirects", *number),
             ClientSpot::Scope => write!(f, "scope"),
             ClientSpot::Grants(number) => write_item(f, "grants", *number),
+            ClientSpot::Records => write!(f, "records"),
         }
     }
 }
@@ -92,6 +110,10 @@ impl fmt::Display for Spot {
             Spot::Scopes(number) => write_item(f, "scopes", *number),
             Spot::Clients => write!(f, "clients"),
             Spot::Client(number, within) => write!(f, "clients[{number}].{within}"),
+            Spot::Gateway => write!(f, "gateway"),
+            Spot::Limits => write!(f, "limits"),
+            Spot::RecordLimit => write!(f, "limits.records"),
+            Spot::ConsentLimit => write!(f, "limits.consents"),
         }
     }
 }

@@ -1,7 +1,8 @@
 -- The items of a JSON list.
 use Rattle.std.proofs.Common.{◌≡◌, List, [], ◌∷◌, length, ap, refl, suc}
-use Rattle.clients.proofs.Names.{items_view, Value}
-use Rattle.clients.specs.Json.{item_count}
+use Rattle.serde_json.specs.View.{items_view}
+use Rattle.serde_json.specs.declared.value.Value.{Value}
+use Rattle.registry_json.specs.Json.{item_count}
 
 -- there are as many items as values
 pub item_count_of : (values : List Value) → item_count (items_view values) ≡ length values

@@ -1,8 +1,8 @@
--- Members, texts, lives and lists of JSON data.
+-- Members, texts, numbers and lists of JSON data.
 use Rattle.std.specs.Prelude.{ℕ, suc, ◌&&◌, List, nat_le, if◌then◌else◌, Option, Some, None, Result, Ok, Err}
-use Rattle.clients.specs.Names.{ok_or, Data, Items, no_items, item, get, as_str, as_number, as_u64, as_array, ConfigFault, BadShape, OutOfRange}
-use Rattle.clients.specs.Limits.{life_limit}
-use Rattle.clients.specs.Faults.{◌>>=◌}
+use Rattle.registry_json.specs.Names.{ok_or, Data, Items, no_items, item, get, as_str, as_number, as_u64, as_array, ConfigFault, BadShape, OutOfRange}
+use Rattle.registry_json.specs.Limits.{life_limit}
+use Rattle.registry_json.specs.Faults.{◌>>=◌}
 
 -- the member of this name
 abbrev pub member_of : List ℕ → Data → Result Data ConfigFault
@@ -12,16 +12,27 @@ member_of name value = ok_or (get name value) BadShape
 abbrev pub text_of : Data → Result (List ℕ) ConfigFault
 text_of value = ok_or (as_str value) BadShape
 
--- a life in seconds, as `as_u64` gives it: 1 to 31,536,000
-abbrev pub life_within : Option ℕ → Result ℕ ConfigFault
-life_within None = Err OutOfRange
-life_within (Some n) = if nat_le 1 n && nat_le n life_limit then Ok n else Err OutOfRange
+-- a whole number, as `as_u64` gives it: 1 to the most
+abbrev pub number_within : ℕ → Option ℕ → Result ℕ ConfigFault
+number_within most None = Err OutOfRange
+number_within most (Some n) = if nat_le 1 n && nat_le n most then Ok n else Err OutOfRange
 
--- a JSON number that is a life
-abbrev pub life_of : Data → Result ℕ ConfigFault
-life_of value = do
+-- a JSON number that is one
+abbrev pub number_to : ℕ → Data → Result ℕ ConfigFault
+number_to most value = do
   number ← ok_or (as_number value) BadShape
-  life_within (as_u64 number)
+  number_within most (as_u64 number)
+
+-- one that may be absent
+abbrev pub number_if_any : ℕ → Option Data → Result (Option ℕ) ConfigFault
+number_if_any most None = Ok None
+number_if_any most (Some value) = do
+  number ← number_to most value
+  Ok (Some number)
+
+-- a life in seconds
+abbrev pub life_of : Data → Result ℕ ConfigFault
+life_of value = number_to life_limit value
 
 -- the number of items
 abbrev pub item_count : Items → ℕ

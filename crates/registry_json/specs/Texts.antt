@@ -1,10 +1,10 @@
 -- Keys, secrets and client identifiers.
 use Rattle.std.specs.Prelude.{ℕ, List, length, Bool, ◌&&◌, ◌||◌, ◌==◌, nat_le, if◌then◌else◌, Result, Ok, Err}
-use Rattle.clients.specs.Names.{list_all, Data, ConfigFault, OutOfRange}
+use Rattle.registry_json.specs.Names.{list_all, Data, ConfigFault, OutOfRange}
 use Rattle.std.specs.Char.{is_ascii_alphanumeric}
-use Rattle.clients.specs.Limits.{key_limit, identifier_limit}
-use Rattle.clients.specs.Faults.{◌>>=◌}
-use Rattle.clients.specs.Json.{text_of}
+use Rattle.registry_json.specs.Limits.{key_limit, identifier_limit}
+use Rattle.registry_json.specs.Faults.{◌>>=◌}
+use Rattle.registry_json.specs.Json.{text_of}
 
 -- the characters `!` to `~`
 abbrev pub is_visible : ℕ → Bool

@@ -1,10 +1,10 @@
 //! Why a registry is refused.
 
 ghost use Rattle.std.specs.Prelude.{◌≡◌};
-ghost use Rattle.clients.specs.Scopes.{fault_of_name};
-ghost use Rattle.clients.specs.Spots.{fault_of, located};
-ghost use Rattle.clients.specs.declared.fault.ConfigFault.TheVariants.{Memory};
-ghost use Rattle.clients.specs.declared.fault.Refusal.TheVariants as refusal;
+ghost use Rattle.registry_json.specs.ScopeFaults.{fault_of_name};
+ghost use Rattle.registry_json.specs.Spots.{fault_of, located};
+ghost use Rattle.registry_json.specs.declared.fault.ConfigFault.TheVariants.{Memory};
+ghost use Rattle.registry_json.specs.declared.fault.Refusal.TheVariants as refusal;
 
 use crate::spot::Spot;
 use params::CatalogueFault;
@@ -17,13 +17,13 @@ use std::fmt;
 pub enum ConfigFault {
     /// The bytes are not JSON text.
     NotJson,
-    /// A member is absent or of another type, or a grant type is unknown.
+    /// A member is absent or of another type, a grant type is unknown, or some owners state numbers and others do not.
     BadShape,
     /// A scope name is not a scope token, or a client's scope not of the registry's names.
     BadScope,
     /// A redirect URI is not a plain web URL in the URL Standard's spelling.
     BadRedirect,
-    /// Two owner keys, two scope names or two client identifiers are equal.
+    /// Two owner keys or numbers, two scope names or two client identifiers are equal.
     Twice,
     /// A number, a length, a count or a character is beyond its limits.
     OutOfRange,
@@ -68,18 +68,18 @@ impl From<CatalogueFault> for ConfigFault {
     }
 }
 
-// Why a registry is refused, and where.
+/// Why a registry is refused, and where.
 #[derive(Clone, Copy)]
-pub(crate) enum Refusal {
-    // This fault is there.
+pub enum Refusal {
+    /// This fault is there.
     At(ConfigFault, Spot),
-    // Memory was refused.
+    /// Memory was refused.
     Memory,
 }
 
 impl Refusal {
-    // The fault.
-    pub(crate) fn fault(self) -> ConfigFault
+    /// The fault.
+    pub fn fault(self) -> ConfigFault
         ensures { result ≡ fault_of self }
     {
         match self {
@@ -105,8 +105,8 @@ impl<T: Drop> From<AllocFailed<T>> for Refusal {
     }
 }
 
-// What was read there, or why it is refused.
-pub(crate) fn located<T>(spot: Spot, read: Result<T, ConfigFault>) -> Result<T, Refusal>
+/// What was read there, or why it is refused.
+pub fn located<T>(spot: Spot, read: Result<T, ConfigFault>) -> Result<T, Refusal>
     ensures { result ≡ located spot read }
 {
     match read {

@@ -3,8 +3,8 @@
 ghost use Rattle.std.specs.Prelude.{◌≡◌};
 ghost use Rattle.std.specs.List.{list_all};
 ghost use Rattle.serde_json.specs.View.{view};
-ghost use Rattle.clients.specs.FaultsParts.{seen_by};
-ghost use Rattle.clients.specs.Texts.{is_visible, is_key, is_identifier_byte, is_identifier, key_of, identifier_of};
+ghost use Rattle.registry_json.specs.FaultsParts.{seen_by};
+ghost use Rattle.registry_json.specs.Texts.{is_visible, is_key, is_identifier_byte, is_identifier, key_of, identifier_of};
 
 use crate::fault::ConfigFault;
 use crate::json::text;
@@ -38,22 +38,22 @@ fn are_identifier_bytes(bytes: &[u8]) -> bool
     bytes.iter().all(|&byte| is_identifier_byte(byte))
 }
 
-// Whether this has the form of a key or a secret.
-pub(crate) fn is_key(text: &[u8]) -> bool
+/// Whether this has the form of a key or a secret.
+pub fn is_key(text: &[u8]) -> bool
     ensures { result ≡ is_key text.now }
 {
     1 <= text.len() && text.len() <= LONGEST_KEY && are_visible(text)
 }
 
-// Whether this has the form of a client identifier.
-pub(crate) fn is_identifier(text: &str) -> bool
+/// Whether this has the form of a client identifier.
+pub fn is_identifier(text: &str) -> bool
     ensures { result ≡ is_identifier text.now }
 {
     1 <= text.len() && text.len() <= LONGEST_IDENTIFIER && are_identifier_bytes(text.as_bytes())
 }
 
-// An owner key, the operator key or a client secret.
-pub(crate) fn key(value: &Value) -> Result<&str, ConfigFault>
+/// An owner key, the operator key or a client secret.
+pub fn key(value: &Value) -> Result<&str, ConfigFault>
     ensures { seen_by (λ s. s.now) result ≡ key_of (view value.now) }
 {
     let text = text(value)?;
@@ -64,8 +64,8 @@ pub(crate) fn key(value: &Value) -> Result<&str, ConfigFault>
     }
 }
 
-// A client identifier.
-pub(crate) fn identifier(value: &Value) -> Result<&str, ConfigFault>
+/// A client identifier.
+pub fn identifier(value: &Value) -> Result<&str, ConfigFault>
     ensures { seen_by (λ s. s.now) result ≡ identifier_of (view value.now) }
 {
     let text = text(value)?;
