@@ -19,3 +19,4 @@ pub mod GrowthLaws
 pub mod HistoryLaws
 pub mod CoveredLaws
 pub mod ConsentLaws
+pub mod LeavingLaws

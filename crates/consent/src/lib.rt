@@ -16,14 +16,12 @@ mod scope;
 mod spelling;
 
 pub use change::{Change, Changes, CodeFacts, Home, NewToken};
-pub use consents::{ConsentFault, Consents};
+pub use consents::Consents;
 pub use digest::Digest;
 pub use grant::{Kind, TokenKind};
-pub use kept_consent::{KeptConsent, ListFault};
+pub use kept_consent::KeptConsent;
 pub use kept_record::{KeptKind, KeptRecord};
-pub use limits::{
-    CODE_LIFE, CONSENT_LIMIT, FAMILY_LIMIT, RECORD_LIMIT, limits_are_the_defined_ones,
-};
+pub use limits::{CODE_LIFE, FAMILY_LIMIT, limits_are_the_defined_ones};
 pub use numbers::{ClientNo, Moment, OwnerNo};
 pub use parties::Parties;
 pub use record_version::RecordVersion;

@@ -12,7 +12,7 @@ use Rattle.consent.specs.declared.change.CodeFacts.{CodeFacts}
 use Rattle.consent.specs.declared.change.Home.{Home}
 use Rattle.consent.specs.declared.change.NewToken.{NewToken}
 use Rattle.token_store.specs.declared.fault.AgainFault.{AgainFault}
-use Rattle.token_store.specs.declared.fault.AgainFault.TheVariants.{Unknown, Refused, Memory}
+use Rattle.token_store.specs.declared.fault.AgainFault.TheVariants.{Unknown, DrawTaken, Memory}
 use Rattle.token_store.specs.FitsParts.{Alters}
 use Rattle.token_store.specs.Kept.{Held}
 use Rattle.token_store.specs.RecordsParts.{IsCodeRecord}
@@ -163,4 +163,4 @@ again_altered t t' list m change none alters altered coming fits stands =
 pub refuses_again : (store : Held) (m : ℕ) (change : Made) (fault : AgainFault) → ForEachList store m (λ list. standing_refusal list m change ≡ Some fault) → RefusesAgain store m change fault
 refuses_again store m change Memory why = tt
 refuses_again store m change Unknown why = why
-refuses_again store m change (Refused fault) why = why
+refuses_again store m change DrawTaken why = why

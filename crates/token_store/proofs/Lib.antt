@@ -1,14 +1,17 @@
 pub mod Adding
 pub mod Again
 pub mod Changing
+pub mod Counting
 pub mod Closing
 pub mod Dropping
 pub mod Sweeping
 pub mod Families
 pub mod Issuing
+pub mod Leaving
 pub mod Living
 pub mod Homing
 pub mod Looking
+pub mod Owning
 pub mod Following
 pub mod Unexpired
 pub mod Settling
@@ -16,6 +19,5 @@ pub mod Sharing
 pub mod Spending
 pub mod Standing
 pub mod Telling
-pub mod Timing
 pub mod Tying
 pub mod Names

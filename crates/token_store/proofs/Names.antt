@@ -36,8 +36,7 @@ pub use Rattle.std.specs.Ordering.{is_gt}
 pub use Rattle.std.specs.Prelude.{count_by, ◌==◌, is_some, unwrap_or, nat_le, if◌then◌else◌, ◌||◌, find, nat_eq, not, min, All}
 pub use Rattle.std.specs.Str.{bytes_eq}
 pub use Rattle.std.specs.Vec.{with_items, vec_len}
-pub use Rattle.token_store.specs.Agenda.{deadlines_of, is_deadline, IsExact, least, IsBounded, deadlines_in}
-pub use Rattle.token_store.specs.AgendaParts.{is_ahead, is_filled}
+pub use Rattle.agenda.specs.Agenda.{deadlines_of, is_deadline, IsExact, least, IsBounded, deadlines_in, is_ahead, is_filled}
 pub use Rattle.token_store.specs.Fits.{to_keep, FitsHistory, FitsStore, MakesChanges}
 pub use Rattle.token_store.specs.FitsParts.{MakesChange}
 pub use Rattle.token_store.specs.Image.{as_kept, kept_record, kind_told, owner_told, terms_by}
@@ -50,9 +49,9 @@ pub use Rattle.token_store.specs.RecordsParts.{token_kept}
 pub use Rattle.token_store.specs.RecordsParts.{HasEntered, SharesSame, spent_in, HasTaken, IsNoneExpired, AllGone, shared_or, where_peopled, BecomesKnown, SeenSame, HasAltered, altered, Sheds}
 pub use Rattle.token_store.specs.RecordsParts.{AllLive}
 pub use Rattle.token_store.specs.Room.{Waits, HasRoomFor, IsExpected, IsPeopled, held_of, room_of, records_of}
-pub use Rattle.token_store.specs.declared.agenda.Agenda.{Agenda}
-pub use Rattle.token_store.specs.declared.agenda.Deadline.{Deadline}
-pub use Rattle.token_store.specs.declared.agenda.Page.{Page}
+pub use Rattle.agenda.specs.declared.agenda.Agenda.{Agenda}
+pub use Rattle.agenda.specs.declared.agenda.Deadline.{Deadline}
+pub use Rattle.agenda.specs.declared.agenda.Page.{Page}
 pub use Rattle.token_store.specs.declared.record.Record.{Record}
 pub use Rattle.token_store.specs.declared.record.Shared.{Shared}
 pub use Rattle.token_store.specs.declared.tables.Coming.{Coming}

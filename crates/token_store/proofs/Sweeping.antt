@@ -4,7 +4,7 @@ use Rattle.token_store.proofs.Names.{OwnerKey, IsDistinct, IsPermutation, bytes_
 use Rattle.token_store.proofs.Names.{SeenSame, all_kept, expiry_of, IsCounted, IsOwned, is_live_at, HasLeft, HasTaken, IsNoneExpired, AllGone, Sheds, nat_tests}
 use Rattle.token_store.proofs.Looking.{same_on}
 use Rattle.token_store.proofs.Dropping.{counted_without, dropped_one, fewer_members}
-use Rattle.token_store.proofs.Timing.{least_at}
+use Rattle.agenda.specs.AgendaLaws.{least_at}
 
 -- WHICH ARE GONE
 

@@ -1,10 +1,11 @@
 -- When a store's answers are those of a history.
 use Rattle.std.specs.Prelude.{◌≡◌, ◌≤◌, ℕ, List, Bool, Option, Some, None, count_by, option_map, if◌then◌else◌, not}
-use Rattle.consent.specs.History.{Event, Grant, grant_at, is_spent, has_ended, code_terms, greatest_family, is_named, unexpired_count, IsHistory, AllFollowAt, has_room, is_taken, with_changes}
+use Rattle.consent.specs.History.{Event, Grant, grant_at, is_spent, has_ended, code_terms, greatest_family, is_named, unexpired_count, IsHistory, AllFollowAt, has_room, has_client_room, is_taken, with_changes}
 use Rattle.consent.specs.Changes.{changes_of}
 use Rattle.consent.specs.declared.change.Change.{Change}
 use Rattle.token_store.specs.declared.fault.StoreFault.{StoreFault}
-use Rattle.token_store.specs.declared.fault.StoreFault.TheVariants.{Full, DrawTaken}
+use Rattle.token_store.specs.declared.fault.StoreFault.TheVariants.{Full, ClientFull, DrawTaken}
+use Rattle.token_store.specs.declared.quota.Quota.{Quota}
 use Rattle.token_store.specs.Kept.{Kept, Held, kept_at, kept_unexpired}
 
 -- what is to be kept of what the digest names
@@ -40,10 +41,13 @@ abbrev pub MakesChanges : (old new : Held) → ℕ → List Change → Type 0
 MakesChanges old new moment changes = (history : List Event) → FitsStore old history moment →
     AllFollowAt history moment (changes_of changes) → FitsStore new (with_changes history moment (changes_of changes)) moment
 
--- why codes or tokens are refused: they have no room, or a digest is taken
-abbrev pub refusal_by : (has_room is_taken : Bool) → Option StoreFault
-refusal_by has_room is_taken = if not has_room then Some Full else if is_taken then Some DrawTaken else None
+-- why codes or tokens are refused: they have no room, or none among the client's, or a digest is taken
+abbrev pub refusal_by : (has_room has_client_room is_taken : Bool) → Option StoreFault
+refusal_by has_room has_client_room is_taken =
+    if not has_room then Some Full else if not has_client_room then Some ClientFull else if is_taken then Some DrawTaken else None
 
--- why codes or tokens of these digests are refused at the moment
-abbrev pub refusal : List Event → ℕ → List (List ℕ) → Option StoreFault
-refusal history moment digests = refusal_by (has_room history moment digests) (is_taken history moment digests)
+-- why codes or tokens of these digests, for the client of the quota, are refused at the moment
+abbrev pub refusal : Quota → List Event → ℕ → List (List ℕ) → Option StoreFault
+refusal quota history moment digests =
+    refusal_by (has_room quota.records history moment digests) (has_client_room quota.of_client history quota.client moment digests)
+    (is_taken history moment digests)

@@ -1,7 +1,7 @@
 -- What a store answers from: its records, in any order and with any that no longer count.
 use Rattle.std.specs.Prelude.{ℕ, List, Bool, Option, find, count_by}
 use Rattle.std.specs.List.{list_any}
-use Rattle.consent.specs.History.{Grant, Terms, is_named, is_unexpired, is_live_in}
+use Rattle.consent.specs.History.{Grant, Terms, is_named, is_unexpired, is_unexpired_of, is_live_in}
 use Rattle.token_store.specs.declared.record.Shared.{Shared}
 use Rattle.token_store.specs.declared.tables.Coming.{Coming}
 
@@ -30,6 +30,10 @@ kept_at kept digest moment = find (λ k. is_named digest moment k.grant) kept
 
 abbrev pub kept_unexpired : List Kept → ℕ → ℕ
 kept_unexpired kept moment = count_by (λ k. is_unexpired moment k.grant) kept
+
+-- and those of a client alone
+abbrev pub kept_unexpired_of : List Kept → ℕ → ℕ → ℕ
+kept_unexpired_of kept client moment = count_by (λ k. is_unexpired_of client moment k.grant) kept
 
 -- something unexpired is kept of the family
 abbrev pub kept_lives : List Kept → ℕ → ℕ → Bool

@@ -3,13 +3,11 @@ pub mod Kept
 pub mod Fits
 pub mod Found
 pub mod Room
-pub mod Agenda
 pub mod Records
 pub mod Image
 pub mod Lists
 -- What only the contracts of this crate's own parts and their proofs cite.
 pub mod FitsParts
-pub mod AgendaParts
 pub mod RecordsParts
 -- Laws, each proved: a reader may skip them.
 pub mod FitsLaws

@@ -1,15 +1,14 @@
 -- When a store's answers are those of a list of changes, and why a change cannot stand next in it.
 use Rattle.std.specs.Prelude.{◌≡◌, ◌==◌, ◌&&◌, not, ℕ, List, [], ◌∷◌, Bool, true, Option, Some, None, is_some, option_map, if◌then◌else◌}
-use Rattle.consent.specs.History.{Event, opener, has_ended, is_new}
+use Rattle.consent.specs.History.{Event, opener, has_ended, is_new, is_taken}
 use Rattle.consent.specs.Changes.{parties_of}
 use Rattle.consent.specs.declared.change.Change.{Change}
 use Rattle.consent.specs.declared.change.Change.TheVariants.{CodeGiven, Issued, FamilyEnded}
 use Rattle.consent.specs.declared.parties.Parties.{Parties}
-use Rattle.token_store.specs.declared.fault.StoreFault.{StoreFault}
 use Rattle.token_store.specs.declared.fault.AgainFault.{AgainFault}
-use Rattle.token_store.specs.declared.fault.AgainFault.TheVariants.{Unknown, Refused, Memory}
+use Rattle.token_store.specs.declared.fault.AgainFault.TheVariants.{Unknown, DrawTaken, Memory}
 use Rattle.token_store.specs.Kept.{Held}
-use Rattle.token_store.specs.Fits.{FitsStore, refusal}
+use Rattle.token_store.specs.Fits.{FitsStore}
 use Rattle.token_store.specs.Found.{SeenFamily, family_of_grant}
 use Rattle.token_store.specs.Records.{family_numbered, shared_seen}
 
@@ -39,15 +38,16 @@ is_open_to parties (Some f) = (f.client == parties.client) && (f.owner == partie
 abbrev pub can_be_of : List Event → ℕ → Parties → Bool
 can_be_of list family parties = is_open_to parties (family_told list family)
 
--- it is of a family that it cannot be of, or is refused for this, if for anything
-abbrev pub refused_unless : Bool → Option StoreFault → Option AgainFault
-refused_unless can_be refusal = if can_be then option_map (λ fault. Refused fault) refusal else Some Unknown
+-- it is of a family that it cannot be of, or its digest is taken
+abbrev pub refused_by : (can_be is_taken : Bool) → Option AgainFault
+refused_by can_be is_taken = if not can_be then Some Unknown else if is_taken then Some DrawTaken else None
 
--- why the change cannot stand next in the list: it names a family that it cannot be of, or its code or token has no room, or its digest is taken
+-- why the change cannot stand next in the list: it names a family that it cannot be of, or its code's or token's digest is taken. What a
+-- list has was given once, so it is not refused for room, which may be less now.
 abbrev pub standing_refusal : List Event → ℕ → Change → Option AgainFault
-standing_refusal list moment (CodeGiven family facts digest) = refused_unless (is_new list family) (refusal list moment (digest ∷ []))
+standing_refusal list moment (CodeGiven family facts digest) = refused_by (is_new list family) (is_taken list moment (digest ∷ []))
 standing_refusal list moment (Issued home token) =
-    refused_unless (can_be_of list home.family (parties_of home)) (refusal list moment (token.digest ∷ []))
+    refused_by (can_be_of list home.family (parties_of home)) (is_taken list moment (token.digest ∷ []))
 standing_refusal list moment (FamilyEnded family) = if is_some (family_told list family) then None else Some Unknown
 standing_refusal list moment _ = None
 

@@ -4,15 +4,14 @@ use Rattle.std.specs.Prelude.{◌==◌, find}
 use Rattle.std.specs.List.{list_all}
 use Rattle.std.proofs.lemmas.Bool.Decides.{nat_tests}
 use Rattle.consent.specs.ListLaws.{find-passes, find-all, list_all-wider}
-use Rattle.consent.specs.History.{Event, Grant, grants, grant_at, opener, all_kin, is_kin, are_kin, is_new, CanStand, IsHistory}
+use Rattle.consent.specs.History.{Event, Grant, grants, grant_at, opener, all_kin, is_kin, are_kin, is_new, CanStand, IsHistory, is_taken}
 use Rattle.consent.specs.Changes.{change_of, parties_of}
 use Rattle.consent.specs.declared.change.Change.{Change}
 use Rattle.consent.specs.declared.change.Change.TheVariants.{CodeGiven, Issued}
 use Rattle.consent.specs.declared.parties.Parties.{Parties}
 use Rattle.token_store.specs.Kept.{Held}
-use Rattle.token_store.specs.Fits.{refusal}
 use Rattle.token_store.specs.FitsLaws.{fits_later}
-use Rattle.token_store.specs.Lists.{FitsList, can_be_of, refused_unless, standing_refusal}
+use Rattle.token_store.specs.Lists.{FitsList, can_be_of, refused_by, standing_refusal}
 
 -- it fits from each later moment on
 pub list_later : (store : Held) (list : List Event) (m t : ℕ) → m ≤ t → FitsList store list m → FitsList store list t
@@ -44,7 +43,7 @@ open_kin list family parties kin can = by (opener list family) refl
         (find-all (λ x. x.family == family) (λ x. list_all (are_kin x) (grants list)) (grants list) g kin at)
 
 -- what is not refused can be of its family, and its digest is free
-pub unrefused : (list : List Event) (m : ℕ) (can_be : Bool) (digest : List ℕ) → refused_unless can_be (refusal list m (digest ∷ [])) ≡ None →
+pub unrefused : (list : List Event) (m : ℕ) (can_be : Bool) (digest : List ℕ) → refused_by can_be (is_taken list m (digest ∷ [])) ≡ None →
     (can_be ≡ true) × (grant_at list digest m ≡ None)
 unrefused list m can_be digest none = (grind (arith, none), grind (arith, none))
 

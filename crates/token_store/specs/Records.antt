@@ -12,8 +12,8 @@ use Rattle.consent.specs.RecordFacts as fact
 use Rattle.consent.specs.RecordFacts.{KindFact}
 use Rattle.consent.specs.Owners.{owner_number}
 use Rattle.consent.specs.declared.change.Home.{Home}
-use Rattle.token_store.specs.declared.agenda.Agenda.{Agenda}
-use Rattle.token_store.specs.declared.agenda.Deadline.{Deadline}
+use Rattle.agenda.specs.declared.agenda.Agenda.{Agenda}
+use Rattle.agenda.specs.declared.agenda.Deadline.{Deadline}
 use Rattle.token_store.specs.declared.record.CodeTexts.{CodeTexts}
 use Rattle.token_store.specs.declared.record.Given.{Given}
 use Rattle.token_store.specs.declared.record.Given.TheVariants.{Code, Token}
@@ -21,7 +21,7 @@ use Rattle.token_store.specs.declared.record.Record.{Record}
 use Rattle.token_store.specs.declared.record.Shared.{Shared}
 use Rattle.token_store.specs.declared.tables.Tables.{Tables}
 use Rattle.consent.specs.declared.change.CodeFacts.{CodeFacts}
-use Rattle.token_store.specs.Agenda.{deadlines_of, IsExact, is_deadline}
+use Rattle.agenda.specs.Agenda.{deadlines_of, IsExact, is_deadline}
 use Rattle.token_store.specs.Found.{SeenFamily}
 use Rattle.token_store.specs.Kept.{Kept}
 use Rattle.token_store.specs.Image.{kept_told}

@@ -1,5 +1,5 @@
 -- Beside Records: only the contracts of this crate's own parts and their proofs cite this, no public clause.
-use Rattle.std.specs.Prelude.{◌≡◌, ◌≢◌, ◌+◌, ◌-◌, ◌<◌, ◌≤◌, ℕ, List, [], ◌∷◌, ◌++◌, Bool, true, false, not, nat_lt, nat_le, ◌==◌, ◌&&◌, if◌then◌else◌, ◌||◌, Option, Some, None, option_map, unwrap_or}
+use Rattle.std.specs.Prelude.{◌≡◌, ◌≢◌, ◌+◌, ◌-◌, ◌<◌, ◌≤◌, ℕ, List, [], ◌∷◌, ◌++◌, Bool, true, false, not, nat_lt, nat_le, ◌==◌, ◌&&◌, if◌then◌else◌, ◌||◌, Option, Some, None, is_some, option_map, unwrap_or}
 use Rattle.std.specs.List.{list_any, IsDistinct}
 use Rattle.std.specs.Str.{bytes_eq}
 use Rattle.std.specs.declared.ops.Bound.{Bound}
@@ -12,13 +12,13 @@ use Rattle.consent.specs.Limits.{code_life}
 use Rattle.consent.specs.History.{is_named, is_beyond, ends}
 use Rattle.consent.specs.History as told
 use Rattle.consent.specs.History.Change.{Consented}
-use Rattle.token_store.specs.declared.agenda.Deadline.{Deadline}
+use Rattle.agenda.specs.declared.agenda.Deadline.{Deadline}
 use Rattle.token_store.specs.declared.record.Record.{Record}
 use Rattle.token_store.specs.declared.record.Shared.{Shared}
 use Rattle.token_store.specs.declared.tables.Tables.{Tables}
 use Rattle.consent.specs.declared.change.CodeFacts.{CodeFacts}
 use Rattle.consent.specs.declared.change.NewToken.{NewToken}
-use Rattle.token_store.specs.Agenda.{is_deadline}
+use Rattle.agenda.specs.Agenda.{is_deadline}
 use Rattle.token_store.specs.Kept.{Kept, kept_at, kept_unexpired}
 use Rattle.token_store.specs.Image.{terms_by, kept_told}
 use Rattle.token_store.specs.Records.{kept_under, kept_in, family_numbered, shared_at, kept_of, shared_seen, all_kept, expiry_of, OwnerKey, owner_cmp, has_owner, code_shared, texts_given, member_count}
@@ -28,9 +28,21 @@ use Rattle.std.specs.Option.{option_and_then}
 abbrev pub is_live_at : ℕ → Record → Bool
 is_live_at moment r = nat_lt moment (r.moment + r.life)
 
+-- and of a family of the client's
+abbrev pub is_live_of : List (ℕ × Shared) → ℕ → ℕ → Record → Bool
+is_live_of families client moment r = is_live_at moment r && ((shared_at families r.family).client == client)
+
 -- and of the family
 abbrev pub is_member_at : ℕ → ℕ → Record → Bool
 is_member_at family moment r = (r.family == family) && is_live_at moment r
+
+-- the family is of the owner, a code opened it, and it has not ended
+abbrev pub is_open_for : ℕ → Shared → Bool
+is_open_for owner s = not s.ended && is_some s.code_scope && (s.owner == owner)
+
+-- and it lives
+abbrev pub is_open_of : ℕ → (ℕ → Bool) → ℕ × Shared → Bool
+is_open_of owner lives e = is_open_for owner e.1 && lives e.0
 
 -- what is found under the digest, as it is seen
 abbrev pub kept_found : Tables → List ℕ → Option Record → Option Kept

@@ -6,7 +6,7 @@ use Rattle.consent.specs.declared.change.Change.TheVariants.{CodeGiven, Issued}
 use Rattle.token_store.specs.declared.record.Shared.{Shared}
 use Rattle.token_store.specs.declared.tables.Coming.{Coming}
 use Rattle.token_store.specs.declared.tables.Tables.{Tables}
-use Rattle.token_store.specs.Agenda.{agenda_room}
+use Rattle.agenda.specs.Agenda.{agenda_room}
 use Rattle.consent.specs.RecordFacts.{KindFact}
 use Rattle.token_store.specs.Kept.{Room, Held}
 use Rattle.token_store.specs.Records.{kept_of, family_numbered, shared_at, is_coded, OwnerKey, code_shared, home_shared, texts_seen, texts_given}

@@ -2,15 +2,18 @@
 ghost use Rattle.std.specs.Prelude.{◌≡◌, ◌≤◌, ◌+◌, [], ◌∷◌};
 ghost use Rattle.consent.specs.Changes.{as_list, change_of};
 ghost use Rattle.consent.specs.declared.change.Change.{Change};
+ghost use Rattle.consent.specs.declared.change.Changes.{Changes};
 ghost use Rattle.token_store.specs.Fits.{MakesChanges};
 ghost use Rattle.token_store.specs.FitsParts.{Alters, MakesChange};
 ghost use Rattle.token_store.specs.Records.{IsTied};
-ghost use Rattle.token_store.specs.RecordsParts.{HasAltered, HasEnded};
+ghost use Rattle.token_store.specs.RecordsParts.{HasAltered, HasEnded, HasLowered};
 ghost use Rattle.token_store.specs.Room.{records_by, HasRoomFor, HasSpare, IsPeopled, IsReady, held_of, room_of};
 
 use crate::record::{Record, Shared};
 use crate::tables::{Coming, Tables, end_one, lower_all, spend_one};
-use consent::{Change, Changes, CodeFacts, Digest, Home, Moment, NewToken};
+use consent::{
+    Change, Changes, ClientNo, CodeFacts, Digest, Home, Moment, NewToken, OwnerNo, ScopeSet,
+};
 
 impl Tables {
     // Gives a code.
@@ -76,6 +79,23 @@ impl Tables {
         end_one(&mut self.families, &mut self.owners, family);
     }
 
+    // The owner consents to the client's having the scope: of the two's families, those of more end.
+    fn lower(&mut self, owner: OwnerNo, client: ClientNo, mask: ScopeSet, moment: Moment)
+        requires tied { IsTied self.old }
+        ensures tied { IsTied self.new }
+        ensures alters { Alters (held_of self.old) (held_of self.new) moment (Change.Consented owner client mask) }
+        ensures families { HasLowered self.old.families.entries self.new.families.entries owner client mask }
+        ensures coming { self.new.coming ≡ self.old.coming }
+    {
+        let _ = moment;
+        lower_all(
+            &mut self.families,
+            &mut self.owners,
+            (owner.get(), client.get()),
+            mask,
+        );
+    }
+
     /// Makes a change that gives nothing.
     pub(crate) fn alter(&mut self, change: &Change<'_>, moment: Moment)
         requires tied { IsTied self.old }
@@ -90,12 +110,7 @@ impl Tables {
                 owner,
                 client,
                 mask,
-            } => lower_all(
-                &mut self.families,
-                &mut self.owners,
-                (owner.get(), client.get()),
-                *mask,
-            ),
+            } => self.lower(*owner, *client, *mask, moment),
             Change::Spent { digest } => self.spend_at(digest, moment),
             Change::FamilyEnded { family } => self.end(*family, moment),
             Change::Numbered { last } => self.pass(*last),
@@ -123,6 +138,19 @@ impl Tables {
         }
     }
 
+    // The owner consents to nothing, to each client up to the number.
+    fn leave(&mut self, owner: OwnerNo, clients: u32, moment: Moment)
+        requires tied { IsTied self.old }
+        ensures tied { IsTied self.new }
+        ensures makes { MakesChanges (held_of self.old) (held_of self.new) moment (as_list (Changes.Left owner clients)) }
+    {
+        let mut done = 0;
+        while done < clients {
+            done += 1;
+            self.lower(owner, ClientNo::new(done), ScopeSet::empty(), moment);
+        }
+    }
+
     /// Makes the changes, which room was made for.
     pub(crate) fn apply(&mut self, changes: &Changes<'_>, moment: Moment)
         requires tied { IsTied self.old }
@@ -145,6 +173,7 @@ impl Tables {
                 }
                 self.spend_at(of, moment);
             }
+            Changes::Left { owner, clients } => self.leave(*owner, *clients, moment),
         }
     }
 }

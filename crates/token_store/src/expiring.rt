@@ -3,14 +3,13 @@ ghost use Rattle.std.specs.Prelude.{◌≡◌, ◌≤◌, [], ◌∷◌, true, f
 ghost use Rattle.std.specs.List.{AllByRecursion, IsDistinct};
 ghost use Rattle.std.specs.Str.{bytes_eq};
 ghost use Rattle.std.specs.Map.{keys_of, lookup};
-ghost use Rattle.token_store.specs.Agenda.{IsBounded, deadlines_in, deadlines_of};
-ghost use Rattle.token_store.specs.AgendaParts.{is_ahead, HasCome};
+ghost use Rattle.agenda.specs.Agenda.{IsBounded, deadlines_in, deadlines_of, is_ahead, HasCome};
 ghost use Rattle.token_store.specs.Records.{IsCounted, IsTied, kept_of};
 ghost use Rattle.token_store.specs.RecordsParts.{AllLive, HasTaken, IsNoneExpired, SeenSame, Sheds, TellsSame, is_live_at};
 
-use crate::agenda::{Deadline, Page};
 use crate::record::Record;
 use crate::tables::{Families, Owners, Tables, leave};
+use agenda::{Deadline, Page};
 use consent::{Digest, Moment};
 use std::collections::HashMap;
 use std::collections::hash_map::Entry;
@@ -19,7 +18,7 @@ impl Tables {
     /// Lets go of the records that have expired, and of the families without records, unless it
     /// keeps them.
     #[inline]
-    #[tactic(auto, using(crate::proofs::Timing::ahead_least, std::proofs::lemmas::Bool::Decides::nat_tests))]
+    #[tactic(auto, using(agenda::specs::AgendaLaws::ahead_least, std::proofs::lemmas::Bool::Decides::nat_tests))]
     pub(crate) fn drop_expired(&mut self, moment: Moment, keeps: bool)
         requires { IsTied self.old }
         ensures tied { IsTied self.new }

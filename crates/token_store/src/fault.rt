@@ -7,6 +7,8 @@ use std::fmt::{self, Display, Formatter, Write};
 pub enum StoreFault {
     /// More codes and tokens would be unexpired than may be.
     Full,
+    /// More of the client's would be than may be.
+    ClientFull,
     /// Something unexpired has the digest, or two of the new ones have one.
     DrawTaken,
 }
@@ -22,8 +24,8 @@ impl Display for StoreFault {
 pub enum AgainFault {
     /// It names a family that it cannot be of.
     Unknown,
-    /// Its code or token has no room, or its digest is taken.
-    Refused(StoreFault),
+    /// Something unexpired has the digest of its code or token.
+    DrawTaken,
     /// Memory was refused.
     Memory,
 }

@@ -7,12 +7,12 @@
 //! bytes that a code or token spells.
 #![tactic(auto)]
 
-mod agenda;
 mod applying;
 mod expiring;
 mod fault;
 mod found;
 mod listing;
+mod quota;
 mod record;
 mod redoing;
 mod reserving;
@@ -21,4 +21,5 @@ mod tables;
 
 pub use fault::{AgainFault, StoreFault};
 pub use found::{Family, Found};
+pub use quota::Quota;
 pub use store::Store;

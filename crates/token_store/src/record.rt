@@ -2,7 +2,7 @@
 ghost use Rattle.std.specs.Prelude.{◌≡◌, ◌+◌, ℕ, List, IfOk};
 ghost use Rattle.token_store.specs.Found.{family_seen, found_seen, kept_seen};
 ghost use Rattle.token_store.specs.Records.{kept_under, shared_seen, code_shared, home_shared, texts_seen, texts_given};
-ghost use Rattle.token_store.specs.RecordsParts.{is_live_at, IsCodeRecord, token_kept};
+ghost use Rattle.token_store.specs.RecordsParts.{is_live_at, is_open_for, IsCodeRecord, token_kept};
 
 use crate::found::{Family, Found};
 use consent::{
@@ -88,6 +88,13 @@ impl Shared {
             ended: false,
             count: 0,
         }
+    }
+
+    /// Whether it is of the owner, a code opened it, and it has not ended.
+    pub(crate) fn is_open_for(&self, owner: OwnerNo) -> bool
+        ensures { result ≡ is_open_for owner self.now }
+    {
+        !self.ended && self.code_scope.is_some() && self.owner == owner.get()
     }
 
     /// What is answered of the family.

@@ -5,8 +5,8 @@ ghost use Rattle.std.specs.Str.{bytes_eq};
 ghost use Rattle.std.specs.Map.{lookup};
 ghost use Rattle.consent.specs.History.{with_change};
 ghost use Rattle.consent.specs.Changes.{change_of, parties_of};
-ghost use Rattle.token_store.specs.FitsParts.{kept_refusal};
-ghost use Rattle.token_store.specs.Lists.{is_open_to, refused_unless, standing_refusal, ForEachList, FitsList, RefusesAgain};
+ghost use Rattle.token_store.specs.FitsParts.{are_kept};
+ghost use Rattle.token_store.specs.Lists.{is_open_to, refused_by, standing_refusal, ForEachList, FitsList, RefusesAgain};
 ghost use Rattle.token_store.specs.Records.{family_numbered, has_owner, OwnerKey, kept_of, kept_under, shared_seen, ArePeopled, IsTied};
 ghost use Rattle.token_store.specs.RecordsParts.{shared_or, where_peopled, AllLive, BecomesKnown, OthersStay, TellsSame};
 ghost use Rattle.token_store.specs.Room.{held_of};
@@ -34,13 +34,15 @@ impl Tables {
     // Why a code or token of the digest cannot stand next, in a family that it can be of or cannot.
     fn gift_refusal(&self, can_be: bool, digest: &Digest, moment: Moment) -> Option<AgainFault>
         requires { IsTied self.now }
-        ensures { result ≡ refused_unless can_be (kept_refusal (kept_of self.now) moment (digest.now ∷ [])) }
+        ensures { result ≡ refused_by can_be (are_kept (kept_of self.now) moment (digest.now ∷ [])) }
     {
         if !can_be {
             return Some(AgainFault::Unknown);
         }
-        let fault = self.refusal(slice::from_ref(digest), moment)?;
-        Some(AgainFault::Refused(fault))
+        if self.is_taken(slice::from_ref(digest), moment) {
+            return Some(AgainFault::DrawTaken);
+        }
+        None
     }
 
     // Why the change cannot stand next.

@@ -31,6 +31,7 @@ fn records_of(changes: &Changes<'_>) -> usize
         Changes::Nothing => 0,
         Changes::One(one) => records_by(one),
         Changes::Used { refresh, .. } => 1 + usize::from(refresh.is_some()),
+        Changes::Left { .. } => 0,
     }
 }
 
@@ -127,6 +128,7 @@ impl Tables {
             Changes::Nothing => Ok(()),
             Changes::One(one) => self.prepare(alloc, one),
             Changes::Used { home, .. } => self.expect(home.family, Shared::of_home(home), None),
+            Changes::Left { .. } => Ok(()),
         }
     }
 }

@@ -1,6 +1,6 @@
 //! The store of codes and tokens.
 ghost use Rattle.std.specs.Prelude.{◌≡◌, ℕ, List, [], None, length, option_map, IfErr, IfOk, OnOk};
-ghost use Rattle.consent.specs.History.{Event, greatest_family, is_new, next_family, unexpired_count, with_change};
+ghost use Rattle.consent.specs.History.{Event, families_of, greatest_family, is_new, next_family, unexpired_count, with_change};
 ghost use Rattle.consent.specs.Changes.{as_list, change_of};
 ghost use Rattle.consent.specs.Seen.{seen_at};
 ghost use Rattle.token_store.specs.Kept.{Held};
@@ -13,8 +13,9 @@ ghost use Rattle.token_store.specs.Found.{family_at, family_seen, found_seen};
 
 use crate::fault::{AgainFault, StoreFault};
 use crate::found::{Family, Found};
+use crate::quota::Quota;
 use crate::tables::Tables;
-use consent::{Change, Changes, Digest, FAMILY_LIMIT, KeptRecord, Moment};
+use consent::{Change, Changes, Digest, FAMILY_LIMIT, KeptRecord, Moment, OwnerNo};
 use std::alloc::{AllocError, Global};
 use std::marker::Model;
 
@@ -95,11 +96,20 @@ impl Store {
         self.tables.last
     }
 
-    /// Why codes or tokens of these digests may not be given. Full comes before DrawTaken.
-    pub fn refusal(&self, digests: &[Digest], moment: Moment) -> Option<StoreFault>
-        ensures { ForEachHistory self.now moment (λ history. result ≡ refusal history moment digests.now) }
+    /// Why codes or tokens of these digests may not be given to the client of the quota. Full comes
+    /// first, and DrawTaken last.
+    pub fn refusal(&self, digests: &[Digest], quota: &Quota, moment: Moment) -> Option<StoreFault>
+        ensures { ForEachHistory self.now moment (λ history. result ≡ refusal quota.now history moment digests.now) }
     {
-        self.tables.refusal(digests, moment)
+        self.tables.refusal(digests, quota, moment)
+    }
+
+    /// How many of the owner's families there are that a code opened and nothing ended, and of which
+    /// something is unexpired.
+    pub fn families_of(&self, owner: OwnerNo, moment: Moment) -> usize
+        ensures { ForEachHistory self.now moment (λ history. result ≡ families_of history owner moment) }
+    {
+        self.tables.families_of(owner, moment)
     }
 
     /// Takes the memory that the changes need, which changes no answer.

@@ -1,20 +1,20 @@
 //! The tables: records by digest, the families, and those of each owner and client.
-ghost use Rattle.std.specs.Prelude.{◌≡◌, ◌+◌, ◌<◌, ◌≤◌, ◌^◌, ℕ, [], ◌∷◌, ◌++◌, None, Some, true, false, not, nat_lt, max, count_by, is_some, option_map, option_copied, OnOk, OnErr};
+ghost use Rattle.std.specs.Prelude.{nat_eq, ◌==◌, ◌≡◌, ◌+◌, ◌<◌, ◌≤◌, ◌^◌, ℕ, [], ◌∷◌, ◌++◌, None, Some, true, false, not, nat_lt, max, count_by, is_some, option_map, option_copied, OnOk, OnErr, IfSome, IfNone};
 ghost use Rattle.std.specs.List.{list_any, IsDistinct};
 ghost use Rattle.std.specs.Str.{bytes_eq};
 ghost use Rattle.std.specs.Map.{lookup, keys_of, values_of};
-ghost use Rattle.token_store.specs.Agenda.{deadlines_of, least};
-ghost use Rattle.token_store.specs.AgendaParts.{HasCome};
-ghost use Rattle.token_store.specs.Kept.{kept_at, kept_lives, kept_unexpired};
-ghost use Rattle.token_store.specs.FitsParts.{are_kept, has_kept_room, kept_refusal};
+ghost use Rattle.agenda.specs.Agenda.{deadlines_of, least, HasCome};
+ghost use Rattle.token_store.specs.Kept.{kept_at, kept_lives, kept_unexpired, kept_unexpired_of};
+ghost use Rattle.token_store.specs.FitsParts.{are_kept, has_kept_client_room, has_kept_room, kept_refusal};
 ghost use Rattle.token_store.specs.Room.{HasSpare, Waits, room_of};
 ghost use Rattle.token_store.specs.Records.{family_numbered, kept_under, kept_of, shared_at, IsOwned, IsTied};
-ghost use Rattle.token_store.specs.RecordsParts.{is_live_at, is_member_at, key_of, key_under, open_scope, start_of, IsNextOwned, kept_found, HasEntered, HasLeft, HasClosed, HasEnded, HasIndexed, HasLowered, HasPut, HasStruck, AllLive, KeepsToo, OthersStay, TellsSame, spent_in};
+ghost use Rattle.token_store.specs.RecordsParts.{is_live_at, is_live_of, is_member_at, is_open_of, key_of, key_under, open_scope, start_of, IsNextOwned, kept_found, HasEntered, HasLeft, HasClosed, HasEnded, HasIndexed, HasLowered, HasPut, HasStruck, AllLive, KeepsToo, OthersStay, TellsSame, spent_in};
 
-use crate::agenda::Agenda;
 use crate::fault::StoreFault;
+use crate::quota::Quota;
 use crate::record::{CodeTexts, Record, Shared};
-use consent::{Digest, Moment, RECORD_LIMIT, ScopeSet};
+use agenda::Agenda;
+use consent::{ClientNo, Digest, Moment, OwnerNo, ScopeSet};
 use std::alloc::{AllocError, Global};
 use std::collections::{BTreeSet, HashMap};
 use std::ops::Bound;
@@ -114,18 +114,58 @@ impl Tables {
     }
 
     /// So many more would be one too many.
-    pub(crate) fn is_full(&self, more: usize, moment: Moment) -> bool
+    pub(crate) fn is_full(&self, limit: u32, more: usize, moment: Moment) -> bool
         requires { IsTied self.now }
-        ensures { result ≡ not (has_kept_room (kept_of self.now) moment more) }
+        ensures { result ≡ not (has_kept_room limit (kept_of self.now) moment more) }
     {
-        let Some(most) = RECORD_LIMIT.checked_sub(more) else {
+        let Some(most) = most_before(limit, more) else {
             return true;
         };
         self.records.len() > most && self.count_unexpired(moment) > most
     }
 
+    // How many of the client's records are unexpired.
+    fn count_of(&self, client: ClientNo, moment: Moment) -> usize
+        ensures { result ≡ kept_unexpired_of (kept_of self.now) client moment }
+    {
+        self.count_live_of(client, moment)
+    }
+
+    // How many are so: all records are looked at.
+    fn count_live_of(&self, client: ClientNo, moment: Moment) -> usize
+        ensures { result ≡ count_by (is_live_of self.now.families.entries client moment) (values_of self.now.records.entries) }
+    {
+        self.records
+            .values()
+            .filter(|record| record.is_unexpired(moment) && self.is_of(record.family, client))
+            .count()
+    }
+
+    // Whether the family is the client's.
+    fn is_of(&self, number: u64, client: ClientNo) -> bool
+        ensures { result ≡ ((shared_at self.now.families.entries number).client == client) }
+    {
+        self.families
+            .get(&number)
+            .is_some_and(|shared| shared.client == client)
+    }
+
+    // So many more of the client's would be one too many, if those have a limit.
+    fn is_client_full(&self, quota: &Quota, more: usize, moment: Moment) -> bool
+        requires { IsTied self.now }
+        ensures { result ≡ not (has_kept_client_room quota.now.of_client (kept_of self.now) quota.now.client moment more) }
+    {
+        let Some(limit) = quota.of_client else {
+            return false;
+        };
+        let Some(most) = most_before(limit, more) else {
+            return true;
+        };
+        self.records.len() > most && self.count_of(quota.client, moment) > most
+    }
+
     // One of the digests is that of an unexpired record, or of another of them.
-    fn is_taken(&self, digests: &[Digest], moment: Moment) -> bool
+    pub(crate) fn is_taken(&self, digests: &[Digest], moment: Moment) -> bool
         requires { IsDistinct bytes_eq (keys_of self.now.records.entries) }
         ensures { result ≡ are_kept (kept_of self.now) moment digests.now }
     {
@@ -138,13 +178,21 @@ impl Tables {
         self.is_taken(others, moment)
     }
 
-    /// Why codes or tokens of these digests may not be given.
-    pub(crate) fn refusal(&self, digests: &[Digest], moment: Moment) -> Option<StoreFault>
+    /// Why codes or tokens of these digests may not be given to the client of the quota.
+    pub(crate) fn refusal(
+        &self,
+        digests: &[Digest],
+        quota: &Quota,
+        moment: Moment,
+    ) -> Option<StoreFault>
         requires { IsTied self.now }
-        ensures { result ≡ kept_refusal (kept_of self.now) moment digests.now }
+        ensures { result ≡ kept_refusal quota.now (kept_of self.now) moment digests.now }
     {
-        if self.is_full(digests.len(), moment) {
+        if self.is_full(quota.records, digests.len(), moment) {
             return Some(StoreFault::Full);
+        }
+        if self.is_client_full(quota, digests.len(), moment) {
+            return Some(StoreFault::ClientFull);
         }
         if self.is_taken(digests, moment) {
             return Some(StoreFault::DrawTaken);
@@ -178,6 +226,19 @@ impl Tables {
         ensures { result ≡ list_any (is_member_at number moment) (values_of self.now.records.entries) }
     {
         self.records.values().any(|record| record.family == number && record.is_unexpired(moment))
+    }
+
+    /// How many of the owner's families there are that a code opened and nothing ended, and of which
+    /// something is unexpired: all families are looked at.
+    pub(crate) fn families_of(&self, owner: OwnerNo, moment: Moment) -> usize
+        requires { IsTied self.now }
+        ensures count { result ≡ count_by (is_open_of owner (kept_lives (kept_of self.now) moment)) self.now.families.entries }
+        ensures unique { IsDistinct nat_eq (keys_of self.now.families.entries) }
+    {
+        self.families
+            .iter()
+            .filter(|(number, shared)| shared.is_open_for(owner) && self.lives(**number, moment))
+            .count()
     }
 
     /// The number is a family's.
@@ -258,6 +319,14 @@ impl Tables {
         share(&mut self.families, new.family, shared);
         self.put(digest, new);
     }
+}
+
+// How many there may be before so many more, if so many may be at all.
+fn most_before(limit: u32, more: usize) -> Option<usize>
+    ensures some { IfSome result (λ most. most + more ≡ limit) }
+    ensures none { IfNone result (limit < more) }
+{
+    (limit as usize).checked_sub(more)
 }
 
 // The scope under which a family stands in the index, if it stands there.

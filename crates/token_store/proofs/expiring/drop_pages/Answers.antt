@@ -1,6 +1,6 @@
 use Rattle.std.proofs.Common.{◌≡◌, ◌+◌, ◌++◌, ◌∷◌, [], take, ap, sym, ◌∙◌, arith}
 use Rattle.token_store.proofs.Names.{take_more, take_all, deadlines_in}
-use Rattle.token_store.proofs.Timing.{pages_pushed}
+use Rattle.agenda.specs.AgendaLaws.{pages_pushed}
 use Rattle.token_store.proofs.Sweeping.{sheds_on}
 use Rattle.token_store.proofs.expiring.drop_pages.Goals as goal
 

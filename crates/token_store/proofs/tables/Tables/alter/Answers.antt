@@ -1,30 +1,15 @@
 use Rattle.std.proofs.Common.{refl}
 use Rattle.token_store.proofs.Names.{told, event_at, kept_of}
-use Rattle.token_store.proofs.Families.{tied_lowered, view_lowered, unaltered, ended_altered}
-use Rattle.token_store.proofs.Following.{fits_consented, fits_unmoved}
+use Rattle.token_store.proofs.Families.{unaltered, ended_altered}
+use Rattle.token_store.proofs.Following.{fits_unmoved}
 use Rattle.token_store.proofs.Changing.{last_pushed, last_pushed_none}
 use Rattle.token_store.proofs.tables.Tables.alter.Goals as goal
 
 pub returns-in-Consented : goal.returns-in-Consented
 returns-in-Consented c =
-    let t = c.args.self.now in
-    let slots = t.families.entries in
-    let slots' = c.lower_all.new.families.entries in
-    let es = t.records.entries in
     let w = c.in-Consented in
-    let m = c.args.moment in
-    let lowered = rw (c.get.ensures.value, c.get-in-Consented.ensures.value) at c.lower_all.ensures.lowered in
-    let owned = c.lower_all.ensures.owned in
-    let changed = view_lowered slots slots' es w.owner w.client w.mask lowered in
-    record {
-      tied = tied_lowered slots slots' w.owner w.client w.mask es t.agenda t.owners.keys c.lower_all.new.owners.keys t.last lowered owned c.requires.tied;
-      alters = rw w.is (λ history fits. record {
-        kept = rw changed (fits_consented (kept_of t) history m w.owner w.client w.mask fits.kept);
-        last = last_pushed_none t.last history (event_at m (told.Consented w.owner w.client w.mask)) fits.last refl;
-      });
-      families = rw w.is lowered;
-      coming = refl;
-    }
+    let e = c.lower.ensures in
+    rw w.is (record { tied = e.tied; alters = e.alters; families = e.families; coming = e.coming })
 
 pub returns-in-Spent-clause-families : goal.returns-in-Spent-clause-families
 returns-in-Spent-clause-families c =

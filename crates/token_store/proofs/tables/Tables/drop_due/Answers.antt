@@ -1,6 +1,6 @@
 use Rattle.std.proofs.Common.{◌∙◌, ap, refl, arith}
 use Rattle.token_store.proofs.Names.{list_any, deadlines_in, deadlines_of, is_deadline, AllLive}
-use Rattle.token_store.proofs.Timing.{ahead_any}
+use Rattle.agenda.specs.AgendaLaws.{ahead_any}
 use Rattle.token_store.proofs.Sweeping.{sheds_on}
 use Rattle.token_store.proofs.tables.Tables.drop_due.Goals as goal
 

@@ -1,6 +1,6 @@
 use Rattle.std.proofs.Common.{◌<◌, arith}
 use Rattle.token_store.proofs.Names.{least, deadlines_of, nat_tests}
-use Rattle.token_store.proofs.Timing.{least_at}
+use Rattle.agenda.specs.AgendaLaws.{least_at}
 use Rattle.token_store.proofs.tables.Tables.is_none_expired.Goals as goal
 
 pub returns-clause-value : goal.returns-clause-value
