@@ -1,6 +1,7 @@
 -- What was found under a digest, as the history has it.
 use Rattle.std.specs.Prelude.{◌≡◌, ◌&&◌, ℕ, List, Bool, not, Some}
-use Rattle.answers.specs.Names.{Event, Grant, grant_at, is_spent, has_ended, has_room, is_taken, Seen, found_seen, Found}
+use Rattle.answers.specs.Names.{Event, Grant, grant_at, is_spent, has_ended, RegistryRecord, has_room, has_client_room, is_taken, Seen, found_seen, Found}
+use Rattle.answers.specs.Quotas.{records_of}
 
 -- what is seen, under its digest
 abbrev pub grant_seen : List ℕ → Seen → Grant
@@ -27,6 +28,8 @@ pub record IsFound (history : List Event) (digest : List ℕ) (m : ℕ) (found :
   pub spent_is : found.spent ≡ is_spent history digest m
   pub ended_is : found.ended ≡ has_ended history found.family
 
--- there is room for as many, and none of the digests is taken
-abbrev pub is_free : List Event → ℕ → List (List ℕ) → Bool
-is_free history m digests = has_room history m digests && not (is_taken history m digests)
+-- there is room for as many, so there is among the client's, and none of the digests is taken
+abbrev pub is_free : RegistryRecord → List Event → ℕ → ℕ → List (List ℕ) → Bool
+is_free rules history m client digests =
+    has_room rules.limits.records history m digests && has_client_room (records_of rules client) history client m digests
+    && not (is_taken history m digests)

@@ -1,6 +1,7 @@
 -- What public clauses cite. docs/DEFINITIONS.md says what to read in which order.
 pub mod Setting
 pub mod Outcomes
+pub mod Quotas
 pub mod Wants
 pub mod Halts
 pub mod Requesters

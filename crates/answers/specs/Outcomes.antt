@@ -1,9 +1,10 @@
 -- The reply to a request and what happens with it, as the first point of a list that holds.
 use Rattle.std.specs.Prelude.{ℕ, List, [], Bool, true, false, not, Option, Some, None}
-use Rattle.answers.specs.Names.{Change, has_room, is_taken, ErrorName, InvalidClient, AccessDenied, Reply, plain, Empty, Narrowed, Allowed, EmptyScope}
+use Rattle.answers.specs.Names.{Change, has_room, has_client_room, is_taken, ErrorName, InvalidClient, AccessDenied, Reply, plain, Empty, Narrowed, Allowed, EmptyScope}
 use Rattle.messages.specs.Reply.Body.{Failure}
 use Rattle.hook_record.specs.declared.Narrowed.TheVariants.{Denied}
 use Rattle.answers.specs.Setting.{Setting}
+use Rattle.answers.specs.Quotas.{records_of}
 
 pub record Outcome : Type 0 where
   pub reply : Reply
@@ -41,11 +42,12 @@ bare status = only (plain status Empty)
 abbrev pub unavailable : Outcome
 unavailable = bare 503
 
--- codes or tokens of these digests are given, unless there is no room or a draw is taken
-abbrev pub unless_taken : Setting → List (List ℕ) → Outcome → Outcome
-unless_taken setting digests given =
-    point (not (has_room setting.history setting.moment digests)) unavailable
-    (point (is_taken setting.history setting.moment digests) unavailable given)
+-- codes or tokens of these digests are given to the client, unless there is no room, none for it, or a draw is taken
+abbrev pub unless_taken : Setting → ℕ → List (List ℕ) → Outcome → Outcome
+unless_taken setting client digests given =
+    point (not (has_room setting.rules.limits.records setting.history setting.moment digests)) unavailable
+    (point (not (has_client_room (records_of setting.rules client) setting.history client setting.moment digests)) unavailable
+    (point (is_taken setting.history setting.moment digests) unavailable given))
 
 -- how far a grant goes that a host has left
 pub record Extent : Type 0 where

@@ -2,7 +2,7 @@
 use Rattle.std.specs.Prelude.{ℕ, List, Option, bytes_eq, codes, find}
 use Rattle.answers.specs.declared.endpoint.TheConstants.{ENDPOINTS}
 use Rattle.answers.specs.declared.endpoint.Endpoint.{Endpoint}
-use Rattle.answers.specs.declared.endpoint.Endpoint.TheVariants.{Authorize, GiveConsent, IssueToken, RevokeToken, Introspect, InstallHook, RemoveHook, Read}
+use Rattle.answers.specs.declared.endpoint.Endpoint.TheVariants.{Authorize, GiveConsent, IssueToken, RevokeToken, Introspect, InstallHook, RemoveHook, EndOwner, Read}
 use Rattle.answers.specs.declared.endpoint.Document.TheVariants.{Hooks}
 
 abbrev pub path_at : Endpoint → List ℕ
@@ -13,6 +13,7 @@ path_at RevokeToken = codes "/revoke"
 path_at Introspect = codes "/introspect"
 path_at InstallHook = codes "/hooks"
 path_at RemoveHook = codes "/hooks/remove"
+path_at EndOwner = codes "/owners/end"
 path_at (Read Hooks) = codes "/hooks/list"
 
 -- the name under which its requests are counted
@@ -24,6 +25,7 @@ name_at RevokeToken = codes "revoke"
 name_at Introspect = codes "introspect"
 name_at InstallHook = codes "hooks"
 name_at RemoveHook = codes "hooks_remove"
+name_at EndOwner = codes "owners_end"
 name_at (Read Hooks) = codes "hooks_list"
 
 -- its place in the list of all
@@ -35,7 +37,8 @@ place_of RevokeToken = 3
 place_of Introspect = 4
 place_of InstallHook = 5
 place_of RemoveHook = 6
-place_of (Read Hooks) = 7
+place_of EndOwner = 7
+place_of (Read Hooks) = 8
 
 abbrev pub method_at : Endpoint → List ℕ
 method_at Authorize = codes "GET"

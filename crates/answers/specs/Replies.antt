@@ -1,7 +1,7 @@
 -- The reply that an answer is.
 use Rattle.std.specs.Prelude.{ℕ, List, [], ◌∷◌, codes, Option, Some, None, option_copied}
-use Rattle.answers.specs.Names.{scope_text, token_text, option_map_or, RegistryRecord, client_at, sub_of, owner_number, Draws, ErrorName, Reply, body, consent_body, hook_body, plain, refused_body}
-use Rattle.answers.specs.Names.{sent_back, error_text, Answer, Done, Unavailable, Access, Both, Consented, CodeSent, TurnedBack, Active, Inactive, HookDone, HookRefused}
+use Rattle.answers.specs.Names.{scope_text, token_text, option_map_or, RegistryRecord, client_at, sub_of, owner_number, Draws, ErrorName, Reply, body, consent_body, ended_body, hook_body, plain, refused_body}
+use Rattle.answers.specs.Names.{sent_back, error_text, Answer, Done, Unavailable, Access, Both, Consented, CodeSent, TurnedBack, Active, Inactive, HookDone, HookRefused, Ended}
 use Rattle.hook_host.specs.Faults.{hook_fault_text}
 use Rattle.messages.specs.Members.Member.{Texts}
 use Rattle.answers.specs.Outcomes.{status_of}
@@ -39,8 +39,9 @@ reply_of rules names (Consented mask) = plain 200 (consent_body (scope_text rule
 reply_of rules names (CodeSent uri draw state) = code_reply uri.now draw (option_copied state)
 reply_of rules names (TurnedBack uri error state) = error_reply uri.now error (option_copied state)
 reply_of rules names (Active client issued expires scope owner kind) =
-    plain 200 (body.Active (id_of rules client) expires issued (scope_text rules.scopes scope) (sub_of (owner_number owner) rules.owners) kind)
+    plain 200 (body.Active (id_of rules client) expires issued (scope_text rules.scopes scope) (sub_of (owner_number owner) rules) kind)
 reply_of rules names Inactive = plain 200 body.Inactive
 reply_of rules names (HookDone name) = plain 200 (hook_body name.now)
 reply_of rules names (HookRefused fault) = plain 400 (refused_body (hook_fault_text fault))
+reply_of rules names (Ended families consents) = plain 200 (ended_body families consents)
 reply_of rules names Hooks = plain 200 (body.Told (Texts (codes "hooks") names ∷ []))

@@ -61,9 +61,9 @@ with_authenticated rules asked next =
 
 -- OWNERS
 
--- the owner of the key that was sent
+-- the owner for whom the request speaks: by its own key, or by the gateway's with its number
 abbrev pub owner_of_key : RegistryRecord → Asked → Option ℕ
-owner_of_key rules asked = option_and_then (λ key. owner_with key rules.owners) asked.owner_key
+owner_of_key rules asked = option_and_then (λ key. owner_with key rules) asked.owner_key
 
 -- SCOPES (RFC 6749, section 3.3)
 

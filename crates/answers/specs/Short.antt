@@ -4,7 +4,6 @@ use Rattle.answers.specs.Names.{Written, reply_bytes, Answer, CodeSent, TurnedBa
 use Rattle.clients.specs.Limits.{identifier_limit, key_limit, redirect_limit}
 use Rattle.hook_host.specs.Names.{name_limit}
 use Rattle.params.specs.Limits.{scope_text_limit}
-use Rattle.messages.specs.declared.token.ActiveToken.{ActiveToken}
 use Rattle.messages.specs.Small.{reply_limit}
 
 -- its bytes are few
@@ -19,12 +18,6 @@ state_limit = 8192
 pub record IsShortReturn (uri : List ℕ) (state : Option (List ℕ)) : Type 0 where
   pub short_uri : length uri ≤ redirect_limit
   pub short_state : length (unwrap_or state []) ≤ state_limit
-
--- a live token's client and scope are short, and so is what its owner is called
-pub record IsShortLive (token : ActiveToken) : Type 0 where
-  pub client : length token.client.now ≤ identifier_limit
-  pub scope : length token.scope.now ≤ scope_text_limit
-  pub sub : length (unwrap_or (option_copied token.sub) []) ≤ key_limit
 
 -- what came with the request and is said again is short
 abbrev pub IsShortAnswer : Answer → Type 0

@@ -1,6 +1,6 @@
 -- How requests are counted.
 use Rattle.std.specs.Prelude.{ℕ, ◌+◌, ◌-◌, ◌^◌, ◌==◌, min, if◌then◌else◌, slice_index_or, slice_set, Option, Some, None}
-use Rattle.answers.specs.Names.{Answer, Want, Memory, StoreRoom, FreshDraw, ConsentRoom, Endpoint}
+use Rattle.answers.specs.Names.{Answer, Want, Memory, StoreRoom, ClientRoom, FreshDraw, ConsentRoom, Endpoint}
 use Rattle.answers.specs.declared.answer.Answer.TheVariants as answer
 use Rattle.answers.specs.Paths.{place_of}
 use Rattle.answers.specs.declared.tally.Asked.{Asked}
@@ -46,6 +46,7 @@ replied r status =
 abbrev pub wanted : Wanted → Want → Wanted
 wanted w Memory = record w { memory = one_more w.memory }
 wanted w StoreRoom = record w { store_room = one_more w.store_room }
+wanted w ClientRoom = record w { client_room = one_more w.client_room }
 wanted w FreshDraw = record w { fresh_draw = one_more w.fresh_draw }
 wanted w ConsentRoom = record w { consent_room = one_more w.consent_room }
 

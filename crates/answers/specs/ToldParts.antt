@@ -1,5 +1,10 @@
 -- Beside Told: only the contracts of this crate's own parts and their proofs cite this, no public clause.
-use Rattle.std.specs.Prelude.{ℕ, List, Result}
+use Rattle.std.specs.Prelude.{ℕ, List, Option, Result}
+use Rattle.answers.specs.Names.{RegistryRecord, scope_text}
+use Rattle.answers.specs.Replies.{id_of}
+use Rattle.answers.specs.declared.writing.LiveToken.{LiveToken}
+use Rattle.messages.specs.Reply.{Body}
+use Rattle.messages.specs.Reply.Body.{Active}
 use Rattle.answers.specs.Names.{Event, Grant, Found, Halt}
 use Rattle.answers.specs.Outcomes.{Outcome}
 use Rattle.answers.specs.Setting.{HostSays, Setting}
@@ -8,6 +13,11 @@ use Rattle.answers.specs.Found.{IsFound, grant_found}
 use Rattle.answers.specs.declared.view.View.{View}
 use Rattle.answers.specs.declared.decision.Decision.{Decision}
 use Rattle.answers.specs.Told.{Decides}
+
+-- what is told of a live token whose owner is called so
+abbrev pub live_body_of : RegistryRecord → LiveToken → Option (List ℕ) → Body
+live_body_of rules token called =
+    Active (id_of rules token.client) token.expires token.issued (scope_text rules.scopes token.scope) called token.kind
 
 -- whatever history the view shows, and whatever the host says, its points come to the decision, or halt
 abbrev pub DecidesBy : View → Result Decision Halt → (Setting → Outcome) → Type 0

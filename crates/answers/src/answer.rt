@@ -64,4 +64,9 @@ pub enum Answer<'a> {
     HookRefused(HookFault),
     /// The names of the host's hooks.
     Hooks,
+    /// An owner left: so many of its families ended, and so many consents.
+    Ended {
+        families: usize,
+        consents: u32,
+    },
 }

@@ -67,7 +67,7 @@ pub fn named_client<'r>(rules: &'r Registry, params: &Params<'_>) -> Option<Know
     })
 }
 
-/// The owner of the key that was sent.
+/// The owner for whom the request speaks: by its own key, or by the gateway's with its number.
 pub fn owner(rules: &Registry, request: &Request<'_>) -> Option<OwnerNo>
     ensures { result ≡ owner_of_key rules.now (asked_of request.entry.now) }
 {

@@ -13,6 +13,7 @@ pub enum Endpoint {
     Introspect,
     InstallHook,
     RemoveHook,
+    EndOwner,
     /// The document is told, by reading alone.
     Read(Document),
 }
@@ -25,7 +26,7 @@ pub enum Document {
 }
 
 /// How many endpoints there are.
-pub const ENDPOINT_COUNT: usize = 8;
+pub const ENDPOINT_COUNT: usize = 9;
 
 /// All endpoints, each at its place.
 pub const ENDPOINTS: [Endpoint; ENDPOINT_COUNT] = [
@@ -36,6 +37,7 @@ pub const ENDPOINTS: [Endpoint; ENDPOINT_COUNT] = [
     Endpoint::Introspect,
     Endpoint::InstallHook,
     Endpoint::RemoveHook,
+    Endpoint::EndOwner,
     Endpoint::Read(Document::Hooks),
 ];
 
@@ -44,7 +46,7 @@ impl Endpoint {
     pub(crate) fn place(self) -> usize
         ensures value { result ≡ place_of self }
         ensures there { slice_get ENDPOINTS result ≡ Some self }
-        ensures inside { result < 8 }
+        ensures inside { result < 9 }
     {
         match self {
             Endpoint::Authorize => 0,
@@ -54,7 +56,8 @@ impl Endpoint {
             Endpoint::Introspect => 4,
             Endpoint::InstallHook => 5,
             Endpoint::RemoveHook => 6,
-            Endpoint::Read(Document::Hooks) => 7,
+            Endpoint::EndOwner => 7,
+            Endpoint::Read(Document::Hooks) => 8,
         }
     }
 
@@ -69,6 +72,7 @@ impl Endpoint {
             Endpoint::Introspect => b"/introspect".as_slice(),
             Endpoint::InstallHook => b"/hooks".as_slice(),
             Endpoint::RemoveHook => b"/hooks/remove".as_slice(),
+            Endpoint::EndOwner => b"/owners/end".as_slice(),
             Endpoint::Read(Document::Hooks) => b"/hooks/list".as_slice(),
         }
     }
@@ -85,6 +89,7 @@ impl Endpoint {
             Endpoint::Introspect => "introspect",
             Endpoint::InstallHook => "hooks",
             Endpoint::RemoveHook => "hooks_remove",
+            Endpoint::EndOwner => "owners_end",
             Endpoint::Read(Document::Hooks) => "hooks_list",
         }
     }

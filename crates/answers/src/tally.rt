@@ -33,6 +33,7 @@ pub struct Replied {
 pub struct Wanted {
     pub memory: u64,
     pub store_room: u64,
+    pub client_room: u64,
     pub fresh_draw: u64,
     pub consent_room: u64,
 }
@@ -129,6 +130,7 @@ impl Wanted {
         match want {
             Want::Memory => wanted.memory = one_more(wanted.memory),
             Want::StoreRoom => wanted.store_room = one_more(wanted.store_room),
+            Want::ClientRoom => wanted.client_room = one_more(wanted.client_room),
             Want::FreshDraw => wanted.fresh_draw = one_more(wanted.fresh_draw),
             Want::ConsentRoom => wanted.consent_room = one_more(wanted.consent_room),
         }

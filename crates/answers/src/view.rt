@@ -3,6 +3,7 @@ ghost use Rattle.std.specs.Prelude.{◌≡◌, List, IfSome};
 ghost use Rattle.consent.specs.History.{Event, consented_scope, grant_at, next_family};
 ghost use Rattle.consent.specs.Owners.{owner_number};
 ghost use Rattle.answers.specs.Found.{IsFound, is_free};
+ghost use Rattle.answers.specs.Quotas.{quota_of};
 ghost use Rattle.answers.specs.Views.{Finds, Shows};
 ghost use Rattle.answers.specs.Wants.{want_of};
 ghost use Rattle.token_store.specs.Fits.{refusal};
@@ -11,7 +12,7 @@ use crate::want::{Want, want_of};
 use clients::{Client, ClientNo, Registry};
 use consent::{Consents, Digest, Moment, OwnerNo, ScopeSet};
 use messages::Draws;
-use token_store::{Found, Store};
+use token_store::{Found, Quota, Store, StoreFault};
 
 /// The rules, what is kept, the moment, and the random bytes of what the reply may give. It is only read.
 #[derive(Clone, Copy)]
@@ -33,19 +34,44 @@ impl<'a> View<'a> {
         self.store.at(digest, self.moment)
     }
 
-    /// Whether codes or tokens of these digests may be given.
-    pub fn is_free(&self, digests: &[Digest]) -> bool
-        ensures { (history : List Event) → Shows self.now history → result ≡ is_free history self.now.moment digests.now }
+    // How many codes and tokens may be unexpired, also of the client's.
+    fn quota(&self, client: ClientNo) -> Quota
+        ensures { result ≡ quota_of self.now.rules.now client }
     {
-        self.store.refusal(digests, self.moment).is_none()
+        let of_client = match self.rules.client_numbered(client) {
+            Some(known) => known.records(),
+            None => None,
+        };
+        Quota {
+            records: self.rules.limits().records,
+            client,
+            of_client,
+        }
     }
 
-    /// What is wanting where codes or tokens of these digests may not be given.
-    pub fn want(&self, digests: &[Digest]) -> Want
+    // Why codes or tokens of these digests may not be given to the client.
+    fn refusal(&self, client: ClientNo, digests: &[Digest]) -> Option<StoreFault>
         ensures { (history : List Event) → Shows self.now history →
-            result ≡ want_of (refusal history self.now.moment digests.now) }
+            result ≡ refusal (quota_of self.now.rules.now client) history self.now.moment digests.now }
     {
-        want_of(self.store.refusal(digests, self.moment))
+        let quota = self.quota(client);
+        self.store.refusal(digests, &quota, self.moment)
+    }
+
+    /// Whether codes or tokens of these digests may be given to the client.
+    pub fn is_free(&self, client: ClientNo, digests: &[Digest]) -> bool
+        ensures { (history : List Event) → Shows self.now history →
+            result ≡ is_free self.now.rules.now history self.now.moment client digests.now }
+    {
+        self.refusal(client, digests).is_none()
+    }
+
+    /// What is wanting where codes or tokens of these digests may not be given to the client.
+    pub fn want(&self, client: ClientNo, digests: &[Digest]) -> Want
+        ensures { (history : List Event) → Shows self.now history →
+            result ≡ want_of (refusal (quota_of self.now.rules.now client) history self.now.moment digests.now) }
+    {
+        want_of(self.refusal(client, digests))
     }
 
     /// The number of the family that is opened next.

@@ -1,25 +1,25 @@
 //! The one place that writes replies.
-ghost use Rattle.std.specs.Prelude.{◌≡◌, ◌≤◌, [], ◌∷◌, IfOk, IsOk, IfSome, codes, length, map};
+ghost use Rattle.std.specs.Prelude.{◌≡◌, ◌≤◌, [], ◌∷◌, IfOk, IsOk, IfSome, Some, codes, decimal, length, map, option_map, string_bytes, unwrap_or};
 ghost use Rattle.std.specs.Option.{option_copied};
 ghost use Rattle.clients.specs.Limits.{identifier_limit, key_limit};
-ghost use Rattle.clients.specs.Owners.{sub_of};
+ghost use Rattle.clients.specs.Owners.{sub_of, sub_text};
 ghost use Rattle.consent.specs.Owners.{owner_number};
 ghost use Rattle.hook_host.specs.Names.{AreHookNames};
 ghost use Rattle.messages.specs.Members.Member.{Texts};
-ghost use Rattle.messages.specs.Reply.{IsBare, consent_body, plain, refused_body};
+ghost use Rattle.messages.specs.Reply.{IsBare, consent_body, ended_body, plain, refused_body};
 ghost use Rattle.messages.specs.Reply.Body.{Told};
 ghost use Rattle.messages.specs.Written.{in_writing};
 ghost use Rattle.pkce.specs.Token.{token_text};
 ghost use Rattle.hook_host.specs.Faults.{hook_fault_text};
 ghost use Rattle.params.specs.Scope.{scope_text};
 ghost use Rattle.answers.specs.Replies.{access_reply, both_reply, code_reply, error_reply, id_of, reply_of};
-ghost use Rattle.messages.specs.Live.{live_body};
-ghost use Rattle.answers.specs.Short.{IsShortReply, IsShortAnswer, IsShortLive, IsShortReturn};
+ghost use Rattle.answers.specs.ToldParts.{live_body_of};
+ghost use Rattle.answers.specs.Short.{IsShortReply, IsShortAnswer, IsShortReturn};
 
 use crate::answer::Answer;
 use crate::halt::status_of;
-use clients::Registry;
-use consent::{ClientNo, OwnerNo, ScopeSet};
+use clients::{OwnerSub, Registry};
+use consent::{ClientNo, OwnerNo, ScopeSet, TokenKind};
 use hook_host::{HookFault, HookHost};
 use http::StatusCode;
 use messages::{
@@ -92,18 +92,100 @@ fn id_of(rules: &Registry, number: ClientNo) -> &str
 }
 
 // What the owner is called, if there is one and it is called anything.
-fn sub_of(rules: &Registry, owner: Option<OwnerNo>) -> Option<&str>
-    ensures value { option_copied result ≡ sub_of (owner_number owner) rules.now.owners }
-    ensures short { IfSome result (λ sub. length sub.now ≤ key_limit) }
+fn sub_of(rules: &Registry, owner: Option<OwnerNo>) -> Option<OwnerSub<'_>>
+    ensures value { option_map sub_text result ≡ sub_of (owner_number owner) rules.now }
+    ensures short { IfSome result (λ sub. length (sub_text sub) ≤ key_limit) }
 {
     rules.owner_sub(owner?)
 }
 
-fn live(alloc: Global, token: ActiveToken<'_>) -> Result<Response, AllocError>
-    ensures value { IfOk result (λ reply. reply ≡ in_writing (plain 200 (live_body token.entry))) }
-    ensures short { IsShortLive token.entry → IfOk result IsShortReply }
+// What is told of a live token beside what its owner is called.
+#[derive(Clone, Copy)]
+struct LiveToken {
+    client: ClientNo,
+    issued: u64,
+    expires: u64,
+    scope: ScopeSet,
+    kind: TokenKind,
+}
+
+// A live token whose owner is called so, if it is called anything.
+fn live(
+    alloc: Global,
+    rules: &Registry,
+    token: LiveToken,
+    sub: Option<&str>,
+) -> Result<Response, AllocError>
+    ensures value { IfOk result (λ reply. reply ≡ in_writing (plain 200 (live_body_of rules.now token (option_copied sub.entry)))) }
+    ensures short { length (unwrap_or (option_copied sub.entry) []) ≤ key_limit → IfOk result IsShortReply }
 {
-    active(alloc, token)
+    let scope = rules.catalogue().scope_text(alloc, token.scope)?;
+    let told = ActiveToken {
+        client: id_of(rules, token.client),
+        issued: token.issued,
+        expires: token.expires,
+        scope: &scope,
+        sub,
+        kind: token.kind,
+    };
+    active(alloc, told)
+}
+
+// The number in decimal.
+fn digits(alloc: Global, number: OwnerNo) -> Result<String, AllocError>
+    ensures { IfOk result (λ text. string_bytes text ≡ decimal number) }
+{
+    let number = number.get();
+    format!(in alloc; "{number}")
+}
+
+// A live token of an owner who is called so.
+fn live_called(
+    alloc: Global,
+    rules: &Registry,
+    token: LiveToken,
+    sub: &OwnerSub<'_>,
+) -> Result<Response, AllocError>
+    ensures value { IfOk result (λ reply. reply ≡ in_writing
+        (plain 200 (live_body_of rules.now token (Some (sub_text sub.now))))) }
+    ensures short { length (sub_text sub.now) ≤ key_limit → IfOk result IsShortReply }
+{
+    match sub {
+        OwnerSub::Called(text) => live(alloc, rules, token, Some(*text)),
+        OwnerSub::Numbered(number) => {
+            let text = digits(alloc, *number)?;
+            live(alloc, rules, token, Some(&text))
+        }
+    }
+}
+
+// A live token of the owner, if it has one.
+fn live_of(
+    alloc: Global,
+    rules: &Registry,
+    token: LiveToken,
+    owner: Option<OwnerNo>,
+) -> Result<Response, AllocError>
+    ensures value { IfOk result (λ reply. reply ≡ in_writing
+        (plain 200 (live_body_of rules.now token (sub_of (owner_number owner) rules.now)))) }
+    ensures short { IfOk result IsShortReply }
+{
+    match sub_of(rules, owner) {
+        Some(sub) => live_called(alloc, rules, token, &sub),
+        None => live(alloc, rules, token, None),
+    }
+}
+
+// An owner left.
+fn ended(alloc: Global, families: usize, consents: u32) -> Result<Response, AllocError>
+    ensures value { IfOk result (λ reply. reply ≡ in_writing (plain 200 (ended_body families consents))) }
+    ensures short { IfOk result IsShortReply }
+{
+    let members = [
+        Member::Number("consents", u64::from(consents)),
+        Member::Number("families", families as u64),
+    ];
+    told(alloc, StatusCode::OK, &members)
 }
 
 // The names of the host's hooks.
@@ -182,20 +264,19 @@ pub fn write<H: HookHost>(
             owner,
             kind,
         } => {
-            let scope = rules.catalogue().scope_text(alloc, scope)?;
-            let token = ActiveToken {
-                client: id_of(rules, client),
+            let token = LiveToken {
+                client,
                 issued,
                 expires,
-                scope: &scope,
-                sub: sub_of(rules, owner),
+                scope,
                 kind,
             };
-            live(alloc, token)
+            live_of(alloc, rules, token, owner)
         }
         Answer::Inactive => inactive(alloc),
         Answer::HookDone { name } => told(alloc, StatusCode::OK, &[Member::Text("name", name)]),
         Answer::HookRefused(refused) => fault(alloc, refused),
         Answer::Hooks => all_hooks(alloc, host),
+        Answer::Ended { families, consents } => ended(alloc, families, consents),
     }
 }

@@ -3,10 +3,12 @@ use Rattle.std.proofs.Common.{◌≡◌, inl, inr, sym, subst, refl, ap, ℕ, Li
 use Rattle.endpoints.proofs.Names.{is_some, option_map_or, ClientRecord, client_at, is_taken-parts, IsHistory, is_within, is_within-self, is_within-trans, grant_at, lives_of}
 use Rattle.endpoints.proofs.Names.{code_terms-of_code, opener-new, nat_tests, sha256, plain, Setting, KnownClient, Asked, own_ask, is_of_code, allowed_to, MayHave, AllRight}
 use Rattle.consent.specs.History.{Change, Event, is_new, next_family}
-use Rattle.consent.specs.History.Change.{HookSet, HookGone}
+use Rattle.consent.specs.History.Change.{Consented, HookSet, HookGone}
+use Rattle.std.specs.List.{range_with_len}
+use Rattle.std.specs.Prelude.{length, map}
 use Rattle.endpoints.proofs.Telling.{good}
-use Rattle.endpoints.proofs.Sound.{IsFair, IsRightToken, still, access_fair, both_fair, ends_fair, left_within, refresh_no_code, right_may, right_token, scope_is_within}
-use Rattle.endpoints.proofs.Ways.{Proven, TokenWay, Refused, Wanting, Again, InVain, Once, Twice, Refreshed, Own, Way, Quiet, ByToken, Turned, Coded, Consents, Revokes, Tells, Installs, Removes}
+use Rattle.endpoints.proofs.Sound.{IsFair, IsRightToken, still, withdrawn_fair, access_fair, both_fair, ends_fair, left_within, refresh_no_code, right_may, right_token, scope_is_within}
+use Rattle.endpoints.proofs.Ways.{Proven, TokenWay, Refused, Wanting, Again, InVain, Once, Twice, Refreshed, Own, Way, Quiet, ByToken, Turned, Coded, Consents, Revokes, Tells, Installs, Removes, Leaves}
 use Rattle.endpoints.proofs.Ways.{IsAt, code_ask, refresh_ask, token_outcome, outcome_by}
 use Rattle.answers.specs.declared.endpoint.Endpoint.{Endpoint}
 use Rattle.answers.specs.declared.endpoint.Endpoint.TheVariants.{InstallHook, RemoveHook}
@@ -83,6 +85,7 @@ module _ (s : Setting) (is : IsHistory s.history s.moment) (all : AllRight s.rul
   way_fair (Tells x) = still s _
   way_fair (Installs name version code operator) = record { follow = (tt, tt); right = (tt, tt) }
   way_fair (Removes name operator) = record { follow = (tt, tt); right = (tt, tt) }
+  way_fair (Leaves owner params form named operator) = withdrawn_fair s owner
 
 -- the hooks are not changed at it
 abbrev pub IsHookless : Endpoint → Type 0
@@ -90,6 +93,11 @@ IsHookless InstallHook = ⊥
 IsHookless RemoveHook = ⊥
 IsHookless endpoint = Unit {0}
 
+withdrawn_unhooked : (owner : ℕ) (clients : List ℕ) → AllUnhooked (map (λ client. Consented owner client 0) clients)
+withdrawn_unhooked owner [] = tt
+withdrawn_unhooked owner (client ∷ clients) = (tt, withdrawn_unhooked owner clients)
+
 -- and changes no hook, unless it is at an endpoint for that
 pub way_unhooked : (s : Setting) (asked : Asked) (way : Way s asked) → IsAt IsHookless way → AllUnhooked (outcome_by way).changes
+way_unhooked s asked (Leaves owner params form named operator) free = withdrawn_unhooked owner (range_with_len 1 (length s.rules.clients))
 way_unhooked s asked way free = grind (arith, free)

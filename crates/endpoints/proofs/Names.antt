@@ -21,11 +21,12 @@ pub use Rattle.consent.specs.CoveredLaws.{is_within-self}
 pub use Rattle.consent.specs.Growth.{is_consent}
 pub use Rattle.consent.specs.GrowthLaws.{is_taken-parts, code_terms-keep, has_ended-push_other, with_changes-cons}
 pub use Rattle.consent.specs.History.{Change as happening, event_at}
-pub use Rattle.consent.specs.History.{has_room, is_taken, Terms, terms_of, is_spent}
+pub use Rattle.answers.specs.Quotas.{records_of}
+pub use Rattle.consent.specs.History.{has_room, has_client_room, is_taken, Terms, terms_of, is_spent}
 pub use Rattle.consent.specs.History.{where_good, Change as told}
 pub use Rattle.consent.specs.HistoryLaws.{opener-new, code_terms-of_code, grant_at-given, home_of, lives_of}
 pub use Rattle.consent.specs.declared.change.Change.TheVariants.{Spent}
-pub use Rattle.consent.specs.declared.change.Changes.TheVariants.{Nothing, One, Used}
+pub use Rattle.consent.specs.declared.change.Changes.TheVariants.{Nothing, One, Used, Left}
 pub use Rattle.endpoints.specs.Authorize.{HasShortState}
 pub use Rattle.endpoints.specs.Bounded.{AllRightAfter, MayHave, allowed_to, IsOfCode, IsOwn, IsRightChange, is_of_code, token_life_limit, AllRight}
 pub use Rattle.endpoints.specs.BoundedLaws.{own-later, all_right-at}
@@ -35,6 +36,7 @@ pub use Rattle.endpoints.specs.Hosts.{HostRun, IsHostFault, says_with, HostStep}
 pub use Rattle.endpoints.specs.Introspect.{introspect, told_of}
 pub use Rattle.endpoints.specs.Making.{IsSame, Makes, MakesHost, HasRooms}
 pub use Rattle.endpoints.specs.Noting.{with_notes, noted_in, prepared_in}
+pub use Rattle.endpoints.specs.OwnerPath.{end_owner, owner_asked, owner_ended}
 pub use Rattle.endpoints.specs.Parts.{hook_points, live_of, with_presented, authorize_known, query_points}
 pub use Rattle.endpoints.specs.Redo.{RedoesChange, RefusesRedo, list_refusal, or_not_right}
 pub use Rattle.endpoints.specs.Remaking.{SeenRemaking, FitsRemaking}

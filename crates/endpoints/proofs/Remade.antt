@@ -3,7 +3,7 @@ use Rattle.std.proofs.Common.{◌≡◌, ◌≤◌, ◌⊎◌, ◌∙◌, ap, sy
 use Rattle.endpoints.proofs.Names.{find, nat_le, option_map, nat_tests, and_parts, eqb-true, leb-true, not-true, eq-eqb, le-leb, and_from, false≢true, RegistryRecord, change_of, parties_of, is_some}
 use Rattle.endpoints.proofs.Names.{FitsConsents, is_taken-parts, Event, event_at, Grant, Terms, IsHistory, code_terms, consented_scope, grant_at, grants, has_ended, is_code_of}
 use Rattle.endpoints.proofs.Names.{is_taken, is_within, terms_of, with_change, NewToken, Spent, Hosting, HostRun}
-use Rattle.endpoints.proofs.Names.{FitsStore, refusal, Held, IsOfCode, IsOwn, IsRightChange, MayHave, is_of_code, token_life_limit, RedoesChange, SeenRemaking, FitsRemaking}
+use Rattle.endpoints.proofs.Names.{FitsStore, Held, IsOfCode, IsOwn, IsRightChange, MayHave, is_of_code, token_life_limit, RedoesChange, SeenRemaking, FitsRemaking}
 use Rattle.endpoints.proofs.Names.{RefusesRedo, list_refusal, or_not_right, comes_of, comes_of_family, is_right, may_have, may_have_token, Outset}
 use Rattle.std.specs.Prelude.{◌==◌, ◌&&◌, Result, Ok, Err, IfErr, IsErrAnd, max}
 use Rattle.std.specs.List.{list_all}
@@ -26,25 +26,23 @@ use Rattle.consent.specs.Consents.{unless_empty}
 use Rattle.endpoints.specs.Redo.{IsNowhereRight}
 use Rattle.endpoints.specs.Remaking.{Finishes}
 use Rattle.token_store.specs.Found.{family_of_grant}
-use Rattle.token_store.specs.Lists.{FitsList, family_told, can_be_of, is_open_to, refused_unless, standing_refusal, RefusesAgain}
+use Rattle.token_store.specs.Lists.{FitsList, family_told, can_be_of, is_open_to, refused_by, standing_refusal, RefusesAgain}
 use Rattle.token_store.specs.ListsLaws.{list_later}
 use Rattle.token_store.specs.declared.fault.AgainFault.{AgainFault}
 use Rattle.token_store.specs.declared.fault.AgainFault.TheVariants as again
-use Rattle.token_store.specs.declared.fault.StoreFault.{StoreFault}
 use Rattle.endpoints.specs.declared.redo.RedoFault.TheVariants.{NotRight}
 use Rattle.endpoints.specs.Faults.{of_again_fault}
 use Rattle.endpoints.proofs.Stepping.{host_join, all_right-more}
 
--- a digest that nothing refuses is free
-free : (list : List Event) (m : ℕ) (digest : List ℕ) → refusal list m (digest ∷ []) ≡ None → grant_at list digest m ≡ None
-free list m digest is =
-    let free_of : is_taken list m (digest ∷ []) ≡ false = grind (arith, nat_tests, is) in (is_taken-parts list m digest [] free_of).0
+-- a digest that is not taken is free
+free : (list : List Event) (m : ℕ) (digest : List ℕ) → is_taken list m (digest ∷ []) ≡ false → grant_at list digest m ≡ None
+free list m digest untaken = (is_taken-parts list m digest [] untaken).0
 
--- what nothing refuses can be of its family, and has room and a digest of its own
-unless_parts : (can_be : Bool) (fault : Option StoreFault) → refused_unless can_be fault ≡ None → (can_be ≡ true) × (fault ≡ None)
-unless_parts true None none = (refl, refl)
-unless_parts true (Some fault) none = cc
-unless_parts false fault none = cc
+-- what nothing refuses can be of its family, and has a digest of its own
+unless_parts : (can_be taken : Bool) → refused_by can_be taken ≡ None → (can_be ≡ true) × (taken ≡ false)
+unless_parts true false none = (refl, refl)
+unless_parts true true none = cc
+unless_parts false taken none = cc
 
 -- THE FAMILY
 
@@ -251,7 +249,7 @@ next_of : (rules : RegistryRecord) (list : List Event) (m : ℕ) (change : Chang
 next_of rules list m (Consented owner client mask) is known right none = record { can = tt; right = tt; gives = λ family ended. refl }
 next_of rules list m (CodeGiven family facts digest) is known right none =
     let parts = and_parts (may_have rules facts.client facts.scope) (is_within facts.scope (consented_scope list facts.owner facts.client)) right in
-    let new = unless_parts (is_new list family) (refusal list m (digest ∷ [])) none in
+    let new = unless_parts (is_new list family) (is_taken list m (digest ∷ [])) none in
     record {
       can = (new.0, free list m digest new.1);
       right = (may rules facts.client facts.scope parts.0, parts.1);
@@ -259,7 +257,7 @@ next_of rules list m (CodeGiven family facts digest) is known right none =
     }
 next_of rules list m (Issued home token) is known right none =
     let parties = parties_of home in
-    let may_be = unless_parts (can_be_of list home.family parties) (refusal list m (token.digest ∷ [])) none in
+    let may_be = unless_parts (can_be_of list home.family parties) (is_taken list m (token.digest ∷ [])) none in
     let both = and_parts (may_have_token rules home.client token) (comes_of_family (family_told list home.family) (owner_number home.owner) token.scope) right in
     let held = may_token rules home.client token both.0 in
     record {
@@ -350,7 +348,7 @@ module _ {H : Type 0} (hosting : Hosting H) where
 
       by : (f : AgainFault) → RefusesAgain mid moment change f → RefusesRedo hosting old moment change (of_again_fault f)
       by again.Unknown is = told_by_list again.Unknown is
-      by (again.Refused fault) is = told_by_list (again.Refused fault) is
+      by again.DrawTaken is = told_by_list again.DrawTaken is
       by again.Memory is = tt
 
   -- it may stand, but is not right

@@ -14,7 +14,7 @@ use Rattle.endpoints.specs.Reading.{IsRequestRead}
 use Rattle.endpoints.proofs.Fair.{AllUnhooked, IsHookless, IsUnhooked, way_fair, way_unhooked}
 use Rattle.endpoints.proofs.ReadingOn.{points_of}
 use Rattle.endpoints.proofs.Sound.{IsFair}
-use Rattle.endpoints.proofs.Ways.{IsAt, Way, ByToken, token_at, at_authorize, at_consent, at_document, at_hooks, at_introspect, at_revoke, at_token, is_of_hooks, outcome_by}
+use Rattle.endpoints.proofs.Ways.{IsAt, Way, ByToken, token_at, at_authorize, at_consent, at_document, at_hooks, at_introspect, at_owner, at_revoke, at_token, is_of_hooks, outcome_by}
 use Rattle.endpoints.specs.HookPaths.{change_hooks, installation, removal}
 
 -- WITHOUT A CHANGE OF THE HOOKS
@@ -70,6 +70,7 @@ module _ {H : Type 0} (hosting : Hosting H) (server : SeenServer H) (first : H) 
   alone_fair reading.IssueToken alone = at_token (λ o _. Fair o) scene asked (λ way _. hookless (ByToken way) (token_at IsHookless way tt))
   alone_fair reading.RevokeToken alone = at_revoke Fair scene asked IsHookless hookless tt
   alone_fair reading.Introspect alone = at_introspect Fair scene asked IsHookless hookless
+  alone_fair reading.EndOwner alone = at_owner Fair scene asked IsHookless hookless tt
   alone_fair (reading.Read document) alone = at_document Fair scene asked IsHookless hookless _
   alone_fair (reading.InstallHook params) alone = absurd alone
   alone_fair (reading.RemoveHook params) alone = absurd alone

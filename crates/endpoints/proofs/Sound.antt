@@ -2,12 +2,13 @@
 use Rattle.std.proofs.Common.{◌≡◌, ◌≤◌, ℕ, List, [], ◌∷◌, ◌++◌, true, false, Some, None, bit_and, refl, sym, ap, ◌∙◌, arith, subst, inl, inr}
 use Rattle.endpoints.proofs.Names.{eq-eqb, false≢true, same_Some, sha256, RegistryRecord, is_within-trans, code_terms-keep, has_ended-push_other}
 use Rattle.endpoints.proofs.Names.{Event, Grant, event_at, grant_by, grant_at, is_code, is_within, code_terms, has_ended, grant_at-given, Kind, Allowed, Reply, Extent}
-use Rattle.endpoints.proofs.Names.{Outcome, only, Parameters, scope_within, Setting, is_refresh, ends_family, access_issued, both_digests}
+use Rattle.endpoints.proofs.Names.{Outcome, only, Parameters, scope_within, Setting, is_refresh, ends_family, access_issued, both_digests, owner_ended}
 use Rattle.endpoints.proofs.Names.{all_right-at, AllFollowAt, IsHistory, CanFollow, with_change, is_taken, is_taken-parts, home_of, lives_of, left_by_host, new_token, AllRight}
 use Rattle.endpoints.proofs.Names.{AllRightAfter, IsRightChange, IsOfCode, IsOwn, MayHave, allowed_to, own-later}
-use Rattle.std.specs.Prelude.{◌⊎◌}
+use Rattle.std.specs.List.{range_with_len}
+use Rattle.std.specs.Prelude.{◌⊎◌, find, length, map}
 use Rattle.consent.specs.History.{Change}
-use Rattle.consent.specs.History.Change.{CodeGiven, Issued, Spent}
+use Rattle.consent.specs.History.Change.{Consented, CodeGiven, Issued, Spent}
 use Rattle.consent.specs.Changes.{issued_with}
 use Rattle.consent.specs.declared.change.NewToken.{NewToken}
 use Rattle.consent.specs.GrowthLaws.{grant_at-keep, is_taken-push}
@@ -15,6 +16,9 @@ use Rattle.token_endpoint.specs.Grants.{refresh_issued}
 use Rattle.consent.specs.declared.grant.TokenKind.TheVariants.{Access, Refresh}
 use Rattle.hook_record.specs.declared.Ask.{Ask}
 use Rattle.hook_host.specs.DecisionLaws.{met_with_narrows}
+use Rattle.consent.specs.History.{Terms, grants, is_code_of, terms_of}
+use Rattle.consent.specs.HistoryLaws.{found-given}
+use Rattle.endpoints.proofs.Walking.{option_map_some}
 use Rattle.endpoints.proofs.Ways.{both_issued, one_issued}
 
 -- the changes may come next, and each is right
@@ -42,6 +46,15 @@ right_may rules history digest m g all at =
     let given = grant_at-given history digest m g at in
     let right = all_right-at rules [] given.before given.later given.event (subst (λ h. AllRight rules [] h) given.whole all) in
     may_by rules given.before given.event.moment given.event.change g given.gives_it right
+
+-- and so is the code of a family
+pub right_terms : (rules : RegistryRecord) (history : List Event) (family : ℕ) (terms : Terms) → AllRight rules [] history →
+    code_terms history family ≡ Some terms → MayHave rules terms.client terms.scope
+right_terms rules history family terms all at =
+    option_map_some {P = MayHave rules terms.client terms.scope} terms_of (find (is_code_of family) (grants history)) terms at (λ g found same.
+    let given = found-given (is_code_of family) history g found in
+    let right = all_right-at rules [] given.before given.later given.event (subst (λ h. AllRight rules [] h) given.whole all) in
+    subst (λ (x : Terms). MayHave rules x.client x.scope) same (may_by rules given.before given.event.moment given.event.change g given.gives_it right))
 
 -- it is a client's own, or comes of a code
 abbrev pub Comes : List Event → Grant → Type 0
@@ -87,6 +100,24 @@ module _ (s : Setting) where
   -- nothing happens
   pub still : (reply : Reply) → IsFair s (only reply)
   still reply = record { follow = tt; right = tt }
+
+  -- an owner withdraws its consent from some clients
+  withdrawn_follow : (history : List Event) (owner : ℕ) (clients : List ℕ) →
+      AllFollowAt history s.moment (map (λ client. Consented owner client 0) clients)
+  withdrawn_follow history owner [] = tt
+  withdrawn_follow history owner (client ∷ clients) =
+      (tt, withdrawn_follow (with_change history s.moment (Consented owner client 0)) owner clients)
+
+  withdrawn_right : (history : List Event) (owner : ℕ) (clients : List ℕ) →
+      AllRightAfter s.rules history s.moment (map (λ client. Consented owner client 0) clients)
+  withdrawn_right history owner [] = tt
+  withdrawn_right history owner (client ∷ clients) =
+      (tt, withdrawn_right (with_change history s.moment (Consented owner client 0)) owner clients)
+
+  pub withdrawn_fair : (owner : ℕ) → IsFair s (owner_ended s owner)
+  withdrawn_fair owner =
+      let clients = range_with_len 1 (length s.rules.clients) in
+      record { follow = withdrawn_follow s.history owner clients; right = withdrawn_right s.history owner clients }
 
   -- what a host leaves is within what it was asked
   pub left_within : (ask : Ask) (scope life : ℕ) → left_by_host s ask ≡ Allowed scope life → (is_within scope ask.scope ≡ true) × (life ≤ ask.life)

@@ -4,9 +4,13 @@ use Rattle.endpoints.specs.Names.{scope_text, TokenKind}
 use Rattle.endpoints.proofs.Names.{eq-eqb, eqb-true, eqb-false, ne_eqb, not-true, not-false, RegistryRecord, Event, Grant, has_consent_room}
 use Rattle.endpoints.proofs.Names.{where_good, Kind, Code, Token, consent_body, plain, Active, Inactive, InvalidGrant, Halts, Outcome, bare, need, only, point, refuse, unavailable, id_of}
 use Rattle.endpoints.proofs.Names.{Setting, Halt, consent_given, introspect, told_of, live_of, with_presented, Presented, revoke_token, revoked, Asked}
-use Rattle.std.specs.Prelude.{◌==◌, not}
+use Rattle.std.specs.Prelude.{◌==◌, length, not}
 use Rattle.clients.specs.Owners.{sub_of}
 use Rattle.consent.specs.History.Change.{Consented}
+use Rattle.consent.specs.History.{consents_of, families_of}
+use Rattle.answers.specs.declared.answer.Answer.TheVariants.{Ended}
+use Rattle.endpoints.proofs.Besides.{withdrawn_are}
+use Rattle.endpoints.proofs.Names.{Left, outcome_told, owner_ended}
 
 -- the points are others that end so
 pub halts_by : (halt : Halt) (points same : Outcome) → points ≡ same → Halts halt same → Halts halt points
@@ -14,14 +18,21 @@ halts_by halt points same e halts = subst (λ p. Halts halt p) (sym e) halts
 
 -- CONSENTS
 
-pub no_consent_room : (s : Setting) (owner client mask : ℕ) → has_consent_room s.history owner client mask ≡ false →
+pub no_consent_room : (s : Setting) (owner client mask : ℕ) → has_consent_room s.rules.limits.consents s.history owner client mask ≡ false →
     consent_given s owner client mask ≡ unavailable
 no_consent_room s owner client mask full = rw full refl
 
-pub consent_room : (s : Setting) (owner client mask : ℕ) → has_consent_room s.history owner client mask ≡ true →
+pub consent_room : (s : Setting) (owner client mask : ℕ) → has_consent_room s.rules.limits.consents s.history owner client mask ≡ true →
     consent_given s owner client mask
     ≡ record { reply = plain 200 (consent_body (scope_text s.rules.scopes mask)); changes = Consented owner client mask ∷ [] }
 consent_room s owner client mask room = rw room refl
+
+-- OWNERS WHO LEAVE
+
+pub ended_told : (s : Setting) (owner families consents clients : ℕ) → clients ≡ length s.rules.clients →
+    families ≡ families_of s.history owner s.moment → consents ≡ consents_of s.history owner clients →
+    outcome_told s (record { answer = Ended families consents; changes = Left owner clients }) ≡ owner_ended s owner
+ended_told s owner families consents clients few counted withdrawn = rw (withdrawn_are owner clients, counted, withdrawn, few) refl
 
 -- LIVE TOKENS
 
@@ -46,7 +57,7 @@ told_by_live rules live = need live (only (plain 200 Inactive)) (λ token. only 
 
 pub active_told : (rules : RegistryRecord) (g : Grant) (kind : TokenKind) (issued expires : ℕ) → g.kind ≡ Token kind → issued ≡ g.moment → expires ≡ g.moment + g.life →
     told_by_live rules (Some g)
-    ≡ only (plain 200 (Active (id_of rules g.client) expires issued (scope_text rules.scopes g.scope) (sub_of g.owner rules.owners) kind))
+    ≡ only (plain 200 (Active (id_of rules g.client) expires issued (scope_text rules.scopes g.scope) (sub_of g.owner rules) kind))
 active_told rules g kind issued expires is_kind is_issued is_expires = rw (is_kind, is_issued, is_expires) refl
 
 no_token : (k : Kind) → ((t : TokenKind) → k ≡ Token t → ⊥) → k ≡ Code

@@ -1,6 +1,6 @@
 -- What holds at each point of an outcome holds of the outcome.
 use Rattle.std.proofs.Common.{◌≡◌, ℕ, List, Bool, true, false, Option, Some, None, eqb, refl, sym, ◌∙◌, arith}
-use Rattle.endpoints.proofs.Names.{option_map, same_Some, eq-eqb, false≢true, has_room, is_taken, Setting, Outcome, point, need, unavailable, unless_taken, bare}
+use Rattle.endpoints.proofs.Names.{option_map, same_Some, eq-eqb, false≢true, has_room, has_client_room, records_of, is_taken, Setting, Outcome, point, need, unavailable, unless_taken, bare}
 use Rattle.std.specs.Prelude.{not, option_and_then}
 use Rattle.answers.specs.Outcomes.{chosen}
 
@@ -21,11 +21,12 @@ module _ (P : Outcome → Outcome → Type 0) where
   both_need None without later later' a z = a
   both_need (Some x) without later later' a z = z x refl
 
-  pub both_untaken : (s : Setting) (digests : List (List ℕ)) (given given' : Outcome) → P unavailable unavailable →
-      (is_taken s.history s.moment digests ≡ false → P given given') → P (unless_taken s digests given) (unless_taken s digests given')
-  both_untaken s digests given given' a z =
-      both_unless (has_room s.history s.moment digests) unavailable _ _ a
-      (λ _. both_point (is_taken s.history s.moment digests) unavailable given given' (λ _. a) z)
+  pub both_untaken : (s : Setting) (client : ℕ) (digests : List (List ℕ)) (given given' : Outcome) → P unavailable unavailable →
+      (is_taken s.history s.moment digests ≡ false → P given given') → P (unless_taken s client digests given) (unless_taken s client digests given')
+  both_untaken s client digests given given' a z =
+      both_unless (has_room s.rules.limits.records s.history s.moment digests) unavailable _ _ a (λ _.
+      both_unless (has_client_room (records_of s.rules client) s.history client s.moment digests) unavailable _ _ a (λ _.
+      both_point (is_taken s.history s.moment digests) unavailable given given' (λ _. a) z))
 
   pub both_chosen : (refused : Bool) (o o' : Outcome) → P unavailable unavailable → P o o' → P (chosen refused o) (chosen refused o')
   both_chosen true o o' a z = a

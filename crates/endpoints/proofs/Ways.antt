@@ -7,7 +7,7 @@ use Rattle.endpoints.proofs.Names.{has_consent_room, is_within-self, Kind, Allow
 use Rattle.endpoints.proofs.Names.{UnsupportedGrantType, UnsupportedResponseType, AccessDenied, Asked, query_of, consent_body, plain, refused_body, sent_back, Empty, Inactive, Told, Extent}
 use Rattle.endpoints.proofs.Names.{Outcome, need, only, point, refuse, bare, unavailable, unless_denied, Parameters, KnownClient, form_of, known_client, with_client, with_authenticated}
 use Rattle.endpoints.proofs.Names.{scope_within, scope_asked, client_named, owner_of_key, Setting, digest_told, where_passes, code_of_client, refresh_of_client, is_own, is_refresh, live_token}
-use Rattle.endpoints.proofs.Names.{client_credentials, own_ask, access_for, access_issued, ask_for, both_digests, both_for, left_by_host, by_fault, is_operator, introspect, told_of}
+use Rattle.endpoints.proofs.Names.{client_credentials, own_ask, access_for, access_issued, ask_for, both_digests, both_for, left_by_host, by_fault, end_owner, is_operator, introspect, owner_asked, owner_ended, told_of}
 use Rattle.std.specs.Prelude.{◌==◌, codes, not, if◌then◌else◌, option_and_then}
 use Rattle.std.proofs.lemmas.Slice.Eq.{bytes_eq-Decides}
 use Rattle.pkce.specs.Proof.{proves}
@@ -266,10 +266,10 @@ module _ (P : Outcome → Outcome → Type 0) (s : Setting) (asked : Asked)
         by_grant : (b : Bool) → P (if b then both_for s x.code.grant left left.scope else access_for s x.code.grant left)
             (if b then both_for s x.code.grant (whole (code_ask x)) x.code.grant.scope else access_for s x.code.grant (whole (code_ask x)))
         by_grant true =
-            both_untaken P s (both_digests s.draws) (both_issued s x.code.grant left left.scope) (both_issued s x.code.grant (whole (code_ask x)) x.code.grant.scope)
+            both_untaken P s x.code.grant.client (both_digests s.draws) (both_issued s x.code.grant left left.scope) (both_issued s x.code.grant (whole (code_ask x)) x.code.grant.scope)
             none (λ untaken. ways (Twice x left is untaken) unavailable)
         by_grant false =
-            both_untaken P s (sha256 s.draws.first ∷ []) (one_issued s x.code.grant left) (one_issued s x.code.grant (whole (code_ask x)))
+            both_untaken P s x.code.grant.client (sha256 s.draws.first ∷ []) (one_issued s x.code.grant left) (one_issued s x.code.grant (whole (code_ask x)))
             none (λ untaken. ways (Once x left is untaken) unavailable)
 
     abbrev use_of : (type name : List ℕ) (test : Kind → Bool) → value_sent (codes "grant_type") sender.params ≡ Some type → (text : List ℕ) → value_sent name sender.params ≡ Some text →
@@ -327,7 +327,7 @@ module _ (P : Outcome → Outcome → Type 0) (s : Setting) (asked : Asked)
         both_need P {A = ℕ} (scope_within s.rules g.scope sender.params) (refuse InvalidScope) _ _ (no InvalidScope) (λ scope asks.
         let x : Refreshing s asked = record { token = token; unspent = unspent; alive = alive; scope = scope; asks = asks } in
         at_left P s (refresh_ask x) (refuse InvalidGrant) (refuse InvalidScope) _ _ (ways (Refused InvalidGrant)) (ways (Refused InvalidScope)) (λ left is.
-        both_untaken P s (both_digests s.draws) (both_issued s g left g.scope) (both_issued s g (whole (refresh_ask x)) g.scope)
+        both_untaken P s g.client (both_digests s.draws) (both_issued s g left g.scope) (both_issued s g (whole (refresh_ask x)) g.scope)
         none (λ untaken. ways (Refreshed x left is untaken) unavailable))))))))
 
     in_own : value_sent (codes "grant_type") sender.params ≡ Some (codes "client_credentials") →
@@ -337,7 +337,7 @@ module _ (P : Outcome → Outcome → Type 0) (s : Setting) (asked : Asked)
         let ask = own_ask s sender.known scope in
         at_left P s ask (refuse UnauthorizedClient) (refuse InvalidScope) _ _ (ways (Refused UnauthorizedClient)) (ways (Refused InvalidScope)) (λ left is.
         both_need P {A = ℕ} (next_family s.history) unavailable _ _ none (λ family new.
-        both_untaken P s (sha256 s.draws.first ∷ []) (own_issued s family sender.known.number left) (own_issued s family sender.known.number (whole ask))
+        both_untaken P s sender.known.number (sha256 s.draws.first ∷ []) (own_issued s family sender.known.number left) (own_issued s family sender.known.number (whole ask))
         none (λ untaken. ways (Own sender typed scope left family new is (untaken, asks)) unavailable))))
 
     by_type : (grant : GrantType) → value_sent (codes "grant_type") sender.params ≡ Some (type_name grant) →
@@ -400,6 +400,7 @@ pub data Way (s : Setting) (asked : Asked) : Type 0 where
   Tells : Shown s asked → Way s asked
   Installs : (name : List ℕ) (version : RecordVersion) (code : List ℕ) → is_operator s.rules asked ≡ true → Way s asked
   Removes : (name : List ℕ) → is_operator s.rules asked ≡ true → Way s asked
+  Leaves : (owner : ℕ) (params : Parameters) → form_of asked ≡ Some params → owner_asked params ≡ Some owner → is_operator s.rules asked ≡ true → Way s asked
 
 -- where they lead
 abbrev pub outcome_by : {s : Setting} {asked : Asked} → Way s asked → Outcome
@@ -416,6 +417,7 @@ outcome_by (Revokes x own) = revoked x.token
 outcome_by {s = s} (Tells x) = only (plain 200 (told_of s.rules x.token x.token.kind))
 outcome_by (Installs name version code operator) = record { reply = plain 200 (hook_body name); changes = HookSet name version code ∷ [] }
 outcome_by (Removes name operator) = record { reply = plain 200 (hook_body name); changes = HookGone name ∷ [] }
+outcome_by {s = s} (Leaves owner params form named operator) = owner_ended s owner
 
 -- where the way changes something, it is at such an endpoint
 abbrev pub IsAt : (Endpoint → Type 0) → {s : Setting} {asked : Asked} → Way s asked → Type 0
@@ -427,6 +429,7 @@ IsAt At (Consents owner client mask key) = At endpoint.GiveConsent
 IsAt At (Revokes x own) = At endpoint.RevokeToken
 IsAt At (Installs name version code operator) = At endpoint.InstallHook ⊎ At endpoint.RemoveHook
 IsAt At (Removes name operator) = At endpoint.InstallHook ⊎ At endpoint.RemoveHook
+IsAt At (Leaves owner params form named operator) = At endpoint.EndOwner
 IsAt At way = Unit {0}
 
 -- so it is of each way at the token endpoint
@@ -457,7 +460,7 @@ module _ (P : Outcome → Type 0) (s : Setting) (asked : Asked) (At : Endpoint �
       at_need P {A = ℕ} (owner_of_key s.rules asked) (turned_back uri params AccessDenied) _ (ways (Turned x AccessDenied) tt) (λ owner key.
       at_unless P (is_within scope (consented_scope s.history owner known.number)) (turned_back uri params AccessDenied) _ (ways (Turned x AccessDenied) tt) (λ consented.
       at_need P {A = ℕ} (next_family s.history) unavailable _ wanting (λ family new.
-      both_untaken (λ o _. P o) s (sha256 s.draws.first ∷ []) _ unavailable wanting (λ untaken. ways (Coded x (record { client = known.number; owner = owner; scope = scope; redirect = uri; challenge = challenge }) family new key (refl, refl, grind (arith, asks), consented, untaken)) here))))))))))))
+      both_untaken (λ o _. P o) s known.number (sha256 s.draws.first ∷ []) _ unavailable wanting (λ untaken. ways (Coded x (record { client = known.number; owner = owner; scope = scope; redirect = uri; challenge = challenge }) family new key (refl, refl, grind (arith, asks), consented, untaken)) here))))))))))))
 
   pub at_consent : At endpoint.GiveConsent → P (give_consent s asked)
   at_consent here =
@@ -465,8 +468,15 @@ module _ (P : Outcome → Type 0) (s : Setting) (asked : Asked) (At : Endpoint �
       at_need P {A = ℕ} (owner_of_key s.rules asked) (refuse AccessDenied) _ (refused AccessDenied) (λ owner key.
       at_need P {A = KnownClient} (client_named s.rules params) (refuse InvalidRequest) _ (refused InvalidRequest) (λ known _.
       at_need P {A = ℕ} (scope_asked s.rules 0 params) (refuse InvalidScope) _ (refused InvalidScope) (λ mask _.
-      at_unless P (has_consent_room s.history owner known.number mask) unavailable _ wanting (λ _.
+      at_unless P (has_consent_room s.rules.limits.consents s.history owner known.number mask) unavailable _ wanting (λ _.
       ways (Consents owner known.number mask key) here)))))
+
+  pub at_owner : At endpoint.EndOwner → P (end_owner s asked)
+  at_owner here =
+      at_unless P (is_operator s.rules asked) (refuse AccessDenied) _ (refused AccessDenied) (λ operator.
+      at_need P {A = Parameters} (form_of asked) (refuse InvalidRequest) _ (refused InvalidRequest) (λ params form.
+      at_need P {A = ℕ} (owner_asked params) (refuse InvalidRequest) _ (refused InvalidRequest) (λ owner named.
+      ways (Leaves owner params form named operator) here)))
 
   -- by the live token that a sender presents, if there is one
   at_shown : (without : Outcome) (later : KnownClient → Grant → Outcome) → P without → ((x : Shown s asked) → P (later x.sender.known x.token)) →

@@ -42,7 +42,7 @@ abbrev pub code_sent_back : Setting → Parameters → GivenCode → Outcome
 code_sent_back setting params code =
     let digest = sha256 setting.draws.first in
     need (next_family setting.history) unavailable (λ family.
-    unless_taken setting (digest ∷ [])
+    unless_taken setting code.client (digest ∷ [])
     (record {
       reply = sent_back code.redirect (codes "code") (token_text setting.draws.first) (state_sent params);
       changes = CodeGiven family code digest ∷ [];

@@ -7,7 +7,7 @@ use Rattle.consent.specs.History.Change.{Consented}
 -- the consent is kept. What it is too small for ends with it
 abbrev pub consent_given : Setting → ℕ → ℕ → ℕ → Outcome
 consent_given setting owner client mask =
-    point (not (has_consent_room setting.history owner client mask)) unavailable
+    point (not (has_consent_room setting.rules.limits.consents setting.history owner client mask)) unavailable
     (record {
       reply = plain 200 (consent_body (scope_text setting.rules.scopes mask));
       changes = Consented owner client mask ∷ [];

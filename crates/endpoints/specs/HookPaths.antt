@@ -53,6 +53,7 @@ hook_change_at endpoint.GiveConsent asked = None
 hook_change_at endpoint.IssueToken asked = None
 hook_change_at endpoint.RevokeToken asked = None
 hook_change_at endpoint.Introspect asked = None
+hook_change_at endpoint.EndOwner asked = None
 hook_change_at (endpoint.Read document) asked = None
 
 -- WHAT IS DONE

@@ -9,7 +9,7 @@ use Rattle.answers.specs.Replies.{id_of}
 abbrev pub told_of : RegistryRecord → Grant → Kind → Body
 told_of rules token Code = Inactive
 told_of rules token (Token kind) =
-    Active (id_of rules token.client) (token.moment + token.life) token.moment (scope_text rules.scopes token.scope) (sub_of token.owner rules.owners) kind
+    Active (id_of rules token.client) (token.moment + token.life) token.moment (scope_text rules.scopes token.scope) (sub_of token.owner rules) kind
 
 -- something is told of a token
 abbrev pub IsActive : Body → Type 0

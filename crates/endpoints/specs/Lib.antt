@@ -6,6 +6,7 @@ pub mod ConsentPath
 pub mod Revoke
 pub mod Introspect
 pub mod HookPaths
+pub mod OwnerPath
 pub mod Documents
 pub mod Ruling
 pub mod Replies

@@ -33,7 +33,7 @@ pub use Rattle.consent.specs.declared.record_version.RecordVersion.{RecordVersio
 pub use Rattle.consent.specs.declared.record_version.RecordVersion.TheVariants.{First, Second}
 pub use Rattle.endpoints.specs.declared.reading.Reading.{Reading}
 pub use Rattle.endpoints.specs.declared.redo.RedoFault.{RedoFault}
-pub use Rattle.endpoints.specs.declared.redo.RedoFault.TheVariants.{Hook, MomentBack, Unknown, Store}
+pub use Rattle.endpoints.specs.declared.redo.RedoFault.TheVariants.{Hook, MomentBack, Unknown, DrawTaken}
 pub use Rattle.endpoints.specs.declared.ruling.Checked.{Checked}
 pub use Rattle.hook_host.specs.declared.fault.HookFault.{HookFault}
 pub use Rattle.hook_host.specs.declared.host.HookHost.{Ghosts as Hosting}

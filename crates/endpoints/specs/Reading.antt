@@ -2,7 +2,7 @@
 use Rattle.std.specs.Prelude.{◌≡◌, ℕ, List}
 use Rattle.endpoints.specs.Names.{RegistryRecord, Event, Asked, Draws, Halts, Outcome, Parameters, with_form, HostSays, Halt, Endpoint, Reading}
 use Rattle.answers.specs.declared.endpoint.Endpoint.TheVariants as endpoint
-use Rattle.endpoints.specs.declared.reading.Reading.TheVariants.{Authorize, GiveConsent, IssueToken, RevokeToken, Introspect, InstallHook, RemoveHook, Read}
+use Rattle.endpoints.specs.declared.reading.Reading.TheVariants.{Authorize, GiveConsent, IssueToken, RevokeToken, Introspect, InstallHook, RemoveHook, EndOwner, Read}
 use Rattle.endpoints.specs.Authorize.{HasShortState, with_query}
 use Rattle.endpoints.specs.HookPaths.{with_operator}
 use Rattle.endpoints.specs.Replies.{outcome_at}
@@ -16,6 +16,7 @@ endpoint_of RevokeToken = endpoint.RevokeToken
 endpoint_of Introspect = endpoint.Introspect
 endpoint_of (InstallHook params) = endpoint.InstallHook
 endpoint_of (RemoveHook params) = endpoint.RemoveHook
+endpoint_of EndOwner = endpoint.EndOwner
 endpoint_of (Read document) = endpoint.Read document
 
 -- what is sent back of it is short

@@ -1,14 +1,12 @@
 -- A server that is made of a list of dated changes, one after the other.
-use Rattle.std.specs.Prelude.{◌≡◌, ◌<◌, ℕ, List, [], max, length}
-use Rattle.endpoints.specs.Names.{Event, FitsConsents, Held, Hosting, IsHistory, KeptConsents, RedoFault, RegistryRecord, greatest_family}
-use Rattle.consent.specs.Limits.{consent_limit}
+use Rattle.std.specs.Prelude.{◌≡◌, ℕ, List, [], max}
+use Rattle.endpoints.specs.Names.{Event, FitsConsents, Held, Hosting, IsHistory, KeptConsents, RegistryRecord, greatest_family}
 use Rattle.shortening.specs.Shortened.{TellsAlike}
 use Rattle.shortening.specs.Standing.{IsSound}
 use Rattle.token_store.specs.Lists.{FitsList}
 use Rattle.endpoints.specs.Bounded.{AllRight}
 use Rattle.endpoints.specs.Hosts.{HostRun}
 use Rattle.endpoints.specs.Server.{FitsServer, Outset, SeenServer}
-use Rattle.endpoints.specs.declared.redo.RedoFault.TheVariants.{ConsentsFull}
 
 -- a server in the making as it is seen
 pub record SeenRemaking (H : Type 0) : Type 0 where
@@ -43,7 +41,3 @@ Finishes {H = H} hosting making until server =
     (outset : Outset H) (list : List Event) (m : ℕ) → FitsRemaking hosting making outset list m →
     (history : List Event) → TellsHistory list (max m until) history → HostRun hosting outset.first history making.host →
     AllRight outset.rules [] history → FitsServer hosting server outset history (max m until)
-
--- why it is none yet: more consents are kept than may be
-abbrev pub RefusesFinish : {H : Type 0} → SeenRemaking H → RedoFault → Type 0
-RefusesFinish making fault = (fault ≡ ConsentsFull) × (consent_limit < length making.consents.masks)

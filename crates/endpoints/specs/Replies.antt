@@ -2,7 +2,7 @@
 use Rattle.std.specs.Prelude.{Bool, not, bytes_eq, Option, option_and_then}
 use Rattle.endpoints.specs.Names.{Asked, path_of, Outcome, point, need, bare, chosen, Setting, situation_of, Endpoint}
 use Rattle.consent.specs.History.{Change}
-use Rattle.answers.specs.declared.endpoint.Endpoint.TheVariants.{Authorize, GiveConsent, IssueToken, RevokeToken, Introspect, InstallHook, RemoveHook, Read}
+use Rattle.answers.specs.declared.endpoint.Endpoint.TheVariants.{Authorize, GiveConsent, IssueToken, RevokeToken, Introspect, InstallHook, RemoveHook, EndOwner, Read}
 use Rattle.answers.specs.Paths.{endpoint_at, method_at}
 use Rattle.endpoints.specs.Authorize.{authorize}
 use Rattle.endpoints.specs.ConsentPath.{give_consent}
@@ -10,6 +10,7 @@ use Rattle.token_endpoint.specs.TokenPath.{issue_token}
 use Rattle.endpoints.specs.Revoke.{revoke_token}
 use Rattle.endpoints.specs.Introspect.{introspect}
 use Rattle.endpoints.specs.HookPaths.{install_hook, remove_hook, hook_change_at}
+use Rattle.endpoints.specs.OwnerPath.{end_owner}
 use Rattle.endpoints.specs.Documents.{document_at, document_outcome}
 
 abbrev pub outcome_at : Endpoint → Setting → Asked → Outcome
@@ -20,6 +21,7 @@ outcome_at RevokeToken setting asked = revoke_token setting asked
 outcome_at Introspect setting asked = introspect setting asked
 outcome_at InstallHook setting asked = install_hook setting asked
 outcome_at RemoveHook setting asked = remove_hook setting asked
+outcome_at EndOwner setting asked = end_owner setting asked
 outcome_at (Read document) setting asked = document_outcome (document_at document (situation_of setting) asked)
 
 -- No such path, another method, and then the endpoint's own points, or 503 where memory was refused for what they want.

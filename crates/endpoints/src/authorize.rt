@@ -116,8 +116,8 @@ fn give_code<'p>(view: &View<'_>, params: &'p Params<'_>, facts: &CodeFacts<'p>)
     };
     let draw = view.draws.first;
     let digest = digest_of(&draw);
-    if !view.is_free(&[digest]) {
-        return Decision::unavailable(view.want(&[digest]));
+    if !view.is_free(facts.client, &[digest]) {
+        return Decision::unavailable(view.want(facts.client, &[digest]));
     }
     Decision {
         answer: Answer::CodeSent {

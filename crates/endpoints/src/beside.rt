@@ -57,8 +57,10 @@ pub(crate) fn make_beside<H: HookHost>(
     ensures consents { MakesConsents consents.old (as_list changes.now) consents.new }
     ensures hosts { MakesHost H.HookHost host.old (as_list changes.now) checked host.new }
 {
-    if let Changes::One(change) = changes {
-        make_one(host, consents, change, checked);
+    match changes {
+        Changes::One(change) => make_one(host, consents, change, checked),
+        Changes::Left { owner, clients } => consents.withdraw_all(*owner, *clients),
+        _ => {}
     }
 }
 

@@ -66,7 +66,8 @@ pub(crate) fn consent<'c>(
         Ok(new) => new,
         Err(halt) => return Err(halt),
     };
-    if !view.consents.has_room(owner, client, mask) {
+    let limit = view.rules.limits().consents;
+    if !view.consents.has_room(limit, owner, client, mask) {
         return Ok(Decision::unavailable(Want::ConsentRoom));
     }
     Ok(Decision {

@@ -9,6 +9,7 @@ mod documents;
 mod hooks;
 mod introspect;
 mod laws;
+mod leaving;
 mod noting;
 mod reading;
 mod redo;

@@ -22,6 +22,7 @@ pub enum Reading<'a> {
     Introspect,
     InstallHook(Params<'a>),
     RemoveHook(Params<'a>),
+    EndOwner,
     Read(Document),
 }
 
@@ -57,6 +58,7 @@ pub(crate) fn read<'a>(
                 Err(halt) => Err(halt),
             }
         }
+        Endpoint::EndOwner => Ok(Reading::EndOwner),
         Endpoint::Read(document) => Ok(Reading::Read(document)),
     }
 }

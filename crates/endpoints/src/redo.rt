@@ -10,7 +10,7 @@ use consent::{Change, RecordVersion};
 use hook_host::{HookFault, HookHost};
 use insn::layout::Layout;
 use std::fmt::{self, Display, Formatter, Write};
-use token_store::{AgainFault, StoreFault};
+use token_store::AgainFault;
 
 /// Why a change is not made again.
 #[derive(Clone, Copy, Debug, PartialEq, Eq)]
@@ -20,10 +20,8 @@ pub enum RedoFault {
     /// It cannot be of the family that it names: that is not new where it should be, or not known where it should be, or has
     /// ended, or is another's.
     Unknown,
-    /// The store refuses the code or the token.
-    Store(StoreFault),
-    /// As many consents to something are kept as may be.
-    ConsentsFull,
+    /// The digest of its code or token is taken.
+    DrawTaken,
     /// It goes beyond the rules, its owner's consent or its code.
     NotRight,
     /// The host refuses the change of its hooks.
@@ -37,8 +35,7 @@ impl Display for RedoFault {
         match self {
             RedoFault::MomentBack => write!(f, "MomentBack"),
             RedoFault::Unknown => write!(f, "Unknown"),
-            RedoFault::Store(fault) => write!(f, "Store {fault}"),
-            RedoFault::ConsentsFull => write!(f, "ConsentsFull"),
+            RedoFault::DrawTaken => write!(f, "DrawTaken"),
             RedoFault::NotRight => write!(f, "NotRight"),
             RedoFault::Hook(fault) => write!(f, "Hook {fault}"),
             RedoFault::Memory => write!(f, "Memory"),
@@ -63,7 +60,7 @@ impl From<AgainFault> for RedoFault {
     fn from(fault: AgainFault) -> RedoFault {
         match fault {
             AgainFault::Unknown => RedoFault::Unknown,
-            AgainFault::Refused(fault) => RedoFault::Store(fault),
+            AgainFault::DrawTaken => RedoFault::DrawTaken,
             AgainFault::Memory => RedoFault::Memory,
         }
     }

@@ -1,8 +1,7 @@
 //! A server in the making.
-ghost use Rattle.std.specs.Prelude.{◌≡◌, ◌<◌, ◌≤◌, ◌↔◌, [], Err, None, IfErr, IfOk, IsErrOf, OnOk, length, max};
-ghost use Rattle.consent.specs.Limits.{consent_limit};
+ghost use Rattle.std.specs.Prelude.{◌≡◌, ◌<◌, ◌↔◌, [], Err, None, IfErr, IsErrOf, OnOk, max};
 ghost use Rattle.endpoints.specs.Redo.{IsNowhereRight, RedoesChange, RefusesRedo};
-ghost use Rattle.endpoints.specs.Remaking.{Finishes, FitsRemaking, RefusesFinish};
+ghost use Rattle.endpoints.specs.Remaking.{Finishes, FitsRemaking};
 ghost use Rattle.endpoints.specs.Server.{Notes, outset_of};
 
 use crate::beside::redo_beside;
@@ -10,7 +9,7 @@ use crate::redo::RedoFault;
 use crate::right::is_right;
 use crate::server::{Server, greater};
 use clients::Registry;
-use consent::{CONSENT_LIMIT, Change, Consents, Moment};
+use consent::{Change, Consents, Moment};
 use hook_host::HookHost;
 use std::alloc::Global;
 use std::marker::Model;
@@ -71,7 +70,8 @@ impl<H: HookHost> Remaking<H> {
 
     /// Makes a change again, which happened at the moment. One that is not right under the rules is refused. What refused one
     /// is of no further use.
-    /// `RedoFault` has the faults in the order in which they come, but for Memory; more consents than may be are no fault here.
+    /// `RedoFault` has the faults in the order in which they come, but for Memory. How much may be kept is not asked: what a list
+    /// has was given once.
     pub fn redo(&mut self, moment: Moment, change: &Change<'_>) -> Result<(), RedoFault>
         ensures redone { OnOk result (RedoesChange H.HookHost self.old moment change.now self.new) }
         ensures moment { OnOk result (self.new.greatest ≡ moment) }
@@ -118,12 +118,10 @@ impl<H: HookHost> Remaking<H> {
 
     /// The list is at its end: the server that it tells, which goes on from the last moment, or from `until` where that is
     /// later, and notes nothing.
-    pub fn finish(self, until: Moment) -> Result<Server<H>, RedoFault>
-        ensures fits { IfOk result (Finishes H.HookHost self until) }
-        ensures notes { IfOk result (λ server. Notes server None []) }
-        ensures moment { IfOk result (λ server. server.greatest ≡ max self.greatest until) }
-        ensures few { OnOk result (length self.consents.masks ≤ consent_limit) }
-        ensures refused { IfErr result (RefusesFinish self) }
+    pub fn finish(self, until: Moment) -> Server<H>
+        ensures fits { Finishes H.HookHost self until result }
+        ensures notes { Notes result None [] }
+        ensures moment { result.greatest ≡ max self.greatest until }
     {
         let Remaking {
             rules,
@@ -133,12 +131,9 @@ impl<H: HookHost> Remaking<H> {
             greatest,
             alloc,
         } = self;
-        if consents.count() > CONSENT_LIMIT {
-            return Err(RedoFault::ConsentsFull);
-        }
         let moment = greater(greatest, until);
         store.drop_records(moment);
         store.settle();
-        Ok(Server::going_on(alloc, rules, host, store, consents, moment))
+        Server::going_on(alloc, rules, host, store, consents, moment)
     }
 }

@@ -27,6 +27,7 @@ use crate::consenting::consent;
 use crate::documents::tell;
 use crate::hooks::{install, remove};
 use crate::introspect::introspect;
+use crate::leaving::end_owner;
 use crate::noting::{note_prepared, prepare};
 use crate::reading::{Reading, read};
 use crate::redo::layout_of;
@@ -231,6 +232,7 @@ impl<H: HookHost> Server<H> {
             Reading::IssueToken => decide(self.alloc, &view, &self.host, request),
             Reading::RevokeToken => revoke(self.alloc, &view, request),
             Reading::Introspect => introspect(self.alloc, &view, request),
+            Reading::EndOwner => end_owner(self.alloc, &view, request),
             Reading::Read(document) => tell(&view, request, *document),
             Reading::InstallHook(_) | Reading::RemoveHook(_) => Ok(Decision {
                 answer: Answer::Done,
@@ -273,6 +275,7 @@ impl<H: HookHost> Server<H> {
 
     /// Makes room for the changes, and makes them ready to be noted at the moment, which changes no answer, also where memory
     /// is refused. Then what was ready is so still, or nothing is.
+    #[tactic(auto, using(crate::proofs::Besides::room_for))]
     pub(crate) fn reserve(
         &mut self,
         moment: Moment,
@@ -282,7 +285,7 @@ impl<H: HookHost> Server<H> {
         ensures room { OnOk result (HasRooms self.new moment changes.now) }
         ensures err { OnErr result ((self.new.prepared ≡ self.old.prepared) ⊎ IsNothingPrepared self.new.prepared) }
     {
-        if let Changes::One(Change::Consented { .. }) = changes {
+        if let Changes::One(Change::Consented { .. }) | Changes::Left { .. } = changes {
             self.consents.reserve(1)?;
         }
         self.store.reserve(changes)?;

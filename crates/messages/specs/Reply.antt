@@ -3,7 +3,7 @@ use Rattle.std.specs.Prelude.{◌≡◌, ℕ, List, [], ◌∷◌, Option, Some,
 use Rattle.consent.specs.declared.grant.TokenKind.{TokenKind}
 use Rattle.messages.specs.declared.error.ErrorName.{ErrorName}
 use Rattle.messages.specs.Members.{Member}
-use Rattle.messages.specs.Members.Member.{Text}
+use Rattle.messages.specs.Members.Member.{Text, Number}
 
 -- a redirect URI, and the pairs that are sent to it (RFC 6749, section 4.1.2)
 pub record Redirection : Type 0 where
@@ -38,6 +38,10 @@ hook_body name = Told (Text (codes "name") name ∷ [])
 
 abbrev pub refused_body : List ℕ → Body
 refused_body detail = Told (Text (codes "detail") detail ∷ Text (codes "error") (codes "hook_refused") ∷ [])
+
+-- how much of an owner's ended, who left
+abbrev pub ended_body : ℕ → ℕ → Body
+ended_body families consents = Told (Number (codes "consents") consents ∷ Number (codes "families") families ∷ [])
 
 pub record Reply : Type 0 where
   pub status : ℕ

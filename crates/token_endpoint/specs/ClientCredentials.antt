@@ -15,7 +15,7 @@ own_ask setting known scope = record (ask_for setting known kind.ClientCredentia
 abbrev pub granted : Setting → ℕ → Extent → Outcome
 granted setting client left =
     need (next_family setting.history) unavailable (λ family.
-    unless_taken setting (sha256 setting.draws.first ∷ [])
+    unless_taken setting client (sha256 setting.draws.first ∷ [])
     (record {
       reply = access_reply setting.rules setting.draws.first left.scope left.life;
       changes = issued_alone setting family client left ∷ [];

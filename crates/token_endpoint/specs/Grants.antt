@@ -46,7 +46,7 @@ refresh_issued used draw left = issued_with (new_token Refresh draw left) used
 -- an access token comes of what is used, which is spent
 abbrev pub access_for : Setting → Grant → Extent → Outcome
 access_for setting used left =
-    unless_taken setting (sha256 setting.draws.first ∷ [])
+    unless_taken setting used.client (sha256 setting.draws.first ∷ [])
     (record {
       reply = access_reply setting.rules setting.draws.first left.scope left.life;
       changes = access_issued used setting.draws.first left ∷ Spent used.digest ∷ [];
@@ -59,7 +59,7 @@ both_digests draws = sha256 draws.first ∷ sha256 draws.second ∷ []
 -- and a refresh token of this scope too
 abbrev pub both_for : Setting → Grant → Extent → ℕ → Outcome
 both_for setting used left kept =
-    unless_taken setting (both_digests setting.draws)
+    unless_taken setting used.client (both_digests setting.draws)
     (record {
       reply = both_reply setting.rules setting.draws left.scope left.life;
       changes = access_issued used setting.draws.first left

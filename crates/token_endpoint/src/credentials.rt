@@ -26,8 +26,8 @@ fn issue_own<'c>(view: &View<'_>, client: ClientNo, scope: ScopeSet, life: u32) 
     };
     let token = access_token(view, scope, life);
     let first = token.digest;
-    if !view.is_free(&[first]) {
-        return Decision::unavailable(view.want(&[first]));
+    if !view.is_free(client, &[first]) {
+        return Decision::unavailable(view.want(client, &[first]));
     }
     Decision {
         answer: Answer::Access {

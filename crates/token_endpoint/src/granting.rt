@@ -104,8 +104,8 @@ pub(crate) fn access_for<'c>(
 {
     let access = access_token(view, scope, life);
     let first = access.digest;
-    if !view.is_free(&[first]) {
-        return Decision::unavailable(view.want(&[first]));
+    if !view.is_free(used.client, &[first]) {
+        return Decision::unavailable(view.want(used.client, &[first]));
     }
     Decision {
         answer: Answer::Access {
@@ -139,8 +139,8 @@ pub(crate) fn both_for<'c>(
     let refresh = refresh_token(view, kept);
     let first = access.digest;
     let second = refresh.digest;
-    if !view.is_free(&[first, second]) {
-        return Decision::unavailable(view.want(&[first, second]));
+    if !view.is_free(used.client, &[first, second]) {
+        return Decision::unavailable(view.want(used.client, &[first, second]));
     }
     Decision {
         answer: Answer::Both {

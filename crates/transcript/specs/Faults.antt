@@ -1,7 +1,7 @@
 -- Why a transcript has no answer.
 use Rattle.std.specs.Prelude.{◌≡◌, ◌≢◌, ⊤, ℕ, List}
-use Rattle.clients.specs.declared.fault.ConfigFault.{ConfigFault}
-use Rattle.clients.specs.declared.fault.ConfigFault.TheVariants as config
+use Rattle.registry_json.specs.declared.fault.ConfigFault.{ConfigFault}
+use Rattle.registry_json.specs.declared.fault.ConfigFault.TheVariants as config
 use Rattle.http_edge.specs.Schedule.{Connection}
 use Rattle.http_edge.specs.declared.fault.EdgeFault.{EdgeFault}
 use Rattle.http_edge.specs.declared.fault.EdgeFault.TheVariants as edge

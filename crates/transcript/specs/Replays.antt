@@ -5,7 +5,7 @@ use Rattle.std.specs.List.{flat_map}
 use Rattle.hook_host.specs.declared.host.HookHost.{Ghosts as Hosting}
 use Rattle.clients.specs.Registry.{registry_in}
 use Rattle.clients.specs.RegistryRecord.{RegistryRecord}
-use Rattle.clients.specs.declared.fault.ConfigFault.TheVariants as config
+use Rattle.registry_json.specs.declared.fault.ConfigFault.TheVariants as config
 use Rattle.endpoints.specs.Server.{Outset, outset_of}
 use Rattle.http_edge.specs.Schedule.{World, Happening, Run, first_world}
 use Rattle.transcript.specs.Lines.{transcript_lines, HandsIn}

@@ -15,11 +15,6 @@ returns-in-Denied-clause-short g c = λ _. if_short c.failure-in-Denied.result (
 pub returns-in-Unavailable-clause-short : goal.returns-in-Unavailable-clause-short
 returns-in-Unavailable-clause-short g c = λ _. written_short (plain 503 Empty) c.bare-in-Unavailable.result (record { status = refl; short = tt }) c.bare-in-Unavailable.ensures
 
-pub returns-in_ok-scope-in-Active-clause-short : goal.returns-in_ok-scope-in-Active-clause-short
-returns-in_ok-scope-in-Active-clause-short g c = λ _.
-    let sub = c.sub_of.ensures.short in
-    c.live.ensures.short (record { client = c.id_of.ensures.short; scope = rw c.deref.ensures c.in_ok-scope-in-Active.ensures.short; sub = grind (arith, sub) })
-
 pub returns-in-Inactive-clause-short : goal.returns-in-Inactive-clause-short
 returns-in-Inactive-clause-short g c = λ _. if_short c.inactive.result (plain 200 Inactive) (record { status = refl; short = tt }) (search rules)
 

@@ -9,11 +9,11 @@ returns-in-Err-consented-clause-decides c = λ history host shows.
 
 pub returns-then-not-has_room-clause-decides : goal.returns-then-not-has_room-clause-decides
 returns-then-not-has_room-clause-decides c = λ history host shows.
-    let full = sym (c.has_room.ensures history shows.consents) ∙ c.if-not-has_room.true in
+    let full = rw c.limits-limit.ensures.value at (sym (c.has_room.ensures history shows.consents) ∙ c.if-not-has_room.true) in
     ap (outcome_told (setting_of c.args.view.now history host)) c.unavailable.ensures
     ∙ (sym (c.in-Ok.ensures _ ∙ c.in-Ok-consented.ensures history host shows ∙ no_consent_room (setting_of c.args.view.now history host) _ _ _ full))
 
 pub returns-clause-decides : goal.returns-clause-decides
 returns-clause-decides c = λ history host shows.
-    let room = sym (c.has_room.ensures history shows.consents) ∙ c.if-not-has_room.false in
+    let room = rw c.limits-limit.ensures.value at (sym (c.has_room.ensures history shows.consents) ∙ c.if-not-has_room.false) in
     (sym (c.in-Ok.ensures _ ∙ c.in-Ok-consented.ensures history host shows ∙ consent_room (setting_of c.args.view.now history host) _ _ _ room))
