@@ -1,16 +1,18 @@
 -- What is given was decided by each hook.
 use Rattle.std.proofs.Common.{arith, ◌≡◌, inl, inr, ℕ, List, [], ◌∷◌, Bool, Some, None, refl, sym, ap, ◌∙◌}
 use Rattle.headline.specs.Names.{Access, Refresh, Checked, narrowed_by, narrowed_by_hook}
-use Rattle.headline.proofs.Names.{if◌then◌else◌, ◌==◌, and_from, eq-eqb, digest_told, grant_at, is_code, is_own, is_refresh, where_passes, Kind, fold, All-nil, All-cons, RegistryRecord, Change, Grant, grants, is_named, Spent, Token, Ask, Narrowed, Allowed, Denied, EmptyScope, met, met_with, Extent, Outcome}
+use Rattle.headline.proofs.Names.{if◌then◌else◌, ◌==◌, and_from, eq-eqb, digest_told, grant_at, is_code, is_own, is_refresh, where_passes, Kind, fold, All-nil, All-cons, RegistryRecord, Change, Consented, Grant, grants, is_named, Spent, Token, Ask, Narrowed, Allowed, Denied, EmptyScope, met, met_with, Extent, Outcome}
 use Rattle.headline.proofs.Names.{Setting, own_ask, access_issued, new_token, Occasion, outcome_of, setting_on}
-use Rattle.std.specs.Prelude.{All, ◌⊎◌, option_and_then}
+use Rattle.std.specs.List.{range_with_len}
+use Rattle.std.specs.Prelude.{All, ◌⊎◌, length, option_and_then}
 use Rattle.consent.specs.History.{Event}
+use Rattle.consent.specs.LeavingLaws.{withdrawn}
 use Rattle.consent.specs.Changes.{issued_with, token_issued}
 use Rattle.consent.specs.declared.change.NewToken.{NewToken}
 use Rattle.hook_chain.specs.Exits.{narrowed_further}
 use Rattle.headline.specs.Decided.{IsCodeAsk, IsRefreshAsk, IsOwnAsk, IsAskOf, AllowInTurn, IsOfLeft, IsDecided}
 use Rattle.headline.proofs.Bearing.{find_contains}
-use Rattle.endpoints.proofs.Ways.{IsLeft, Proven, Refreshing, Sender, Use, Way, ByToken, Once, Twice, Refreshed, Own, both_issued, code_ask, one_issued, outcome_by, refresh_ask}
+use Rattle.endpoints.proofs.Ways.{IsLeft, Proven, Refreshing, Sender, Use, Way, ByToken, Leaves, Once, Twice, Refreshed, Own, both_issued, code_ask, one_issued, outcome_by, refresh_ask}
 use Rattle.headline.proofs.Ways.{at_each}
 
 -- what no hook changes stays
@@ -120,6 +122,12 @@ module _ (rules : RegistryRecord) (history : List Event) (occasion : Occasion) (
       let kind : x.token.grant.kind ≡ Token Refresh = grind (arith, is) in
       inr (x.token.grant, find_contains (is_named x.token.digest occasion.arrival.moment) (grants history) x.token.grant x.token.named, kind, refl, refl)
 
+  -- who leaves is given nothing
+  withdrawn_decided : (owner : ℕ) (clients : List ℕ) → All Right (withdrawn owner clients)
+  withdrawn_decided owner [] = All-nil Right
+  withdrawn_decided owner (client ∷ clients) =
+      All-cons Right (Consented owner client 0) (withdrawn owner clients) tt (withdrawn_decided owner clients)
+
   by_way : (way : Way s occasion.arrival.asked) → P (outcome_by way)
   by_way (ByToken (Once x left is untaken)) = one_given (code_ask x) left is x.code.grant (asks_code x) (sym x.code.own) refl
   by_way (ByToken (Twice x left is untaken)) = both_given (code_ask x) left is x.code.grant (asks_code x) (sym x.code.own) refl left.scope (inl refl)
@@ -129,6 +137,7 @@ module _ (rules : RegistryRecord) (history : List Event) (occasion : Occasion) (
       let ask = own_ask s sender.known scope in
       let asks = by_sender sender family ask (inr (inr (typed, scope, free.1, new, refl))) in
       one _ (given ask left is family sender.known.number 0 asks (new_token Access s.draws.first left) refl refl (refl, refl))
+  by_way (Leaves owner params form named operator) = withdrawn_decided owner (range_with_len 1 (length rules.clients))
   by_way _ = search (All-nil Right, one)
 
   pub decided : All (IsDecided hooks s occasion.arrival.asked) (outcome_of rules history occasion).changes

@@ -3,12 +3,15 @@ use Rattle.std.proofs.Common.{arith, ◌≡◌, inl, inr, ℕ, List, [], ◌∷�
 use Rattle.headline.proofs.Names.{flat_map, map-append, sha256, RegistryRecord, event_at, grants, with_changes, grants-append, Hosting, Outcome, says_with, Outset, AnsweredRequest, AreAnswered}
 use Rattle.headline.proofs.Names.{IsOutcomeOfRequest, changes_made, AnsweredPiece, Happening, Came, Taken, Resumed, Happens, PieceComes, Run, World, first_world, Occasion}
 use Rattle.headline.proofs.Names.{outcome_of, setting_on, if◌then◌else◌, Authorize, IssueToken}
+use Rattle.std.specs.List.{range_with_len}
+use Rattle.std.specs.Prelude.{length}
 use Rattle.consent.specs.History.{Event}
+use Rattle.consent.specs.LeavingLaws.{grants-withdrawn, withdrawn}
 use Rattle.messages.specs.declared.request.Draws.{Draws}
 use Rattle.http_edge.specs.Answers.{answerer}
 use Rattle.headline.specs.Drawn.{AreAmong, AreDrawn, digests_by, digests_for, digests_in}
 use Rattle.http_edge.specs.Sources.{wants_draws}
-use Rattle.endpoints.proofs.Ways.{IsAt, Way, ByToken, Coded, Refused, Wanting, outcome_by}
+use Rattle.endpoints.proofs.Ways.{IsAt, Way, ByToken, Coded, Leaves, Refused, Wanting, outcome_by}
 use Rattle.headline.proofs.Ways.{IsSentTo, at_each_sent, path_is}
 
 -- the digests of two draws
@@ -67,8 +70,17 @@ module _ (rules : RegistryRecord) (history : List Event) (occasion : Occasion) (
   abbrev given_by : (way : Way (setting_on rules history occasion) occasion.arrival.asked) → List (List ℕ)
   given_by way = digests_given (map (event_at m) (outcome_by way).changes)
 
+  -- who leaves is given nothing
+  none_given : (owner : ℕ) (clients : List ℕ) → digests_given (map (event_at m) (withdrawn owner clients)) ≡ []
+  none_given owner clients = ap (map (λ g. g.digest)) (grants-withdrawn [] m owner clients)
+
+  nothing_given : (owner : ℕ) (digests : List (List ℕ)) →
+      AreAmong (digests_given (map (event_at m) (withdrawn owner (range_with_len 1 (length rules.clients))))) digests
+  nothing_given owner digests = subst (λ ds. AreAmong ds digests) (sym (none_given owner (range_with_len 1 (length rules.clients)))) tt
+
   by_draws : (way : Way (setting_on rules history occasion) occasion.arrival.asked) → Given (outcome_by way) (digests_of occasion.arrival.draws)
   by_draws (ByToken Wanting) = tt
+  by_draws (Leaves owner params form named operator) = nothing_given owner (digests_of occasion.arrival.draws)
   by_draws _ = grind arith
 
   by_way : (way : Way (setting_on rules history occasion) occasion.arrival.asked) → IsAt (IsSentTo occasion) way → P (outcome_by way)
@@ -79,6 +91,8 @@ module _ (rules : RegistryRecord) (history : List Event) (occasion : Occasion) (
   by_way (Coded x code family new key of) here =
       where_wanted (wants_draws occasion.arrival.asked) (given_by (Coded x code family new key of)) occasion.arrival.draws (wants_code occasion here)
       (by_draws (Coded x code family new key of))
+  by_way (Leaves owner params form named operator) here =
+      nothing_given owner (if wants_draws occasion.arrival.asked then digests_of occasion.arrival.draws else [])
   by_way _ here = tt
 
   drawn_once : P (outcome_of rules history occasion)

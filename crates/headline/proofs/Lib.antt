@@ -15,3 +15,5 @@ pub mod Replaying
 pub mod Deciding
 pub mod Drawing
 pub mod Names
+pub mod Gateway
+pub mod Leaving

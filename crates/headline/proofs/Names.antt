@@ -12,7 +12,7 @@ pub use Rattle.answers.specs.Setting.{Setting}
 pub use Rattle.answers.specs.Texts.{where_passes}
 pub use Rattle.answers.specs.Tokens.{live_token, is_own, is_refresh}
 pub use Rattle.answers.specs.declared.endpoint.Endpoint.{Endpoint}
-pub use Rattle.answers.specs.declared.endpoint.Endpoint.TheVariants.{IssueToken, RevokeToken, Authorize, GiveConsent, Introspect, InstallHook, RemoveHook, Read}
+pub use Rattle.answers.specs.declared.endpoint.Endpoint.TheVariants.{IssueToken, RevokeToken, Authorize, GiveConsent, Introspect, InstallHook, RemoveHook, Read, EndOwner}
 pub use Rattle.authentication.specs.Authentication.{authenticated}
 pub use Rattle.clients.specs.ClientRecord.{ClientRecord}
 pub use Rattle.clients.specs.Grants.{grant_named}

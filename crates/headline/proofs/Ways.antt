@@ -1,6 +1,6 @@
 -- What holds on each way that a request may go, holds of its outcome.
 use Rattle.std.proofs.Common.{◌≡◌, List, true, Some, inl, inr, refl, arith}
-use Rattle.headline.proofs.Names.{RegistryRecord, path_of, Empty, Endpoint, Authorize, GiveConsent, IssueToken, RevokeToken, Introspect, InstallHook, RemoveHook, Read, Outcome, bare}
+use Rattle.headline.proofs.Names.{RegistryRecord, path_of, Empty, Endpoint, Authorize, GiveConsent, IssueToken, RevokeToken, Introspect, InstallHook, RemoveHook, EndOwner, Read, Outcome, bare}
 use Rattle.headline.proofs.Names.{Asked, bytes_eq-Decides, endpoint_at, method_at, installation, removal, Setting, outcome_at, Occasion, GoesTo, outcome_of, setting_on}
 use Rattle.std.specs.Prelude.{bytes_eq}
 use Rattle.answers.specs.Paths.{path_at}
@@ -8,7 +8,7 @@ use Rattle.answers.specs.declared.endpoint.TheConstants.{ENDPOINTS}
 use Rattle.consent.specs.History.{Event}
 use Rattle.consent.specs.ListLaws.{find-passes}
 use Rattle.endpoints.proofs.Walking.{at_chosen, at_need, at_unless, other}
-use Rattle.endpoints.proofs.Ways.{IsAt, Way, Quiet, ByToken, Wanting, outcome_by, token_at, at_authorize, at_consent, at_token, at_revoke, at_introspect, at_hooks, at_document}
+use Rattle.endpoints.proofs.Ways.{IsAt, Way, Quiet, ByToken, Wanting, outcome_by, token_at, at_authorize, at_consent, at_token, at_revoke, at_introspect, at_owner, at_hooks, at_document}
 
 -- its path and its method are the endpoint's
 abbrev pub IsSentTo : Occasion → Endpoint → Type 0
@@ -39,6 +39,7 @@ module _ (P : Outcome → Type 0) (rules : RegistryRecord) (history : List Event
   at_endpoint Introspect sent = at_introspect P s asked (IsSentTo occasion) ways
   at_endpoint InstallHook sent = at_hooks P s asked (IsSentTo occasion) ways (inl sent) (installation asked) (λ c is. grind (arith, is))
   at_endpoint RemoveHook sent = at_hooks P s asked (IsSentTo occasion) ways (inr sent) (removal asked) (λ c is. grind (arith, is))
+  at_endpoint EndOwner sent = at_owner P s asked (IsSentTo occasion) ways sent
   at_endpoint (Read document) sent = at_document P s asked (IsSentTo occasion) ways _
 
   -- with the endpoint that the request is sent to

@@ -25,7 +25,7 @@ Shows rules occasion text = (params : Parameters) × (value_sent (codes "token")
 abbrev pub TellsOf : RegistryRecord → Grant → Body → Type 0
 TellsOf rules token (Active id expires issued scope sub kind) =
     (token.kind ≡ Token kind) × (option_map (λ c. c.id) (client_at token.client rules.clients) ≡ Some id)
-    × (issued ≡ token.moment) × (expires ≡ token.moment + token.life) × (scope ≡ scope_text rules.scopes token.scope) × (sub ≡ sub_of token.owner rules.owners)
+    × (issued ≡ token.moment) × (expires ≡ token.moment + token.life) × (scope ≡ scope_text rules.scopes token.scope) × (sub ≡ sub_of token.owner rules)
 TellsOf rules token body = ⊥
 
 -- the reply tells of the live token that the request presents

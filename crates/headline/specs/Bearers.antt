@@ -1,6 +1,8 @@
 -- Whose credentials and keys a request bears.
-use Rattle.std.specs.Prelude.{◌≡◌, ℕ, List, true, Some, Ok}
-use Rattle.headline.specs.Names.{RegistryRecord, owner_with, Parameters, form_of}
+use Rattle.std.specs.Prelude.{◌≡◌, ◌⊎◌, ◌++◌, ◌∷◌, ℕ, List, true, Some, Ok}
+use Rattle.headline.specs.Names.{RegistryRecord, Parameters, form_of}
+use Rattle.clients.specs.Gateway.{is_gateway_key, number_in}
+use Rattle.clients.specs.Owners.{own_owner}
 use Rattle.clients.specs.Registry.{is_operator_key}
 use Rattle.authentication.specs.Authentication.{authenticated}
 use Rattle.messages.specs.Asked.{Asked}
@@ -13,9 +15,19 @@ pub record BearsWith (rules : RegistryRecord) (asked : Asked) (params : Paramete
 abbrev pub BearsCredentials : RegistryRecord → Asked → ℕ → Type 0
 BearsCredentials rules asked client = (params : Parameters) × BearsWith rules asked params client
 
--- the key of the owner of this number
+-- the own key of the owner of this number
+abbrev pub BearsOwnKey : RegistryRecord → Asked → ℕ → Type 0
+BearsOwnKey rules asked owner = (key : List ℕ) × (asked.owner_key ≡ Some key) × (own_owner key rules.owners ≡ Some owner)
+
+-- the gateway's key, a space, and this number of an owner
+abbrev pub BearsGatewayKey : RegistryRecord → Asked → ℕ → Type 0
+BearsGatewayKey rules asked owner =
+    (key : List ℕ) × (number : List ℕ) × (asked.owner_key ≡ Some (key ++ 32 ∷ number))
+    × (is_gateway_key key rules ≡ true) × (number_in number ≡ Some owner)
+
+-- the owner's key, or the gateway's with the owner's number
 abbrev pub BearsOwnerKey : RegistryRecord → Asked → ℕ → Type 0
-BearsOwnerKey rules asked owner = (key : List ℕ) × (asked.owner_key ≡ Some key) × (owner_with key rules.owners ≡ Some owner)
+BearsOwnerKey rules asked owner = BearsOwnKey rules asked owner ⊎ BearsGatewayKey rules asked owner
 
 -- the operator's key
 abbrev pub BearsOperatorKey : RegistryRecord → Asked → Type 0

@@ -10,6 +10,7 @@ pub mod Activity
 pub mod Codes
 pub mod Uses
 pub mod Authority
+pub mod Leaving
 pub mod Redirects
 pub mod Hooked
 pub mod Decided

@@ -3,7 +3,7 @@ pub use Rattle.answers.specs.Outcomes.{Outcome}
 pub use Rattle.answers.specs.Requesters.{Parameters, form_of, KnownClient, client_named}
 pub use Rattle.answers.specs.Texts.{digest_told}
 pub use Rattle.clients.specs.Clients.{client_at, has_redirect}
-pub use Rattle.clients.specs.Owners.{sub_of, owner_with}
+pub use Rattle.clients.specs.Owners.{sub_of}
 pub use Rattle.clients.specs.RegistryRecord.{RegistryRecord}
 pub use Rattle.consent.specs.History.{Grant, grant_at, has_ended, is_code, is_single_use, is_spent, Change, Terms, code_terms, grants, event_at, live_grant, is_within, consented_scope, last_consent}
 pub use Rattle.consent.specs.History.{with_changes}

@@ -7,6 +7,7 @@ ghost use Rattle.headline.specs.Decided.{IsAllDecided};
 ghost use Rattle.headline.specs.Drawn.{AreDrawn};
 ghost use Rattle.headline.specs.Grants.{AreOfClients, AreOfTheirCodes, InEachHistory, KeepsToConsents};
 ghost use Rattle.headline.specs.Hooked.{WidensNothing};
+ghost use Rattle.headline.specs.Leaving.{EndsOwner};
 ghost use Rattle.headline.specs.Occasions.{AtEachServer, IsIdleWhere503, OnEachOccasion};
 ghost use Rattle.headline.specs.Redirects.{IsNoOpenRedirector};
 ghost use Rattle.headline.specs.Uses.{ReplaysKill, RevokesForGood, UsesUp};
@@ -75,17 +76,26 @@ pub fn codes_are_bound()
 {}
 
 /// Nothing happens without authority: hooks are set and removed with the operator's key, consents (at `/consent`) and codes are
-/// given with the key of their owner, and tokens are given, codes and tokens used and families ended with the credentials of the
-/// family's client.
+/// given with the key of their owner, or the gateway's with the owner's number, and tokens are given, codes and tokens used and
+/// families ended with the credentials of the family's client. With the operator's key a consent of an owner whom the request
+/// names is withdrawn, at `/owners/end`.
 pub fn nothing_happens_without_authority<H: HookHost>()
     ensures { AtEachServer H.HookHost IsAllAuthorized }
 {}
 
 /// No family ends without authority: it ends with the credentials of its client or, where a consent at `/consent` falls below
-/// the scope of its code, with the key of that code's owner. Without any request codes and tokens only expire.
+/// the scope of its code, with the key of that code's owner or the gateway's with its number, or at `/owners/end` with the
+/// operator's key. Without any request codes and tokens only expire.
 #[tactic(auto, using(crate::proofs::Bearing::ends_with_authority))]
 pub fn no_family_ends_without_authority<H: HookHost>()
     ensures { AtEachServer H.HookHost EndsWithAuthority }
+{}
+
+/// An owner who left leaves nothing: where the operator names it at `POST /owners/end`, no code and no token of a family of a code
+/// that it gave for some scope is live from then on, whatever comes, and no client has its consent; the reply tells how many
+/// families and consents there were. So it is done unless memory is refused.
+pub fn an_owner_who_left_leaves_nothing<H: HookHost>()
+    ensures { AtEachServer H.HookHost EndsOwner }
 {}
 
 /// There is no open redirector: a user agent is sent only to a redirect URI that the registry has for the client that the
@@ -104,7 +114,8 @@ pub fn a_replay_kills_its_family()
 
 /// Clients are isolated: what comes of a request with one client's credentials adds nothing to another client's families and
 /// uses none of its codes and tokens. It ends none of its families, unless the request is at once a consent of the owner of the
-/// family's code, at `/consent` and with that owner's key.
+/// family's code, at `/consent` and with that owner's key or the gateway's and its number, or the operator's end of what that
+/// owner granted, at `/owners/end`.
 pub fn clients_are_isolated<H: HookHost>()
     ensures { AtEachServer H.HookHost IsIsolated }
 {}
