@@ -1,8 +1,9 @@
 -- What rules say, and what a server has, without where its texts lie in memory.
 use Rattle.std.specs.Prelude.{ℕ, List, map}
-use Rattle.change_codec.specs.Rules.{ClientFact, RulesFact}
+use Rattle.change_codec.specs.Rules.{ClientFact, OwnerFact, RulesFact}
 use Rattle.clients.specs.declared.bounds.Bounds.{Bounds}
 use Rattle.clients.specs.declared.bounds.ClientBounds.{ClientBounds}
+use Rattle.clients.specs.declared.bounds.OwnerBounds.{OwnerBounds}
 use Rattle.consent.specs.RecordFacts.{RecordFact, record_fact}
 use Rattle.consent.specs.declared.kept_consent.KeptConsent.{KeptConsent}
 use Rattle.consent.specs.declared.record_version.RecordVersion.{RecordVersion}
@@ -22,13 +23,18 @@ pub record StandingFact : Type 0 where
   pub consents : List KeptConsent
   pub hooks : List HookFact
 
+abbrev pub owner_fact : OwnerBounds → OwnerFact
+owner_fact o = record { number = o.number; key = o.key; sub = o.sub }
+
 abbrev pub client_fact : ClientBounds → ClientFact
 client_fact c = record { name = c.name.now; allowed = c.allowed }
 
 abbrev pub rules_fact : Bounds → RulesFact
 rules_fact r = record {
   scopes = map (λ s. s.now) r.scopes.items;
-  owners = r.owners;
+  owners = map owner_fact r.owners.items;
+  numbered = r.numbered;
+  gateway = r.gateway;
   clients = map client_fact r.clients.items;
   access_life = r.access_life;
   refresh_life = r.refresh_life;

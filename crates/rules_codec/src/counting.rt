@@ -1,14 +1,14 @@
 //! What can be counted: how many there are of each list, and the bytes of each text, in four bytes.
 
 ghost use Rattle.std.specs.Prelude.{◌↔◌, ◌<◌, ◌^◌, ℕ, List, length, map, IsTrue};
-ghost use Rattle.change_codec.specs.Rules.{ClientFact};
-ghost use Rattle.rules_codec.specs.Facts.{client_fact, rules_fact};
-ghost use Rattle.rules_codec.specs.Formats.{client_format};
+ghost use Rattle.change_codec.specs.Rules.{ClientFact, OwnerFact};
+ghost use Rattle.rules_codec.specs.Facts.{client_fact, owner_fact, rules_fact};
+ghost use Rattle.rules_codec.specs.Formats.{client_format, owner_format};
 ghost use Rattle.rules_codec.specs.Spelling.{RulesCount};
 ghost use Rattle.wire.specs.Format.{Format, text_format};
 ghost use Rattle.wire.specs.Lists.{list_of};
 
-use clients::{Bounds, ClientBounds};
+use clients::{Bounds, ClientBounds, OwnerBounds};
 
 fn is_short(bytes: &[u8]) -> bool
     ensures { IsTrue result ↔ (length bytes.now < 2 ^ 32) }
@@ -38,6 +38,19 @@ impl Counted for &str {
 
     fn counts(&self) -> bool {
         is_short(self.as_bytes())
+    }
+}
+
+#[tactic(auto, unfolding(crate::specs::Formats::owner_format))]
+impl Counted for OwnerBounds {
+    ghost Fact = { OwnerFact };
+
+    ghost fact = { owner_fact };
+
+    ghost spelled = { owner_format };
+
+    fn counts(&self) -> bool {
+        true
     }
 }
 
@@ -73,5 +86,7 @@ fn list_counts<T: Counted>(items: &[T]) -> bool
 pub fn rules_count(rules: &Bounds) -> bool
     ensures { IsTrue result ↔ RulesCount (rules_fact rules.now) }
 {
-    list_counts(rules.scopes.as_slice()) && list_counts(rules.clients.as_slice())
+    list_counts(rules.scopes.as_slice())
+        && list_counts(rules.owners.as_slice())
+        && list_counts(rules.clients.as_slice())
 }

@@ -34,7 +34,9 @@ fn least(alloc: Global) -> Result<Registry, StateFault>
 {
     let bounds = Bounds {
         scopes: Vec::new(alloc),
-        owners: 0,
+        owners: Vec::new(alloc),
+        numbered: true,
+        gateway: false,
         clients: Vec::new(alloc),
         access_life: 1,
         refresh_life: 1,

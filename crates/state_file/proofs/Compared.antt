@@ -1,10 +1,15 @@
 -- Rules that are as wide as those told are wider.
-use Rattle.std.proofs.Common.{◌≡◌, ◌≤◌, ◌+◌, ℕ, List, [], ◌∷◌, ◌++◌, Bool, true, false, Option, None, Some, map, refl, sym, ap, subst}
+use Rattle.std.proofs.Common.{◌≡◌, ◌≤◌, ◌+◌, ℕ, List, [], ◌∷◌, ◌++◌, Bool, true, false, Option, None, Some, map, refl, sym, ap, subst, arith}
+use Rattle.std.specs.Prelude.{◌==◌, is_some}
+use Rattle.clients.specs.Owners.{owner_listed}
+use Rattle.consent.specs.ListLaws.{find-map}
 use Rattle.state_file.proofs.Names.{if◌then◌else◌, bytes_eq, bytes_eq-Decides, ClientRecord, RegistryRecord, is_within, token_life_limit, AreAsWide, client_names, first_moved, first_narrowed}
 use Rattle.state_file.proofs.Names.{client_told, rules_of}
 use Rattle.consent.specs.declared.grant.TokenKind.{TokenKind}
 use Rattle.consent.specs.declared.grant.TokenKind.TheVariants.{Access, Refresh}
 use Rattle.endpoints.specs.Widening.{AreWider, IsWider}
+use Rattle.rules_beside.specs.Beside.{beside, is_former}
+use Rattle.state_file.specs.Telling.{fact_of}
 
 -- a choice that gave nothing was the one way
 stays : {A : Type 0} (test : Bool) (x : A) (rest : Option A) → (if test then rest else Some x) ≡ None → (test ≡ true) × (rest ≡ None)
@@ -33,10 +38,18 @@ lives_longer : (old new : RegistryRecord) → old.access_life ≤ new.access_lif
 lives_longer old new access refresh Access = access
 lives_longer old new access refresh Refresh = refresh
 
+-- who was listed is, where no owner is a former one
+listed_still : (old new : RegistryRecord) (number : ℕ) → is_former (beside (rules_of old) (rules_of new)) number ≡ false →
+    is_some (owner_listed number old.owners) ≡ true → is_some (owner_listed number new.owners) ≡ true
+unfolding is_former
+listed_still old new number still was =
+    let told = find-map fact_of (λ o. number == o.number) old.owners in
+    let now = find-map fact_of (λ o. number == o.number) new.owners in grind (arith, told, now, still, was)
+
 pub wider : (old new : RegistryRecord) → AreAsWide (rules_of old) (rules_of new) → IsWider old new
 wider old new wide = record {
-  scopes = moved_front old.scopes new.scopes wide.0.0.0.0;
-  owners = wide.0.0.0.1;
-  clients = clients_wider old.clients new.clients wide.0.0.1 wide.0.1;
+  scopes = moved_front old.scopes new.scopes wide.0.0.0.0.0;
+  owners = λ number. listed_still old new number (wide.0.0.1 number);
+  clients = clients_wider old.clients new.clients wide.0.0.0.1 wide.0.1;
   lives = lives_longer old new wide.1 wide.2;
 }

@@ -6,9 +6,6 @@ use Rattle.state_file.proofs.Names.{AreTold-split, Tell, TakesRules, shortened_s
 use Rattle.consent.specs.HistoryLaws.{last-joined}
 use Rattle.state_file.specs.Comparing.{RefuseRules}
 use Rattle.state_file.specs.Going.{HasMeasured, IsMadeOf, IsMadeOr, IsRedone, RefusesWithin, TellAlike}
-use Rattle.endpoints.specs.Remaking.{RefusesFinish}
-use Rattle.endpoints.specs.declared.redo.RedoFault.{RedoFault}
-use Rattle.state_file.specs.Faults.{of_redoing}
 use Rattle.state_file.specs.LengthLaws.{frames_size-push, shortened_size-push}
 use Rattle.state_file.specs.Standing.{horizon_in}
 use Rattle.state_file.specs.Telling.{BeginWithRules, rules_in}
@@ -17,7 +14,7 @@ use Rattle.state_file.specs.declared.fault.StateFault.TheVariants as state
 use Rattle.state_file.specs.declared.measures.Measures.{Measures}
 use Rattle.state_file.specs.declared.redoing.Redoing.{Redoing}
 use Rattle.std.specs.Prelude.{Option, None, Some, ◌==◌, ◌-◌, is_some, min}
-use Rattle.state_file.proofs.Remaking.{answers_all, full_of, lists_itself, moment_is_told, stands_for_itself}
+use Rattle.state_file.proofs.Remaking.{answers_all, lists_itself, moment_is_told, stands_for_itself}
 
 -- MAKING CHANGES AGAIN
 
@@ -102,17 +99,11 @@ module _ {H : Type 0} (hosting : Hosting H) (outset : Outset H) where
   pub within_list : (batches : List (List ℕ)) (fault : StateFault) → RefusesWithin hosting outset batches fault → RefusesList hosting outset batches fault
   within_list batches state.Memory refused = tt
   within_list batches (state.Spelling fault) refused = refused
-  within_list batches (state.Follows fault) refused = inl refused
+  within_list batches (state.Follows fault) refused = refused
   within_list batches _ refused = absurd refused
 
   pub held_list : (batches : List (List ℕ)) (old : Redoing H) (fault : StateFault) → old.held ≡ Some fault → IsMadeOf hosting outset batches old → RefusesList hosting outset batches fault
   held_list batches old fault is made = within_list batches fault (subst (λ (o : Option StateFault). IsMadeOr hosting outset batches old.remade o) is made)
-
-  -- more consents are kept than may be
-  pub full_list : (batches : List (List ℕ)) (old : Redoing H) (fault : RedoFault) → old.held ≡ None → RefusesFinish old.remade.server fault → IsMadeOf hosting outset batches old →
-      RefusesList hosting outset batches (of_redoing fault)
-  full_list batches old fault none refused made =
-      let all = held_none batches old.remade old.held none made in full_of hosting outset batches all.0 old.remade fault all.1 all.2 refused
 
   -- a server that is made of all of them
   pub is_redone : (batches : List (List ℕ)) (until : ℕ) (old : Redoing H) (restored : Restored H) → old.held ≡ None → FinishesAs hosting old.remade until restored → IsMadeOf hosting outset batches old →

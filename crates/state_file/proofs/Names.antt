@@ -19,7 +19,8 @@ pub use Rattle.rules_codec.specs.Facts.{client_fact, hook_fact, rules_fact}
 pub use Rattle.rules_codec.specs.Spelling.{rules_fields}
 pub use Rattle.rules_codec.specs.SpellingLaws.{one_rules}
 pub use Rattle.rules_codec.specs.declared.standing.KeptHook.{KeptHook}
-pub use Rattle.state_file.specs.Comparing.{AreAsWide, client_names, first_moved, first_narrowed, IsUnread, RefuseBeside, TakesRules}
+pub use Rattle.rules_beside.specs.Places.{client_names, first_moved, first_narrowed}
+pub use Rattle.state_file.specs.Comparing.{AreAsWide, IsUnread, RefuseBeside, TakesRules}
 pub use Rattle.state_file.specs.Hooks.{hooks_after, hooks_set_in, hooks_with, AreSet, with_hooks, hook_named, with_hook, without_hook}
 pub use Rattle.state_file.specs.Knowing.{shortened_size, tells_number}
 pub use Rattle.state_file.specs.Making.{AreTooLong, MakesFrom, OnBytes, RefusesMaking, on_bytes}

@@ -62,8 +62,7 @@ module _ {H : Type 0} (hosting : Hosting H) (outset : Outset H) where
   refused_next batches made (state.Spelling fault) fits refused = refused
   refused_next batches made (state.Follows fault) fits refused =
       let again = refused.5 in
-      let mid = again.5 outset [] 0 fits in
-      inl (
+      let mid = again.5 outset [] 0 fits in (
         refused.0,
         refused.1,
         again.0,

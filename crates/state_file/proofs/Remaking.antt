@@ -6,8 +6,7 @@ use Rattle.state_file.proofs.Names.{TellsAgain, WasRun, AreTold, AreTold-joined,
 use Rattle.state_file.specs.StandingLaws.{one_told}
 use Rattle.consent.specs.HistoryLaws.{is_history-later, last-joined}
 use Rattle.consent.specs.History.{Change}
-use Rattle.consent.specs.Limits.{consent_limit}
-use Rattle.endpoints.specs.Remaking.{RefusesFinish, TellsHistory}
+use Rattle.endpoints.specs.Remaking.{TellsHistory}
 use Rattle.endpoints.specs.Hosts.{HostRun}
 use Rattle.endpoints.specs.declared.redo.RedoFault.{RedoFault}
 use Rattle.endpoints.specs.declared.redo.RedoFault.TheVariants as redoing
@@ -130,13 +129,6 @@ module _ {H : Type 0} (hosting : Hosting H) (outset : Outset H) where
   pub lists_itself : (batches : List (List ℕ)) (facts : List Event) (made : Remade H) → AreTold batches facts → FitsRemade hosting made outset facts (last_moment 0 facts) →
       ListsItself outset.rules batches
   lists_itself batches facts made told fits = (facts, told, stands_for_itself batches facts made told fits, fits.0.right)
-
-  -- more consents are kept than may be
-  pub full_of : (batches : List (List ℕ)) (facts : List Event) (made : Remade H) (fault : RedoFault) → AreTold batches facts →
-      FitsRemade hosting made outset facts (last_moment 0 facts) → RefusesFinish made.server fault → RefusesList hosting outset batches (of_redoing fault)
-  full_of batches facts made fault told fits refused =
-      subst (λ (f : RedoFault). RefusesList hosting outset batches (of_redoing f)) (sym refused.0)
-      (inr (refl, facts, told, subst (λ (n : ℕ). consent_limit < n) fits.0.consents.count refused.1))
 
   -- and it goes on from the moment that is told
   pub moment_is_told : (batches : List (List ℕ)) (facts : List Event) (until : ℕ) (made : Remade H) (restored : Restored H) → AreTold batches facts →

@@ -131,6 +131,14 @@ pub on_ok : {A E : Type 0} (r : Result A E) (P Q : Type 0) → (P → Q) → OnO
 on_ok (Ok a) P Q more p = more p
 on_ok (Err e) P Q more p = tt
 
+pub always_ok : {A E : Type 0} (r : Result A E) (Q : Type 0) → Q → OnOk r Q
+always_ok (Ok a) Q q = q
+always_ok (Err e) Q q = tt
+
+pub always_err : {A E : Type 0} (r : Result A E) (Q : E → Type 0) → ((e : E) → Q e) → IfErr r Q
+always_err (Ok a) Q all = tt
+always_err (Err e) Q all = all e
+
 pub if_some : {A : Type 0} (o : Option A) (P : A → Type 0) (x : A) → o ≡ Some x → IfSome o P → P x
 if_some None P x is p = absurd cc
 if_some (Some y) P x is p = (let same : y ≡ x = cc in subst P same p)

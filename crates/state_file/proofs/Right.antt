@@ -16,8 +16,7 @@ right_at rules start (x ∷ before) later e all =
 
 module _ {H : Type 0} (hosting : Hosting H) (outset : Outset H) where
   change_right : (batches : List (List ℕ)) (facts : List Event) → AreTold batches facts → AllRight outset.rules [] facts → RefusesChange hosting outset batches NotRight → ⊥
-  change_right batches facts told right (inr full) = (let same = full.0 in absurd cc)
-  change_right batches facts told right (inl refused) =
+  change_right batches facts told right refused =
       let before = refused.2 in
       let behind = refused.3 in
       let e = refused.4 in

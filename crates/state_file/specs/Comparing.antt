@@ -1,24 +1,11 @@
 -- When a registry's rules are as wide as those that a file tells, and where they first are not.
-use Rattle.std.specs.Prelude.{◌≡◌, ◌≤◌, ◌<◌, ◌^◌, ◌⊎◌, ℕ, List, [], ◌∷◌, length, map, Option, None, Some, if◌then◌else◌, string_bytes, Err}
-use Rattle.state_file.specs.Names.{bytes_eq, is_within, ClientFact, RulesFact, rules_reading, RulesCount, rules_spelling, StateFault, NoRules, Spelling, ScopeMoved, OwnerMoved, ClientMoved}
-use Rattle.state_file.specs.Names.{ClientNarrowed, LifeNarrowed}
+use Rattle.std.specs.Prelude.{◌≡◌, ◌≤◌, ◌<◌, ◌^◌, ◌⊎◌, ℕ, List, length, None, Some, true, false, string_bytes, Err}
+use Rattle.state_file.specs.Names.{RulesFact, rules_reading, RulesCount, rules_spelling, StateFault, NoRules, Spelling, ScopeMoved, OwnerMoved, ClientMoved}
+use Rattle.state_file.specs.Names.{ClientNarrowed, LifeNarrowed, FormerOwner}
+use Rattle.rules_beside.specs.Beside.{beside, first_moved_owner, is_former}
+use Rattle.rules_beside.specs.Places.{client_names, first_moved, first_narrowed}
 use Rattle.state_file.specs.Telling.{last_rules, Tell, IsOfRules, BeginWithRules}
 use Rattle.state_file.specs.declared.fault.StateFault.TheVariants.{Memory, TooLong}
-
--- the first of the names told that does not have its place now
-abbrev pub first_moved : List (List ℕ) → List (List ℕ) → Option (List ℕ)
-first_moved [] now = None
-first_moved (name ∷ names) [] = Some name
-first_moved (name ∷ names) (other ∷ others) = if bytes_eq name other then first_moved names others else Some name
-
--- the first of the clients told that may not be allowed now all that it was
-abbrev pub first_narrowed : List ClientFact → List ClientFact → Option (List ℕ)
-first_narrowed [] now = None
-first_narrowed (c ∷ cs) [] = None
-first_narrowed (c ∷ cs) (d ∷ ds) = if is_within c.allowed d.allowed then first_narrowed cs ds else Some c.name
-
-abbrev pub client_names : List ClientFact → List (List ℕ)
-client_names clients = map (λ c. c.name) clients
 
 -- WHAT STAYS, in the order in which it is looked at: what is told comes first
 
@@ -27,13 +14,16 @@ module _ (told now : RulesFact) where
   KeepScopes = first_moved told.scopes now.scopes ≡ None
 
   abbrev pub KeepOwners : Type 0
-  KeepOwners = KeepScopes × (told.owners ≤ now.owners)
+  KeepOwners = KeepScopes × (first_moved_owner (beside told now) ≡ None)
 
   abbrev pub KeepClients : Type 0
   KeepClients = KeepOwners × (first_moved (client_names told.clients) (client_names now.clients) ≡ None)
 
+  abbrev pub KeepAll : Type 0
+  KeepAll = KeepClients × ((number : ℕ) → is_former (beside told now) number ≡ false)
+
   abbrev pub KeepAllowed : Type 0
-  KeepAllowed = KeepClients × (first_narrowed told.clients now.clients ≡ None)
+  KeepAllowed = KeepAll × (first_narrowed told.clients now.clients ≡ None)
 
   abbrev pub AreAsWide : Type 0
   AreAsWide = KeepAllowed × (told.access_life ≤ now.access_life) × (told.refresh_life ≤ now.refresh_life)
@@ -41,9 +31,10 @@ module _ (told now : RulesFact) where
   -- the first of them that does not stay, by its fault
   abbrev pub AreNarrower : StateFault → Type 0
   AreNarrower (ScopeMoved name) = first_moved told.scopes now.scopes ≡ Some (string_bytes name)
-  AreNarrower OwnerMoved = KeepScopes × (now.owners < told.owners)
+  AreNarrower (OwnerMoved number) = KeepScopes × (first_moved_owner (beside told now) ≡ Some number)
   AreNarrower (ClientMoved name) = KeepOwners × (first_moved (client_names told.clients) (client_names now.clients) ≡ Some (string_bytes name))
-  AreNarrower (ClientNarrowed name) = KeepClients × (first_narrowed told.clients now.clients ≡ Some (string_bytes name))
+  AreNarrower FormerOwner = KeepClients × (number : ℕ) × (is_former (beside told now) number ≡ true)
+  AreNarrower (ClientNarrowed name) = KeepAll × (first_narrowed told.clients now.clients ≡ Some (string_bytes name))
   AreNarrower LifeNarrowed = KeepAllowed × ((now.access_life < told.access_life) ⊎ (now.refresh_life < told.refresh_life))
   AreNarrower Memory = Unit {0}
   AreNarrower _ = ⊥

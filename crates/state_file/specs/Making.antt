@@ -84,8 +84,9 @@ IsOfFile fault = StopsReading fault
 abbrev pub GivesBack : StateFault → Type 0
 GivesBack state.NoRules = Unit {0}
 GivesBack (state.ScopeMoved name) = Unit {0}
-GivesBack state.OwnerMoved = Unit {0}
+GivesBack (state.OwnerMoved number) = Unit {0}
 GivesBack (state.ClientMoved name) = Unit {0}
+GivesBack state.FormerOwner = Unit {0}
 GivesBack (state.ClientNarrowed name) = Unit {0}
 GivesBack state.LifeNarrowed = Unit {0}
 GivesBack _ = ⊥

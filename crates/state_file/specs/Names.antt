@@ -14,7 +14,7 @@ pub use Rattle.hook_host.specs.declared.host.HookHost.{Ghosts as Hosting}
 pub use Rattle.rules_codec.specs.Facts.{HookFact}
 pub use Rattle.rules_codec.specs.Spelling.{rules_reading, RulesCount, rules_spelling, RulesFit}
 pub use Rattle.state_file.specs.declared.fault.StateFault.{StateFault}
-pub use Rattle.state_file.specs.declared.fault.StateFault.TheVariants.{NoRules, Spelling, ScopeMoved, OwnerMoved, ClientMoved, ClientNarrowed, LifeNarrowed, NotState, Version, Damaged, Follows}
+pub use Rattle.state_file.specs.declared.fault.StateFault.TheVariants.{NoRules, Spelling, ScopeMoved, OwnerMoved, FormerOwner, ClientMoved, ClientNarrowed, LifeNarrowed, NotState, Version, Damaged, Follows}
 pub use Rattle.state_file.specs.declared.fault.StateFault.TheVariants.{HookDiffers, Hook}
 pub use Rattle.std.specs.Option.{option_or}
 pub use Rattle.std.specs.Str.{bytes_eq}

@@ -1,17 +1,16 @@
 -- What a server does that is started on a state file.
-use Rattle.std.specs.Prelude.{◌≡◌, ◌≢◌, ◌⊎◌, ◌++◌, ◌<◌, ℕ, List, [], ◌∷◌, None, Some, string_bytes}
+use Rattle.std.specs.Prelude.{◌≡◌, ◌≢◌, ◌⊎◌, ◌++◌, ℕ, List, [], ◌∷◌, None, Some, string_bytes}
 use Rattle.state_file.specs.Names.{RefusesFile, recovered, RegistryRecord, Event, HostRun, SeenServer, Outset, FitsServer, Notes, AreNoted, layout_of, Hosting, HookFact, StateFault, NotState, Version}
 use Rattle.state_file.specs.Names.{Damaged, Spelling, Follows, HookDiffers, Hook}
 use Rattle.batch_file.specs.declared.framing.ReadFault.TheVariants as reading
 use Rattle.consent.specs.Changes.{change_of}
-use Rattle.consent.specs.History.{consents_kept, last_moment}
+use Rattle.consent.specs.History.{last_moment}
 use Rattle.consent.specs.declared.change.Change.{Change}
-use Rattle.consent.specs.Limits.{consent_limit}
 use Rattle.endpoints.specs.Bounded.{AllRight}
 use Rattle.endpoints.specs.Redo.{IsNowhereRight, RefusesRedo}
 use Rattle.endpoints.specs.Remaking.{FitsRemaking, SeenRemaking}
 use Rattle.endpoints.specs.declared.redo.RedoFault.{RedoFault}
-use Rattle.endpoints.specs.declared.redo.RedoFault.TheVariants.{ConsentsFull, NotRight}
+use Rattle.endpoints.specs.declared.redo.RedoFault.TheVariants.{NotRight}
 use Rattle.state_file.specs.Comparing.{RefuseRules, TakesRules}
 use Rattle.state_file.specs.Hooks.{AreSet, hooks_set_in, hook_named, with_hooks}
 use Rattle.state_file.specs.Listing.{TellNone}
@@ -72,13 +71,11 @@ RefusesNext {H = H} hosting outset before e fault =
     (making : SeenRemaking H) × FitsRemaking hosting making outset before (last_moment 0 before)
     × (change : Change) × (change_of change ≡ e.change) × RefusesToRedo hosting making e.moment change fault
 
--- One of the changes that the batches tell is refused behind those before it; or, behind all of them, more consents are kept than
--- may be.
+-- one of the changes that the batches tell is refused behind those before it
 abbrev pub RefusesChange : {H : Type 0} → Hosting H → Outset H → List (List ℕ) → RedoFault → Type 0
 RefusesChange hosting outset batches fault =
-    ((front later : List (List ℕ)) × (before behind : List Event) × (e : Event) × (batches ≡ front ++ later)
-    × AreTold front (before ++ e ∷ behind) × RefusesNext hosting outset before e fault)
-    ⊎ ((fault ≡ ConsentsFull) × (facts : List Event) × AreTold batches facts × (consent_limit < consents_kept facts))
+    (front later : List (List ℕ)) × (before behind : List Event) × (e : Event) × (batches ≡ front ++ later)
+    × AreTold front (before ++ e ∷ behind) × RefusesNext hosting outset before e fault
 
 -- why no server is made of the changes of the batches
 abbrev pub RefusesList : {H : Type 0} → Hosting H → Outset H → List (List ℕ) → StateFault → Type 0

@@ -3,7 +3,7 @@ use Rattle.std.proofs.Common.{◌≡◌, ℕ, List, [], ◌∷◌, ◌++◌, Opt
 use Rattle.state_file.specs.Names.{option_or, Fault, RulesFact, rules_reading}
 use Rattle.std.specs.Prelude.{Ok, Err}
 use Rattle.rules_codec.specs.SpellingLaws.{one_rules, rules_reading_again}
-use Rattle.state_file.specs.Telling.{rules_in, last_rules, IsOfRules, Tell}
+use Rattle.state_file.specs.Telling.{rules_in, last_rules, rules_told, IsOfRules, Tell}
 
 or_none : {A : Type 0} (x : Option A) → option_or x None ≡ x
 or_none None = refl
@@ -46,3 +46,9 @@ tells_none batch fault told is of =
     let read = subst (λ (b : List ℕ). rules_reading b ≡ Err fault) of.1 is in
     let e : Err fault ≡ Ok told = sym read ∙ rules_reading_again told of.0 in
     absurd cc
+
+-- the rules that are told are those that are read of the last batch that tells some
+pub told_are : (batches : List (List ℕ)) (rules : RulesFact) → Tell batches rules → rules_told batches ≡ Some rules
+told_are batches rules tells =
+    let read = subst (λ (b : List ℕ). rules_reading b ≡ Ok rules) (sym tells.2.1) (rules_reading_again rules tells.2.0) in
+    let at = tells.1 in rw (at, read) refl

@@ -40,10 +40,12 @@ pub enum StateFault {
     Spelling(Fault),
     /// The scope of this name has another place in the registry, or none.
     ScopeMoved(String),
-    /// The registry has fewer owners.
-    OwnerMoved,
+    /// The owner of this number has another place in the registry, or none, or another one has his number.
+    OwnerMoved(u32),
     /// The client of this name has another place in the registry, or none.
     ClientMoved(String),
+    /// An owner is left out, or comes by a gateway no more.
+    FormerOwner,
     /// The client of this name may not be allowed all that it was.
     ClientNarrowed(String),
     /// Tokens may not live as long.
@@ -70,8 +72,9 @@ impl Display for StateFault {
             StateFault::NoRules => write!(f, "NoRules"),
             StateFault::Spelling(fault) => write!(f, "Spelling {fault}"),
             StateFault::ScopeMoved(name) => write!(f, "ScopeMoved {name}"),
-            StateFault::OwnerMoved => write!(f, "OwnerMoved"),
+            StateFault::OwnerMoved(number) => write!(f, "OwnerMoved {number}"),
             StateFault::ClientMoved(name) => write!(f, "ClientMoved {name}"),
+            StateFault::FormerOwner => write!(f, "FormerOwner"),
             StateFault::ClientNarrowed(name) => write!(f, "ClientNarrowed {name}"),
             StateFault::LifeNarrowed => write!(f, "LifeNarrowed"),
             StateFault::Follows(fault) => write!(f, "Follows {fault}"),

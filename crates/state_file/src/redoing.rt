@@ -72,7 +72,7 @@ impl<H: HookHost> Redoing<H> {
     }
 
     /// The batches are at their end: the server, which goes on from the last moment, or from a later one.
-    #[tactic(auto, using(crate::proofs::Going::is_redone, crate::proofs::Going::held_list, crate::proofs::Going::full_list))]
+    #[tactic(auto, using(crate::proofs::Going::is_redone, crate::proofs::Going::held_list))]
     pub(crate) fn finish(self, until: Moment) -> Result<Restored<H>, StateFault>
         ensures redone { IfOk result (λ restored. (outset : Outset H) (batches : List (List ℕ)) →
             IsMadeOf H.HookHost outset batches self → until ≡ until_of batches → IsRedone H.HookHost outset batches restored) }
@@ -84,6 +84,6 @@ impl<H: HookHost> Redoing<H> {
         if let Some(fault) = held {
             return Err(fault);
         }
-        Ok(remade.finish(until)?)
+        Ok(remade.finish(until))
     }
 }

@@ -3,7 +3,6 @@
 ghost use Rattle.std.specs.Prelude.{◌≡◌, [], ◌∷◌, None, IfOk, IfErr, OnOk};
 ghost use Rattle.batch_file.specs.Frames.{lists};
 ghost use Rattle.change_codec.specs.Spelling.{dated_fact, dated_facts};
-ghost use Rattle.endpoints.specs.Remaking.{RefusesFinish};
 ghost use Rattle.endpoints.specs.Server.{outset_of};
 ghost use Rattle.state_file.specs.Remaking.{FinishesAs, FitsRemade, MakesAgain, RefusesAgain, RefusesBatches, RefusesOne, TellsAgain};
 ghost use Rattle.state_file.specs.Resuming.{RefusesToRedo};
@@ -93,17 +92,16 @@ impl<H: HookHost> Remade<H> {
     }
 
     /// The list is at its end: the server, which goes on from the last moment, or from a later one.
-    pub(crate) fn finish(self, until: Moment) -> Result<Restored<H>, RedoFault>
-        ensures fits { IfOk result (FinishesAs H.HookHost self until) }
-        ensures unnoted { IfOk result (λ restored. restored.server.unkept ≡ None) }
-        ensures refused { IfErr result (RefusesFinish self.server) }
+    pub(crate) fn finish(self, until: Moment) -> Restored<H>
+        ensures fits { FinishesAs H.HookHost self until result }
+        ensures unnoted { result.server.unkept ≡ None }
     {
-        let server = self.server.finish(until)?;
+        let server = self.server.finish(until);
         let moment = server.moment();
-        Ok(Restored {
+        Restored {
             server,
             moment,
             hooks: self.hooks,
-        })
+        }
     }
 }

@@ -47,10 +47,7 @@ pub fn remake<H: HookHost>(
 {
     let mut remade = Remade::new(alloc, registry, host);
     remade.redo_all(alloc, batches)?;
-    match remade.finish(until_of(batches)) {
-        Ok(restored) => Ok(restored),
-        Err(fault) => Err((batches.len().saturating_sub(1), StateFault::from(fault))),
-    }
+    Ok(remade.finish(until_of(batches)))
 }
 
 impl<H: HookHost> Restored<H> {

@@ -1,5 +1,5 @@
 -- A new file that is put in the place of another.
-use Rattle.std.proofs.Common.{◌≡◌, ◌+◌, ◌++◌, ◌∷◌, [], ⊎_elim, inl, inr, ℕ, List, None, length, refl, ap, subst, ◌∙◌, arith}
+use Rattle.std.proofs.Common.{◌≡◌, ◌+◌, ◌++◌, ◌∷◌, [], ⊎_elim, inl, inr, ℕ, List, None, length, refl, sym, ap, subst, ◌∙◌, arith}
 use Rattle.std.specs.Prelude.{Result, Ok, Err, IfOk, IfErr}
 use Rattle.std.proofs.lemmas.List.{length-append}
 use Rattle.state_keeper.proofs.Names.{LeavesOnly, IsOnDisk, BatchFile, frames_size, recovered, Device, SeenKeeper, end_of, IsOldOr, IsPutOn}
@@ -11,7 +11,7 @@ use Rattle.state_file.specs.declared.fault.StateFault.{StateFault}
 use Rattle.batch_file.specs.declared.appending.NotPlaced.{NotPlaced}
 use Rattle.state_file.specs.Knowing.{shortened_size}
 use Rattle.state_keeper.proofs.Fronts.{at_rest_readable}
-use Rattle.state_keeper.specs.Starting.{HasFront, IsPut, IsReadIn, IsUntouched, front_in}
+use Rattle.state_keeper.specs.Starting.{HasFront, IsOfDisk, IsPut, IsReadIn, IsUntouched, front_in}
 use Rattle.state_keeper.specs.declared.starting.Origin.{Origin}
 use Rattle.state_keeper.specs.declared.starting.Origin.TheVariants as origin
 use Rattle.batch_file.specs.Frames.{IsAsBefore, header}
@@ -82,3 +82,9 @@ pub untouched_by : (placing : ReplaceFault) (fault : StateFault) → fault ≡ o
 untouched_by replacing.Memory fault is untouched = tt
 untouched_by (replacing.Unplaced reason) fault is untouched = tt
 untouched_by (replacing.Failed reason) fault is untouched = subst (λ (f : StateFault). IsUntouched f) is untouched
+
+-- and what is told of it is of the disk
+pub of_disk_by : (placing : ReplaceFault) (fault : StateFault) → fault ≡ of_replacing placing → IsOfDisk fault
+of_disk_by replacing.Memory fault is = subst (λ (f : StateFault). IsOfDisk f) (sym is) tt
+of_disk_by (replacing.Unplaced reason) fault is = subst (λ (f : StateFault). IsOfDisk f) (sym is) tt
+of_disk_by (replacing.Failed reason) fault is = subst (λ (f : StateFault). IsOfDisk f) (sym is) tt

@@ -4,8 +4,17 @@ use Rattle.state_file.specs.Faults.{of_reading}
 use Rattle.state_file.specs.Going.{HasGone}
 use Rattle.state_file.specs.Making.{StopsReading}
 use Rattle.state_file.proofs.Refused.{no_start}
-use Rattle.state_file.proofs.Resumed.{file_refused, hookless, if_err, if_ok, stops_reading}
+use Rattle.state_file.proofs.Resumed.{always_err, always_ok, file_refused, hookless, if_err, if_ok, stops_reading}
 use Rattle.state_file.proofs.resuming.resume.Goals as goal
+
+pub returns-in-Ok-clause-over : goal.returns-in-Ok-clause-over
+returns-in-Ok-clause-over g c = always_ok c.resume.result _ c.in-Ok.ensures.over
+
+pub returns-in-Ok-clause-readable : goal.returns-in-Ok-clause-readable
+returns-in-Ok-clause-readable g c = always_ok c.resume.result _ c.in-Ok.ensures.readable
+
+pub returns-in-Ok-clause-damaged : goal.returns-in-Ok-clause-damaged
+returns-in-Ok-clause-damaged g c = always_err c.resume.result _ (λ not. inr c.in-Ok.ensures.readable)
 
 pub returns-in-Ok-clause-resumed : goal.returns-in-Ok-clause-resumed
 returns-in-Ok-clause-resumed g c =

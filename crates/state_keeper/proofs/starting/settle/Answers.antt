@@ -5,7 +5,7 @@ use Rattle.state_file.specs.Knowing.{IsKnown}
 use Rattle.batch_file.specs.Frames.{lists}
 use Rattle.state_keeper.proofs.Names.{LeavesOnly, end_of, IsOldOr, IsPutOn}
 use Rattle.state_keeper.proofs.Kept.{keeper_of}
-use Rattle.state_keeper.proofs.Put.{front_is, put_on, untouched_by}
+use Rattle.state_keeper.proofs.Put.{front_is, of_disk_by, put_on, untouched_by}
 use Rattle.state_keeper.specs.Slicing.{to_go_if}
 use Rattle.state_keeper.specs.Starting.{IsPut, front_in}
 use Rattle.state_keeper.proofs.starting.settle.Goals as goal
@@ -49,3 +49,6 @@ invariant_of-result g c = λ none.
 
 pub returns-in-Err-clause-untouched : goal.returns-in-Err-clause-untouched
 returns-in-Err-clause-untouched g c = λ is. c.in-Err.ensures.untouched (untouched_by c.in-Err.field-0.fault c.from.result c.from.ensures is)
+
+pub returns-in-Err-clause-refused : goal.returns-in-Err-clause-refused
+returns-in-Err-clause-refused g c = of_disk_by c.in-Err.field-0.fault c.from.result c.from.ensures

@@ -5,8 +5,8 @@ use Rattle.state_file.proofs.remade.Remade.finish.Goals as goal
 
 pub returns-clause-fits : goal.returns-clause-fits
 returns-clause-fits g c = λ outset list m fits history tells ran right.
-    let made = c.in_ok-server.ensures.fits outset list m fits.0 history tells ran right in
+    let made = c.finish-server.ensures.fits outset list m fits.0 history tells ran right in
     let moment = c.moment-moment.ensures ∙ made.greatest_is in (
-      (subst (λ (n : ℕ). FitsServer g.H.HookHost c.in_ok-server.server outset history n) (sym moment) made, fits.1 ∙ same_hooks list history tells.alike.hooks),
+      (subst (λ (n : ℕ). FitsServer g.H.HookHost c.finish-server.result outset history n) (sym moment) made, fits.1 ∙ same_hooks list history tells.alike.hooks),
       moment,
     )

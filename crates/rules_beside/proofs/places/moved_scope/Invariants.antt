@@ -1,6 +1,6 @@
 use Rattle.std.proofs.Common.{◌≡◌, length, map}
-use Rattle.state_file.proofs.Names.{first_moved}
-use Rattle.state_file.proofs.comparing.moved_scope.Given as goal
+use Rattle.rules_beside.specs.Places.{first_moved}
+use Rattle.rules_beside.proofs.places.moved_scope.Given as goal
 
 abbrev pub decreases-loop-rest : goal.decreases-loop-rest
 decreases-loop-rest l = length l.rest

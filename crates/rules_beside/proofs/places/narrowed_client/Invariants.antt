@@ -1,6 +1,7 @@
 use Rattle.std.proofs.Common.{◌≡◌, length, map}
-use Rattle.state_file.proofs.Names.{client_fact, first_narrowed}
-use Rattle.state_file.proofs.comparing.narrowed_client.Given as goal
+use Rattle.rules_codec.specs.Facts.{client_fact}
+use Rattle.rules_beside.specs.Places.{first_narrowed}
+use Rattle.rules_beside.proofs.places.narrowed_client.Given as goal
 
 abbrev pub decreases-loop-rest : goal.decreases-loop-rest
 decreases-loop-rest l = length l.rest
