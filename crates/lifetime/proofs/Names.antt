@@ -12,7 +12,7 @@ pub use Rattle.event_loop.specs.DurableLaws.{front_then, same_front, served_onwa
 pub use Rattle.event_loop.specs.Served.{begins}
 pub use Rattle.event_loop.specs.declared.tools.Tools.{Tools}
 pub use Rattle.rules_codec.specs.Facts.{hook_fact}
-pub use Rattle.lifetime.specs.Found.{ComesOf, IsHeir, MayBeFound, at_first, ever, grows, is_it, narrows, once_settled, settled_at}
+pub use Rattle.lifetime.specs.Found.{ComesOf, IsHeir, IsLeftBeside, IsTold, MayBeFound, StartsFrom, at_first, ever, grows, is_it, once_settled, settled_at, starts}
 pub use Rattle.lifetime.specs.Given.{Given, LifePromises, in_loop, life_promises, given}
 pub use Rattle.lifetime.specs.Lives.{HasLived, HasNotLived, IsLife, IsWhole, LosesNothing, is_ahead, is_refused, is_unopened, is_unsettled, Leaves, LeavesKept, loop_of, TellsNoLater, StaysWhole, until_with}
 pub use Rattle.lifetime.specs.Plans.{IsPlanOf, IsPlanned, begun_from, RefusesPlan, batches_under, start_of}
@@ -21,7 +21,7 @@ pub use Rattle.lifetime.specs.declared.life.Life.{Life}
 pub use Rattle.lifetime.specs.declared.plan.Plan.{Plan}
 pub use Rattle.lifetime.specs.declared.going_on.Ending.{Ending}
 pub use Rattle.state_file.specs.Standing.{StandFor}
-pub use Rattle.narrowing.specs.Narrowing.{history_under, HasLeftOfEach, IsNarrower}
+pub use Rattle.narrowing.specs.Narrowing.{history_under, HasLeftOfEach, IsNarrower, under_in}
 pub use Rattle.narrowing.specs.declared.narrowed.Narrowed.{Narrowed}
 pub use Rattle.change_codec.specs.Rules.{RulesFact}
 pub use Rattle.std.specs.Prelude.{Contains, is_some, IsSome}

@@ -1,7 +1,7 @@
 -- What a start makes of the bytes of a state file, by what the calls say.
-use Rattle.std.proofs.Common.{◌≡◌, ◌≤◌, ◌⊎◌, ◌↔◌, ◌∙◌, inl, inr, ℕ, List, [], Option, None, Some, Result, Ok, Err, refl, sym, ap, subst, arith}
+use Rattle.std.proofs.Common.{◌≡◌, ◌≤◌, ◌⊎◌, ◌↔◌, ◌∙◌, inl, inr, ℕ, List, [], Option, None, Some, false, Result, Ok, Err, refl, sym, ap, subst, arith}
 use Rattle.std.specs.Prelude.{IfErr, IfOk, OnOk}
-use Rattle.lifetime.proofs.Names.{IsSome, recovered, torn_of, RegistryRecord, HookFact, StateFault, until_of, WasLived, rules_of, HasLeftOfEach, IsNarrower, Narrowed, IsPlanOf, RefusesPlan}
+use Rattle.lifetime.proofs.Names.{IsSome, recovered, torn_of, RegistryRecord, HookFact, StateFault, until_of, Event, TellsRules, WasLived, rules_of, HasLeftOfEach, IsNarrower, Narrowed, IsPlanOf, RefusesPlan}
 use Rattle.lifetime.proofs.Names.{start_of, Plan, RulesFact}
 use Rattle.batch_file.specs.Frames.{IsFileOf, IsReadable}
 use Rattle.hook_chain.specs.Chains.{Named}
@@ -13,8 +13,11 @@ use Rattle.lifetime.specs.PlanParts.{IsPlanOfLeft, MayBeNarrower, RefusesLeft}
 use Rattle.lifetime.specs.Plans.{AreUnder, IsMadeOn}
 use Rattle.hook_chain.specs.contracts.chain.ChainHookHost.TheImpl as chain
 use Rattle.endpoints.specs.Server.{outset_of}
-use Rattle.narrowing.specs.Left.{left_under}
-use Rattle.state_file.specs.Comparing.{TakesRules}
+use Rattle.narrowing.specs.Left.{KeepsOwners, left_under, under_told}
+use Rattle.state_file.specs.Comparing.{KeepClients, TakesRules}
+use Rattle.rules_beside.specs.Beside.{beside, is_former}
+use Rattle.rules_beside.specs.OwnersLaws.{is_one}
+use Rattle.rules_beside.specs.declared.owners.OwnersBeside.{OwnersBeside}
 use Rattle.state_file.specs.Making.{GivesBack, IsOfHooks, Made, Makes, RefusesMaking, StopsReading, on_bytes}
 use Rattle.state_file.specs.Faults.{of_reading}
 use Rattle.state_file.specs.declared.resuming.Unprepared.{Unprepared}
@@ -24,9 +27,9 @@ use Rattle.batch_file.specs.declared.framing.ReadFault.TheVariants as reading
 use Rattle.state_file.specs.Resuming.{AnswersFor, RefusesResume, RefusesSome}
 use Rattle.state_file.specs.RunLaws.{was_run}
 use Rattle.state_file.specs.Telling.{IsOfRules, last_rules}
-use Rattle.state_file.specs.TellingLaws.{tell_in, tells_none, tells_one}
+use Rattle.state_file.specs.TellingLaws.{tell_in, tell_one, told_are, tells_none, tells_one}
 use Rattle.state_file.specs.declared.fault.StateFault.TheVariants as state
-use Rattle.narrowing.specs.Narrowing.{AreLess}
+use Rattle.narrowing.specs.Narrowing.{AreLess, under_in}
 
 -- nothing is left out
 abbrev pub unnarrowed : Option Narrowed
@@ -64,13 +67,15 @@ exact_whole rules bytes never = (λ some. absurd cc, λ narrower. absurd (never 
 -- where they are not narrowed
 pub plan_whole : (rules : RegistryRecord) (hooks : List HookFact) (bytes : List ℕ) (plan : Plan) →
     Makes chain.ghosts (start_of rules hooks bytes) plan.prepared → plan.ended ≡ None → plan.torn.items ≡ plan.prepared.torn →
-    (IsSome unnarrowed ↔ IsNarrower bytes (rules_of rules)) → IsPlanOf rules hooks bytes plan
-plan_whole rules hooks bytes plan makes none torn exact = record {
+    TakesRules (recovered bytes) (rules_of rules) → IsPlanOf rules hooks bytes plan
+plan_whole rules hooks bytes plan makes none torn takes = record {
   narrowed = unnarrowed;
   ended = none;
-  under = under_whole rules bytes exact;
+  under = under_whole rules bytes (exact_whole rules bytes (not_narrower rules bytes takes));
   listed = makes.listed;
   makes = λ history lived. makes.each history lived.stands lived.right (was_run bytes history lived);
+  owners = λ told tells history lived owner from some was.
+      (let wide = takes.1 told tells in is_one (beside told (rules_of rules)) owner wide.0.0.0.0.1 was (wide.0.0.1 owner));
   tell = makes.tell;
   until = makes.kept;
   no_later = makes.no_later;
@@ -78,6 +83,18 @@ plan_whole rules hooks bytes plan makes none torn exact = record {
   moment_is = makes.moment_is;
   torn_is = torn ∙ makes.torn_is;
 }
+
+-- each owner of something in what is left is one and the same
+owners_left : (rules : RegistryRecord) (bytes : List ℕ) (narrowed : Narrowed) → AreUnder rules bytes (Some narrowed) → (told : RulesFact) → TellsRules bytes told →
+    (history : List Event) → WasLived bytes history → KeepsOwners (beside told (rules_of rules)) (left_under (under_in bytes rules) history)
+owners_left rules bytes narrowed under told tells history lived owner from some was =
+    let less = under.narrower.0 refl in
+    let same : less.told ≡ told = tell_one (recovered bytes) less.told told less.tells tells in
+    let keep : KeepClients told (rules_of rules) = subst (λ (r : RulesFact). KeepClients r (rules_of rules)) same less.less.0 in
+    let is : (under_in bytes rules).owners ≡ beside told (rules_of rules) = ap (λ (t : Option RulesFact). (under_told t rules).owners) (told_are (recovered bytes) told tells) in
+    let none : is_former (beside told (rules_of rules)) owner ≡ false =
+    subst (λ (o : OwnersBeside). is_former o owner ≡ false) is ((under.left history lived).owners owner from some) in
+    is_one (beside told (rules_of rules)) owner keep.0.1 was none
 
 -- where they are
 pub plan_narrowed : (rules : RegistryRecord) (hooks : List HookFact) (bytes : List ℕ) (plan : Plan) (narrowed : Narrowed) →
@@ -93,9 +110,10 @@ plan_narrowed rules hooks bytes plan narrowed of torn under =
       listed = rw same at makes.listed;
       makes = λ history lived. (
           let on = (under.left history lived).goes_on of.file same in
-          let on_lived : WasLived of.file (left_under rules history) = record { stands = on.stands; right = on.right; ran = inr (on.host, on.ran) } in
-          let made = makes.each (left_under rules history) on.stands on.right (was_run of.file (left_under rules history) on_lived) in
+          let on_lived : WasLived of.file (left_under (under_in bytes rules) history) = record { stands = on.stands; right = on.right; ran = inr (on.host, on.ran) } in
+          let made = makes.each (left_under (under_in bytes rules) history) on.stands on.right (was_run of.file (left_under (under_in bytes rules) history) on_lived) in
           record { serves = made.serves; set = made.set; stands = made.stands });
+      owners = λ told tells history lived. owners_left rules bytes narrowed under told tells history lived;
       tell = makes.tell;
       until = (let kept = makes.kept in omega (arith, kept, until));
       no_later = (let no_later = makes.no_later in omega (arith, no_later, until));
@@ -124,6 +142,7 @@ module _ (rules : RegistryRecord) (hooks : List HookFact) (bytes : List ℕ) whe
   not_resumed (state.Damaged number) never refuses = inr (inl (inl refuses))
   not_resumed state.NoRules never refuses = absurd (never tt)
   not_resumed (state.ClientNarrowed name) never refuses = absurd (never tt)
+  not_resumed state.FormerOwner never refuses = absurd (never tt)
   not_resumed state.LifeNarrowed never refuses = absurd (never tt)
   not_resumed state.TooLong never (inl refuses) = inr (inl (inr (inl refuses)))
   not_resumed (state.Spelling fault) never (inl refuses) =
@@ -131,9 +150,9 @@ module _ (rules : RegistryRecord) (hooks : List HookFact) (bytes : List ℕ) whe
   not_resumed (state.ScopeMoved name) never (inl refuses) =
       not_made (state.ScopeMoved name) (not_less bytes refuses.0 refuses.2.0 (rules_of rules) refuses.1 refuses.2.1
       (λ less. (let moved = refuses.2.2 in let kept = less.0.0.0 in absurd (cc)))) (inl (inl refuses))
-  not_resumed state.OwnerMoved never (inl refuses) =
-      not_made state.OwnerMoved (not_less bytes refuses.0 refuses.2.0 (rules_of rules) refuses.1 refuses.2.1
-      (λ less. (let moved = refuses.2.2.1 in let kept = less.0.0.1 in omega (arith, moved, kept)))) (inl (inl refuses))
+  not_resumed (state.OwnerMoved number) never (inl refuses) =
+      not_made (state.OwnerMoved number) (not_less bytes refuses.0 refuses.2.0 (rules_of rules) refuses.1 refuses.2.1
+      (λ less. (let moved = refuses.2.2.1 in let kept = less.0.0.1 in absurd (cc)))) (inl (inl refuses))
   not_resumed (state.ClientMoved name) never (inl refuses) =
       not_made (state.ClientMoved name) (not_less bytes refuses.0 refuses.2.0 (rules_of rules) refuses.1 refuses.2.1
       (λ less. (let moved = refuses.2.2.1 in let kept = less.0.1 in absurd (cc)))) (inl (inl refuses))
@@ -172,6 +191,7 @@ module _ (rules : RegistryRecord) (hooks : List HookFact) (told bytes : List ℕ
 -- a registry that may be narrower is given back
 pub gives_back : (fault : StateFault) → MayBeNarrower fault → GivesBack fault
 gives_back state.NoRules may = tt
+gives_back state.FormerOwner may = tt
 gives_back (state.ClientNarrowed name) may = tt
 gives_back state.LifeNarrowed may = tt
 gives_back _ may = absurd may
@@ -202,7 +222,7 @@ module _ (rules : RegistryRecord) (hooks : List HookFact) (bytes : List ℕ) (ma
       IfOk r (λ plan. plan.torn.items ≡ made.torn) → IfOk r (IsPlanOf rules hooks bytes)
   whole_planned (Ok plan) takes is ended torn =
       plan_whole rules hooks bytes plan (subst (λ (m : Made (List Named)). Makes chain.ghosts (start_of rules hooks bytes) m) (sym is) makes) ended
-      (subst (λ (m : Made (List Named)). plan.torn.items ≡ m.torn) (sym is) torn) (exact_whole rules bytes (not_narrower rules bytes takes))
+      (subst (λ (m : Made (List Named)). plan.torn.items ≡ m.torn) (sym is) torn) takes
   whole_planned (Err fault) takes is ended torn = tt
 
   pub whole_front : (r : Result Plan StateFault) → IsReadable bytes → IfOk r (λ plan. plan.prepared ≡ made) → IfOk r (λ plan. plan.origin ≡ origins.Device) →

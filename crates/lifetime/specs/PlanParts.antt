@@ -30,6 +30,7 @@ RefusesLeft rules hooks left fault =
 -- the registry may be narrower than the rules of a file that is refused for this
 abbrev pub MayBeNarrower : StateFault → Type 0
 MayBeNarrower state.NoRules = Unit {0}
+MayBeNarrower state.FormerOwner = Unit {0}
 MayBeNarrower (state.ClientNarrowed name) = Unit {0}
 MayBeNarrower state.LifeNarrowed = Unit {0}
 MayBeNarrower _ = ⊥

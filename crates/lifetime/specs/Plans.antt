@@ -1,13 +1,16 @@
 -- What a start makes of the bytes of a state file, before anything is written.
 use Rattle.std.specs.Prelude.{◌≡◌, ◌≤◌, ◌⊎◌, ◌↔◌, ℕ, List, [], Option, None, Some, IsSome, IfSome, option_map, Result, Ok, Err}
-use Rattle.lifetime.specs.Names.{RegistryRecord, Event, outset_of, Named, HookFact, OfEachRun, IsMomentTold, until_of, Tell, rules_of, StateFault}
+use Rattle.lifetime.specs.Names.{RegistryRecord, Event, outset_of, Named, HookFact, OfEachRun, IsMomentTold, until_of, Tell, TellsRules, rules_of, StateFault}
 use Rattle.batch_file.specs.Frames.{IsFileOf, recovered, torn_of}
 use Rattle.hook_chain.specs.contracts.chain.ChainHookHost.TheImpl as chain
 use Rattle.state_file.specs.Hooks.{with_hooks}
+use Rattle.rules_beside.specs.Beside.{beside}
 use Rattle.state_file.specs.Making.{MakesFrom, OnBytes, RefusesMaking, StopsReading, on_bytes}
 use Rattle.state_file.specs.Resuming.{ListsItself}
 use Rattle.state_file.specs.declared.fault.StateFault.TheVariants as state
-use Rattle.narrowing.specs.Narrowing.{HasLeft, IsNarrower, IsUnnarrowed, history_under}
+use Rattle.change_codec.specs.Rules.{RulesFact}
+use Rattle.narrowing.specs.Left.{KeepsOwners}
+use Rattle.narrowing.specs.Narrowing.{HasLeft, IsNarrower, IsUnnarrowed, history_under, under_in}
 use Rattle.narrowing.specs.declared.narrowed.Narrowed.{Narrowed}
 use Rattle.lifetime.specs.declared.plan.Plan.{Plan}
 
@@ -29,7 +32,7 @@ start_of rules hooks bytes = on_bytes bytes (outset_of rules []) hooks
 -- it stands for what is left of each history that they stand for, and tells the moment that they told.
 pub record AreUnder (rules : RegistryRecord) (bytes : List ℕ) (narrowed : Option Narrowed) : Type 0 where
   pub narrower : IsSome narrowed ↔ IsNarrower bytes (rules_of rules)
-  pub left : IfSome narrowed (λ left. OfEachRun bytes (HasLeft chain.ghosts [] rules left))
+  pub left : IfSome narrowed (λ left. OfEachRun bytes (HasLeft chain.ghosts [] (under_in bytes rules) left))
   pub readable : IfSome narrowed (λ left. (file : List ℕ) × IsFileOf left.frames file)
   pub until : IfSome narrowed (λ left. until_of left.frames ≡ until_of (recovered bytes))
 
@@ -41,7 +44,9 @@ pub record IsPlanOf (rules : RegistryRecord) (hooks : List HookFact) (bytes : Li
   pub ended : plan.ended ≡ option_map (λ left. left.ended) narrowed
   pub under : AreUnder rules bytes narrowed
   pub listed : ListsItself rules (batches_under bytes narrowed)
-  pub makes : OfEachRun bytes (λ history. MakesFrom chain.ghosts (start_of rules hooks bytes) plan.prepared (history_under rules narrowed history))
+  pub makes : OfEachRun bytes (λ history. MakesFrom chain.ghosts (start_of rules hooks bytes) plan.prepared (history_under (under_in bytes rules) narrowed history))
+  -- each owner of something in that history is one and the same by the rules that the bytes tell and by these
+  pub owners : (told : RulesFact) → TellsRules bytes told → OfEachRun bytes (λ history. KeepsOwners (beside told (rules_of rules)) (history_under (under_in bytes rules) narrowed history))
   -- the new file tells the rules, and the moment that the bytes did, no earlier one and no later
   pub tell : Tell plan.prepared.batches (rules_of rules)
   pub until : until_of (recovered bytes) ≤ until_of plan.prepared.batches
@@ -53,7 +58,7 @@ pub record IsPlanOf (rules : RegistryRecord) (hooks : List HookFact) (bytes : Li
 
 -- the history from which the server goes on by the plan: that which the bytes stand for, or what is left of it, with the hooks
 abbrev pub begun_from : {rules : RegistryRecord} {hooks : List HookFact} {bytes : List ℕ} {plan : Plan} → IsPlanOf rules hooks bytes plan → List Event → List Event
-begun_from {rules} {hooks} {bytes} {plan} is history = with_hooks plan.prepared.moment (history_under rules is.narrowed history) hooks
+begun_from {rules} {hooks} {bytes} {plan} is history = with_hooks plan.prepared.moment (history_under (under_in bytes rules) is.narrowed history) hooks
 
 -- why there is none: for what the bytes tell beside the rules, or for what is made of them, or of what is left of them
 abbrev pub RefusesPlan : RegistryRecord → List HookFact → List ℕ → StateFault → Type 0

@@ -44,7 +44,10 @@ fn may_be_narrower(fault: &StateFault) -> bool
 {
     matches!(
         fault,
-        StateFault::NoRules | StateFault::ClientNarrowed(_) | StateFault::LifeNarrowed
+        StateFault::NoRules
+            | StateFault::FormerOwner
+            | StateFault::ClientNarrowed(_)
+            | StateFault::LifeNarrowed
     )
 }
 

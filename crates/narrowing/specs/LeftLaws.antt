@@ -1,59 +1,52 @@
 -- What is left of a history, by what is asked of it.
 use Rattle.std.proofs.Common.{◌≡◌, ◌≤◌, ℕ, List, [], ◌∷◌, Bool, true, false, cond, Option, None, Some, refl, ap, sym, ◌∙◌, arith}
-use Rattle.std.specs.Prelude.{◌==◌, ◌||◌, nat_le, find, is_some, map, count_by, option_map, unwrap_or}
+use Rattle.std.specs.Prelude.{◌==◌, ◌&&◌, ◌||◌, not, nat_le, find, is_some, map, count_by, option_map, unwrap_or}
+use Rattle.std.specs.Option.{option_map_or}
 use Rattle.std.specs.List.{list_any, list_all, filter_map, cons_option}
 use Rattle.std.proofs.lemmas.Bool.Decides.{nat_tests}
 use Rattle.std.proofs.lemmas.List.Folds.{list_all-map}
-use Rattle.clients.specs.RegistryRecord.{RegistryRecord}
 use Rattle.consent.specs.ListLaws.{find-uncounted, count_by-narrower, count_by-cons}
-use Rattle.consent.specs.History.{Event, Change, Grant, Terms, grant_of, grants, grant_at, is_named, is_unexpired, unexpired_count, is_code_of, last_consent, consented_scope, consents_kept, opener, code_terms, terms_of, lowers, ends, is_lowered, has_ended, spends, is_spent, family_of, greatest_family, are_kin, all_kin, last_moment, IsHistory}
+use Rattle.consent.specs.History.{Event, Change, Grant, Terms, event_at, grant_of, grants, grant_at, is_named, is_unexpired, unexpired_count, is_code_of, last_consent, consented_scope, opener, code_terms, terms_of, lowers, ends, is_lowered, has_ended, spends, is_spent, family_of, greatest_family, are_kin, all_kin, last_moment, IsHistory}
 use Rattle.consent.specs.History.Change.{CodeGiven, Issued, FamilyEnded}
-use Rattle.consent.specs.Consents.{KeptConsents, FitsConsents, unless_empty}
 use Rattle.consent.specs.declared.grant.Kind.{Kind}
 use Rattle.endpoints.specs.Bounded.{is_of_code}
-use Rattle.narrowing.specs.Left.{left_of, left_event}
+use Rattle.narrowing.specs.Left.{Under, left_of, left_event, mask_under}
+use Rattle.rules_beside.specs.Beside.{is_former}
 use Rattle.narrowing.specs.LeftKept.{left_by, left_grant}
 use Rattle.narrowing.specs.ListsLaws.{passes, left_found, count_by-left, list_all-left, find-left, find-kept}
 
-module _ (rules : RegistryRecord) (beyond : ℕ → Bool) where
+-- where the event gives a code of the family, its owner is no former one
+abbrev pub is_no_formers : Under → ℕ → Event → Bool
+is_no_formers under family e = option_map_or (λ g. not (is_code_of family g && is_former under.owners g.owner)) (grant_of e) true
+
+module _ (under : Under) (beyond : ℕ → Bool) where
   abbrev pub left_events : List Event → List Event
-  left_events es = map (left_event rules beyond) es
+  left_events es = map (left_event under beyond) es
 
   -- CONSENTS
 
-  last_consent_left : (es : List Event) (owner client : ℕ) → last_consent (left_events es) owner client ≡ last_consent es owner client
+  last_consent_left : (es : List Event) (owner client : ℕ) →
+      last_consent (left_events es) owner client ≡ option_map (mask_under under owner) (last_consent es owner client)
   last_consent_left [] owner client = refl
-  last_consent_left (e ∷ es) owner client = let more = last_consent_left es owner client in grind (arith, more)
+  last_consent_left (e ∷ es) owner client = let more = last_consent_left es owner client in grind (arith, nat_tests, more)
 
-  pub consented_left : (es : List Event) (owner client : ℕ) → consented_scope (left_events es) owner client ≡ consented_scope es owner client
-  consented_left es owner client = ap (λ o. unwrap_or o 0) (last_consent_left es owner client)
-
-  pub consents_kept_left : (es : List Event) → consents_kept (left_events es) ≡ consents_kept es
-  consents_kept_left [] = refl
-  consents_kept_left (e ∷ es) = let last = last_consent_left es in let more = consents_kept_left es in grind (arith, last, more)
-
-  -- the same consents are kept
-  pub fits_consents_left : (kept : KeptConsents) (es : List Event) → FitsConsents kept es → FitsConsents kept (left_events es)
-  fits_consents_left kept es fits = record {
-    masks = λ owner client. fits.masks owner client ∙ sym (ap unless_empty (consented_left es owner client));
-    count = fits.count ∙ sym (consents_kept_left es);
-    nobody = λ client. consented_left es 0 client ∙ fits.nobody client;
-  }
+  pub consented_left : (es : List Event) (owner client : ℕ) → consented_scope (left_events es) owner client ≡ mask_under under owner (consented_scope es owner client)
+  consented_left es owner client = let last = last_consent_left es owner client in grind (arith, last)
 
   -- CODES AND TOKENS
 
   abbrev pub grant_left : Grant → Option Grant
-  grant_left g = cond (beyond g.family) None (Some (left_grant rules g))
+  grant_left g = cond (beyond g.family) None (Some (left_grant under.rules g))
 
   pub grants_left : (es : List Event) → grants (left_events es) ≡ filter_map grant_left (grants es)
   grants_left [] = refl
   grants_left (e ∷ es) = let more = grants_left es in grind (arith, more)
 
-  pub family_by : (kind : Kind) (g : Grant) → (left_by rules kind g).family ≡ g.family
+  pub family_by : (kind : Kind) (g : Grant) → (left_by under.rules kind g).family ≡ g.family
   family_by kind g = grind arith
 
   -- what is unexpired of it was
-  pub unexpired_left : (t : ℕ) (g : Grant) → is_unexpired t (left_grant rules g) ≡ true → is_unexpired t g ≡ true
+  pub unexpired_left : (t : ℕ) (g : Grant) → is_unexpired t (left_grant under.rules g) ≡ true → is_unexpired t g ≡ true
   unexpired_left t g is = grind (arith, nat_tests, is)
 
   pub named_left : (digest : List ℕ) (t : ℕ) (g : Grant) → passes (is_named digest t) (grant_left g) ≡ true → is_named digest t g ≡ true
@@ -82,10 +75,10 @@ module _ (rules : RegistryRecord) (beyond : ℕ → Bool) where
     abbrev same_family : Grant → Bool
     same_family g = g.family == family
 
-    pub opener_left : (es : List Event) → opener (left_events es) family ≡ option_map (left_grant rules) (opener es family)
+    pub opener_left : (es : List Event) → opener (left_events es) family ≡ option_map (left_grant under.rules) (opener es family)
     opener_left es =
         ap (find same_family) (grants_left es)
-        ∙ find-kept grant_left (left_grant rules) same_family (λ g is. grind (arith, nat_tests, stays, is)) (λ g h at. grind (arith, at)) (grants es)
+        ∙ find-kept grant_left (left_grant under.rules) same_family (λ g is. grind (arith, nat_tests, stays, is)) (λ g h at. grind (arith, at)) (grants es)
 
     pub no_code_left : (es : List Event) → is_of_code (opener es family) ≡ false → is_of_code (opener (left_events es) family) ≡ false
     no_code_left es none = let same = opener_left es in grind (arith, same, none)
@@ -96,25 +89,26 @@ module _ (rules : RegistryRecord) (beyond : ℕ → Bool) where
         let same = find-kept grant_left (λ g. g) (is_code_of family) (λ g is. grind (arith, nat_tests, stays, is)) (λ g h at. grind (arith, at)) (grants es) in
         ap (λ gs. option_map terms_of (find (is_code_of family) gs)) (grants_left es) ∙ grind (arith, same)
 
-    any_lowers_left : (terms : Terms) (es : List Event) → list_any (λ e. lowers terms e.change) (left_events es) ≡ list_any (λ e. lowers terms e.change) es
-    any_lowers_left terms [] = refl
-    any_lowers_left terms (e ∷ es) = let more = any_lowers_left terms es in grind (arith, more)
+    any_lowers_left : (terms : Terms) → is_former under.owners terms.owner ≡ false → (es : List Event) →
+        list_any (λ e. lowers terms e.change) (left_events es) ≡ list_any (λ e. lowers terms e.change) es
+    any_lowers_left terms here [] = refl
+    any_lowers_left terms here (e ∷ es) = let more = any_lowers_left terms here es in grind (arith, nat_tests, here, more)
 
     abbrev ended_by : Change → List Event → Bool
     ended_by change later = ends family change || is_lowered family change later || has_ended later family
 
-    ended_event : (es : List Event) (change : Change) → has_ended (left_events es) family ≡ has_ended es family →
-        ended_by (left_of rules beyond change) (left_events es) ≡ ended_by change es
-    ended_event es (CodeGiven f code digest) rest =
-        let lowered = any_lowers_left (record { client = code.client; owner = code.owner; scope = code.scope }) es in
-        grind (arith, nat_tests, stays, lowered, rest)
-    ended_event es (Issued f parties token) rest = grind (arith, nat_tests, stays, rest)
-    ended_event es (FamilyEnded f) rest = ap (λ b. (f == family) || false || b) rest
-    ended_event es _ rest = rest
+    ended_event : (es : List Event) (m : ℕ) (change : Change) → is_no_formers under family (event_at m change) ≡ true → has_ended (left_events es) family ≡ has_ended es family →
+        ended_by (left_of under beyond change) (left_events es) ≡ ended_by change es
+    ended_event es m (CodeGiven f code digest) here rest =
+        let lowered = any_lowers_left (record { client = code.client; owner = code.owner; scope = code.scope }) in
+        grind (arith, nat_tests, stays, here, lowered, rest)
+    ended_event es m (Issued f parties token) here rest = grind (arith, nat_tests, stays, rest)
+    ended_event es m (FamilyEnded f) here rest = ap (λ b. (f == family) || false || b) rest
+    ended_event es m _ here rest = rest
 
-    pub ended_left : (es : List Event) → has_ended (left_events es) family ≡ has_ended es family
-    ended_left [] = refl
-    ended_left (e ∷ es) = ended_event es e.change (ended_left es)
+    pub ended_left : (es : List Event) → list_all (is_no_formers under family) es ≡ true → has_ended (left_events es) family ≡ has_ended es family
+    ended_left [] all = refl
+    ended_left (e ∷ es) all = ended_event es e.moment e.change (grind (arith, all)) (ended_left es (grind (arith, all)))
 
   -- SPENDING
 
@@ -149,7 +143,7 @@ module _ (rules : RegistryRecord) (beyond : ℕ → Bool) where
 
   -- WHAT EVERY HISTORY HAS
 
-  kin_by : (kind : Kind) (g : Grant) → ((left_by rules kind g).client ≡ g.client) × ((left_by rules kind g).owner ≡ g.owner)
+  kin_by : (kind : Kind) (g : Grant) → ((left_by under.rules kind g).client ≡ g.client) × ((left_by under.rules kind g).owner ≡ g.owner)
   kin_by kind g = (grind arith, grind arith)
 
   kin_of : (g h x y : Grant) → grant_left g ≡ Some h → grant_left x ≡ Some y → are_kin g x ≡ true → are_kin h y ≡ true
@@ -167,7 +161,7 @@ module _ (rules : RegistryRecord) (beyond : ℕ → Bool) where
       (λ g h all at. list_all-left grant_left (are_kin g) (are_kin h) (grants es) (λ x y is bt. kin_of g h x y at bt is) all) kin
 
   -- families have the numbers that they had
-  numbered_left : (change : Change) → family_of (left_of rules beyond change) ≡ family_of change
+  numbered_left : (change : Change) → family_of (left_of under beyond change) ≡ family_of change
   numbered_left change = grind arith
 
   pub greatest_left : (es : List Event) → greatest_family (left_events es) ≡ greatest_family es
@@ -176,7 +170,7 @@ module _ (rules : RegistryRecord) (beyond : ℕ → Bool) where
 
   pub is_history_left : (es : List Event) (moment : ℕ) → IsHistory es moment → IsHistory (left_events es) moment
   is_history_left es moment is = record {
-    past = list_all-map (λ e. nat_le e.moment moment) (left_event rules beyond) es ∙ is.past;
+    past = list_all-map (λ e. nat_le e.moment moment) (left_event under beyond) es ∙ is.past;
     single = λ digest. (let a = fewer (is_named digest moment) es (named_left digest moment) in let b = is.single digest in omega (arith, a, b));
     one_code = λ family. (let a = fewer (is_code_of family) es (λ g here. grind (arith, here)) in let b = is.one_code family in omega (arith, a, b));
     kin = all_kin_left es is.kin;

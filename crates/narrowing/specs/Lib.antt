@@ -9,6 +9,8 @@ pub mod NarrowingParts
 -- Laws, each proved: a reader may skip them.
 pub mod ListsLaws
 pub mod LeftLaws
+pub mod ConsentsLaws
+pub mod FormerLaws
 pub mod StandingLaws
 pub mod RightLaws
 pub mod ShortRightLaws

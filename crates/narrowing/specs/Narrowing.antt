@@ -7,13 +7,13 @@ use Rattle.consent.specs.History.{Event, last_moment}
 use Rattle.endpoints.specs.Hosts.{HostRun}
 use Rattle.hook_host.specs.declared.host.HookHost.{Ghosts as Hosting}
 use Rattle.change_codec.specs.Rules.{RulesFact}
-use Rattle.narrowing.specs.Left.{ended_count, left_under}
+use Rattle.narrowing.specs.Left.{HasNoFormer, Under, ended_count, left_under, under_told}
 use Rattle.shortening.specs.Standing.{IsLeftOf}
 use Rattle.state_file.specs.Comparing.{AreAsWide, IsUntold, KeepClients}
 use Rattle.state_file.specs.Renewing.{left_numbered}
 use Rattle.state_file.specs.Resuming.{OfEachHistory, WasRight}
 use Rattle.state_file.specs.Standing.{AreTold, StandsFor, until_of}
-use Rattle.state_file.specs.Telling.{Tell}
+use Rattle.state_file.specs.Telling.{Tell, rules_told}
 use Rattle.state_file.specs.declared.fault.StateFault.{StateFault}
 use Rattle.state_file.specs.declared.fault.StateFault.TheVariants.{Memory, NotState, Version, Damaged, Full, TooLong, NoRules, Spelling, Follows}
 use Rattle.narrowing.specs.declared.narrowed.Narrowed.{Narrowed}
@@ -28,6 +28,10 @@ pub record AreNarrower (batches : List (List ℕ)) (now : RulesFact) : Type 0 wh
   pub tells : Tell batches told
   pub less : AreLess told now
 
+-- the registry, by the rules that the bytes tell
+abbrev pub under_in : List ℕ → RegistryRecord → Under
+under_in left rules = under_told (rules_told (recovered left)) rules
+
 -- so it is of the batches that the bytes stand for
 abbrev pub IsNarrower : List ℕ → RulesFact → Type 0
 IsNarrower left now = AreNarrower (recovered left) now
@@ -39,24 +43,25 @@ pub record GoesOn {H : Type 0} (hosting : Hosting H) (first : H) (left : List �
   pub host : H
   pub ran : HostRun hosting first history host
 
--- A file with the batches stands for what is left of the history. It tells no more than what is left, under the rules, of a list that is left of
--- the history, and the greatest number of a family. So many codes and tokens ended as the history had good ones of which nothing is
--- left, at the moment of its last change or a later one that the file tells.
-pub record HasLeft {H : Type 0} (hosting : Hosting H) (first : H) (rules : RegistryRecord) (file : Narrowed) (history : List Event) : Type 0 where
-  pub goes_on : (bytes : List ℕ) → recovered bytes ≡ file.frames → GoesOn hosting first bytes (left_under rules history)
+-- A file with the batches stands for what is left of the history, and nothing of that is a former owner's. It tells no more than what is left,
+-- under the rules, of a list that is left of the history, and the greatest number of a family. So many codes and tokens ended as the history
+-- had good ones of which nothing is left, at the moment of its last change or a later one that the file tells.
+pub record HasLeft {H : Type 0} (hosting : Hosting H) (first : H) (under : Under) (file : Narrowed) (history : List Event) : Type 0 where
+  pub goes_on : (bytes : List ℕ) → recovered bytes ≡ file.frames → GoesOn hosting first bytes (left_under under history)
+  pub owners : HasNoFormer under.owners (left_under under history)
   pub list : List Event
   pub of : IsLeftOf list history (last_moment 0 history)
-  pub told : AreTold file.frames (left_numbered (left_under rules list))
-  pub ended : file.ended ≡ ended_count rules history (max (last_moment 0 history) (until_of file.frames))
+  pub told : AreTold file.frames (left_numbered (left_under under list))
+  pub ended : file.ended ≡ ended_count under history (max (last_moment 0 history) (until_of file.frames))
 
 -- so it is of each history that the bytes stood for
 abbrev pub HasLeftOfEach : {H : Type 0} → Hosting H → H → List ℕ → RegistryRecord → Narrowed → Type 0
-HasLeftOfEach hosting first left rules file = OfEachHistory hosting first left (HasLeft hosting first rules file)
+HasLeftOfEach hosting first left rules file = OfEachHistory hosting first left (HasLeft hosting first (under_in left rules) file)
 
 -- the history, or what is left of it where the file was narrowed
-abbrev pub history_under : RegistryRecord → Option Narrowed → List Event → List Event
-history_under rules None history = history
-history_under rules (Some narrowed) history = left_under rules history
+abbrev pub history_under : Under → Option Narrowed → List Event → List Event
+history_under under None history = history
+history_under under (Some narrowed) history = left_under under history
 
 -- why the bytes are not read as a state file
 abbrev pub IsUnreadable : List ℕ → StateFault → Type 0

@@ -1,24 +1,38 @@
 //! Changes that are left under other rules.
 
-ghost use Rattle.std.specs.Prelude.{◌≡◌, OnOk, IfOk, option_map, unwrap_or};
+ghost use Rattle.std.specs.Prelude.{◌≡◌, OnOk, IfOk, Some, if◌then◌else◌, option_map, unwrap_or};
 ghost use Rattle.consent.specs.Changes.{change_of};
 ghost use Rattle.change_codec.specs.Spelling.{dated_facts};
-ghost use Rattle.narrowing.specs.Left.{left_of, left_under, token_under};
+ghost use Rattle.narrowing.specs.Left.{do_go_beyond, left_of, left_under, token_under};
+ghost use Rattle.rules_beside.specs.Beside.{is_former};
 ghost use Rattle.narrowing.specs.Codes.{Notes, TellsCodes, beyond_by};
 
 use crate::rules::{goes_beyond, life_under, scope_under};
 use change_codec::DatedChange;
 use clients::Registry;
-use consent::{Change, ClientNo, NewToken};
+use consent::{Change, ClientNo, CodeFacts, NewToken, OwnerNo, ScopeSet};
+use rules_beside::OwnersBeside;
 use std::alloc::{AllocError, Global};
 use std::collections::HashMap;
 
 // Whether the first code goes beyond the rules, by the number of its family.
 type Codes = HashMap<u64, bool>;
 
+// Whether a code goes beyond the rules.
+fn code_goes_beyond(rules: &Registry, owners: &OwnersBeside<'_, '_>, facts: &CodeFacts<'_>) -> bool
+    ensures { result ≡ do_go_beyond (record { rules = rules.now; owners = owners.now }) (Some (record { client = facts.now.client; owner = facts.now.owner; scope = facts.now.scope })) }
+{
+    owners.is_former(facts.owner.get()) || goes_beyond(rules, facts.client, facts.scope)
+}
+
 // Notes a code, if it is the first of its family.
-fn note(codes: &mut Codes, rules: &Registry, change: &Change<'_>) -> Result<(), AllocError>
-    ensures { OnOk result (Notes rules.now (change_of change.now) codes.old.entries codes.new.entries) }
+fn note(
+    codes: &mut Codes,
+    rules: &Registry,
+    owners: &OwnersBeside<'_, '_>,
+    change: &Change<'_>,
+) -> Result<(), AllocError>
+    ensures { OnOk result (Notes (record { rules = rules.now; owners = owners.now }) (change_of change.now) codes.old.entries codes.new.entries) }
 {
     let Change::CodeGiven { family, facts, .. } = change else {
         return Ok(());
@@ -26,7 +40,7 @@ fn note(codes: &mut Codes, rules: &Registry, change: &Change<'_>) -> Result<(), 
     if codes.contains_key(family) {
         return Ok(());
     }
-    let Ok(_) = codes.insert(*family, goes_beyond(rules, facts.client, facts.scope)) else {
+    let Ok(_) = codes.insert(*family, code_goes_beyond(rules, owners, facts)) else {
         return Err(AllocError);
     };
     Ok(())
@@ -36,13 +50,14 @@ fn note(codes: &mut Codes, rules: &Registry, change: &Change<'_>) -> Result<(), 
 fn codes_in(
     alloc: Global,
     rules: &Registry,
+    owners: &OwnersBeside<'_, '_>,
     changes: &[DatedChange<'_>],
 ) -> Result<Codes, AllocError>
-    ensures { IfOk result (λ codes. TellsCodes rules.now (dated_facts changes.now) codes.entries) }
+    ensures { IfOk result (λ codes. TellsCodes (record { rules = rules.now; owners = owners.now }) (dated_facts changes.now) codes.entries) }
 {
     let mut codes = HashMap::new(alloc);
     for dated in changes {
-        note(&mut codes, rules, &dated.change)?;
+        note(&mut codes, rules, owners, &dated.change)?;
     }
     Ok(codes)
 }
@@ -66,12 +81,38 @@ fn token_under(rules: &Registry, client: ClientNo, token: NewToken) -> NewToken
     }
 }
 
-// What stands in the place of a change: the end of its family, where that is beyond the rules, or a token that keeps to them.
-fn in_place_of<'a>(rules: &Registry, codes: &Codes, change: &Change<'a>) -> Option<Change<'a>>
+// What the owner consents to: a former one to nothing.
+fn mask_under(owners: &OwnersBeside<'_, '_>, owner: OwnerNo, mask: ScopeSet) -> ScopeSet
+    ensures { result ≡ (if is_former owners.now owner then 0 else mask) }
+{
+    if owners.is_former(owner.get()) {
+        ScopeSet::empty()
+    } else {
+        mask
+    }
+}
+
+// What stands in the place of a change: the end of its family, where that is beyond the rules, a token that keeps to them, or a
+// consent to nothing of a former owner.
+fn in_place_of<'a>(
+    rules: &Registry,
+    owners: &OwnersBeside<'_, '_>,
+    codes: &Codes,
+    change: &Change<'a>,
+) -> Option<Change<'a>>
     ensures { unwrap_or (option_map change_of result) (change_of change.now)
-        ≡ left_of rules.now (beyond_by codes.now.entries) (change_of change.now) }
+        ≡ left_of (record { rules = rules.now; owners = owners.now }) (beyond_by codes.now.entries) (change_of change.now) }
 {
     match change {
+        Change::Consented {
+            owner,
+            client,
+            mask,
+        } => Some(Change::Consented {
+            owner: *owner,
+            client: *client,
+            mask: mask_under(owners, *owner, *mask),
+        }),
         Change::CodeGiven { family, .. } => {
             if is_beyond(codes, *family) {
                 return Some(Change::FamilyEnded { family: *family });
@@ -97,16 +138,18 @@ fn in_place_of<'a>(rules: &Registry, codes: &Codes, change: &Change<'a>) -> Opti
 pub fn changes_left<'a>(
     alloc: Global,
     rules: &Registry,
+    owners: &OwnersBeside<'_, '_>,
     changes: Vec<DatedChange<'a>>,
 ) -> Result<Vec<DatedChange<'a>>, AllocError>
-    ensures { IfOk result (λ left. dated_facts left.items ≡ left_under rules.now (dated_facts changes.entry.items)) }
+    ensures { IfOk result (λ left. dated_facts left.items
+        ≡ left_under (record { rules = rules.now; owners = owners.now }) (dated_facts changes.entry.items)) }
 {
-    let codes = codes_in(alloc, rules, changes.as_slice())?;
+    let codes = codes_in(alloc, rules, owners, changes.as_slice())?;
     let mut left = changes;
     for place in 0..left.len() {
         let dated = &left[place];
         let moment = dated.moment;
-        if let Some(change) = in_place_of(rules, &codes, &dated.change) {
+        if let Some(change) = in_place_of(rules, owners, &codes, &dated.change) {
             left[place] = DatedChange { moment, change };
         }
     }

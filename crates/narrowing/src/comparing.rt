@@ -1,14 +1,15 @@
 //! Whether a registry is narrower than the rules that a state file tells.
 
-ghost use Rattle.std.specs.Prelude.{◌≡◌, ◌↔◌, IsTrue, IfOk, IfErr};
+ghost use Rattle.std.specs.Prelude.{◌≡◌, ◌↔◌, Some, IsTrue, IfOk, IfErr};
 ghost use Rattle.batch_file.specs.Frames.{lists};
 ghost use Rattle.rules_codec.specs.Facts.{rules_fact};
 ghost use Rattle.state_file.specs.Comparing.{IsUntold};
-ghost use Rattle.state_file.specs.Telling.{rules_of};
+ghost use Rattle.state_file.specs.Telling.{rules_of, rules_told};
 ghost use Rattle.state_file.specs.declared.fault.StateFault.TheVariants.{Memory};
-ghost use Rattle.narrowing.specs.Narrowing.{AreLess, AreNarrower};
+ghost use Rattle.narrowing.specs.Narrowing.{AreLess, AreNarrower, RefusesNarrowing};
 ghost use Rattle.narrowing.specs.NarrowingParts.{less_by};
 
+use crate::ending::of_batch;
 use clients::{Bounds, Registry};
 use state_file::{StateFault, compare, last_rules, told_rules};
 use std::alloc::Global;
@@ -19,6 +20,7 @@ fn less_by(fault: StateFault) -> Result<bool, StateFault>
 {
     match fault {
         StateFault::Memory => Err(StateFault::Memory),
+        StateFault::FormerOwner => Ok(true),
         StateFault::ClientNarrowed(_name) => Ok(true),
         StateFault::LifeNarrowed => Ok(true),
         _ => Ok(false),
@@ -54,4 +56,18 @@ pub(crate) fn is_narrower(
     };
     let now = registry.bounds(alloc)?;
     are_less(alloc, &told, &now)
+}
+
+/// The rules that the batches tell last.
+pub(crate) fn last_told(alloc: Global, batches: &[Vec<u8>]) -> Result<Bounds<'_>, StateFault>
+    ensures told { IfOk result (λ told. rules_told (lists batches.now) ≡ Some (rules_fact told)) }
+    ensures refused { IfErr result RefusesNarrowing }
+{
+    let Some(batch) = last_rules(batches) else {
+        return Err(StateFault::NoRules);
+    };
+    match told_rules(alloc, batch) {
+        Ok(told) => Ok(told),
+        Err(fault) => Err(of_batch(fault)),
+    }
 }

@@ -11,12 +11,13 @@ use crate::records::ended_count;
 use batch_file::framing::Batches;
 use clients::Registry;
 use hook_host::HookHost;
+use rules_beside::OwnersBeside;
 use state_account::{AccountFault, account_in};
 use state_file::StateFault;
 use std::alloc::Global;
 
 // A fault that is told of a file, for one of a batch.
-fn of_batch(fault: StateFault) -> StateFault
+pub(crate) fn of_batch(fault: StateFault) -> StateFault
     ensures { RefusesNarrowing result }
 {
     match fault {
@@ -43,10 +44,11 @@ pub(crate) fn ended_in<H: HookHost>(
     alloc: Global,
     found: &Batches,
     registry: &Registry,
+    owners: &OwnersBeside<'_, '_>,
     host: H,
 ) -> Result<usize, StateFault>
     requires narrower { AreNarrower (lists found.now.batches.items) (rules_of registry.now) }
-    ensures ends { IfOk result (EndOfRead H.HookHost (lists found.now.batches.items) found.now.torn.items host registry.now) }
+    ensures ends { IfOk result (EndOfRead H.HookHost (lists found.now.batches.items) found.now.torn.items host (record { rules = registry.now; owners = owners.now })) }
     ensures refused { IfErr result RefusesNarrowing }
 {
     let account = match account_in(alloc, found, host) {
@@ -54,5 +56,5 @@ pub(crate) fn ended_in<H: HookHost>(
         Err(fault) => return Err(fault_of(fault)),
     };
     let told = account.standing(alloc)?;
-    Ok(ended_count(registry, told.greatest, told.records.as_slice()))
+    Ok(ended_count(registry, owners, told.greatest, told.records.as_slice()))
 }

@@ -11,13 +11,14 @@ ghost use Rattle.token_store.specs.Image.{as_kept, kept_record};
 use crate::rules::{goes_beyond, life_under};
 use clients::Registry;
 use consent::{KeptKind, KeptRecord, Moment, TokenKind};
+use rules_beside::OwnersBeside;
 
 // Whether the family's code goes beyond the rules.
-fn is_beyond(rules: &Registry, of: &KeptRecord<'_>) -> bool
-    ensures { result ≡ do_go_beyond rules.now (kept_record of.now).terms }
+fn is_beyond(rules: &Registry, owners: &OwnersBeside<'_, '_>, of: &KeptRecord<'_>) -> bool
+    ensures { result ≡ do_go_beyond (record { rules = rules.now; owners = owners.now }) (kept_record of.now).terms }
 {
     match of.code_scope {
-        Some(scope) => goes_beyond(rules, of.client, scope),
+        Some(scope) => owners.is_former(of.owner) || goes_beyond(rules, of.client, scope),
         None => false,
     }
 }
@@ -33,10 +34,16 @@ fn life_left(rules: &Registry, of: &KeptRecord<'_>) -> u32
 }
 
 // Whether something of it is left that is good at the moment.
-fn is_left(rules: &Registry, moment: Moment, of: &KeptRecord<'_>) -> bool
-    ensures { result ≡ is_kept_left rules.now moment (kept_record of.now) }
+fn is_left(
+    rules: &Registry,
+    owners: &OwnersBeside<'_, '_>,
+    moment: Moment,
+    of: &KeptRecord<'_>,
+) -> bool
+    ensures { result ≡ is_kept_left (record { rules = rules.now; owners = owners.now }) moment (kept_record of.now) }
 {
-    !is_beyond(rules, of) && moment.get() < of.moment.get() + u64::from(life_left(rules, of))
+    !is_beyond(rules, owners, of)
+        && moment.get() < of.moment.get() + u64::from(life_left(rules, of))
 }
 
 // Whether it is good at the moment.
@@ -55,20 +62,30 @@ fn is_kept_good(of: &KeptRecord<'_>) -> bool
 }
 
 // Whether it is good at the moment, and nothing is left of it.
-fn ends(rules: &Registry, moment: Moment, of: &KeptRecord<'_>) -> bool
-    ensures { result ≡ ends_kept rules.now moment (kept_record of.now) }
+fn ends(
+    rules: &Registry,
+    owners: &OwnersBeside<'_, '_>,
+    moment: Moment,
+    of: &KeptRecord<'_>,
+) -> bool
+    ensures { result ≡ ends_kept (record { rules = rules.now; owners = owners.now }) moment (kept_record of.now) }
 {
-    is_unexpired(moment, of) && is_kept_good(of) && !is_left(rules, moment, of)
+    is_unexpired(moment, of) && is_kept_good(of) && !is_left(rules, owners, moment, of)
 }
 
 /// How many codes and tokens end under the rules: those of these that are good at the moment, and of which nothing is left.
-pub fn ended_count(rules: &Registry, moment: Moment, records: &[KeptRecord<'_>]) -> usize
+pub fn ended_count(
+    rules: &Registry,
+    owners: &OwnersBeside<'_, '_>,
+    moment: Moment,
+    records: &[KeptRecord<'_>],
+) -> usize
     ensures { (history : List Event) → FitsHistory (as_kept records.now) history moment →
-        result ≡ ended_count rules.now history moment }
+        result ≡ ended_count (record { rules = rules.now; owners = owners.now }) history moment }
 {
     let mut count = 0;
     for of in records {
-        if ends(rules, moment, of) {
+        if ends(rules, owners, moment, of) {
             count += 1;
         }
     }

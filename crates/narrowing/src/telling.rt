@@ -10,6 +10,7 @@ ghost use Rattle.narrowing.specs.NarrowingParts.{TellLeft};
 use crate::changes::changes_left;
 use batch_file::frames::Frames;
 use clients::Registry;
+use rules_beside::OwnersBeside;
 use state_file::{StateFault, changes_in, short_of, spell_rules, until_of};
 use std::alloc::Global;
 
@@ -32,13 +33,14 @@ pub(crate) fn frames_left(
     alloc: Global,
     batches: &[Vec<u8>],
     registry: &Registry,
+    owners: &OwnersBeside<'_, '_>,
 ) -> Result<Frames, StateFault>
-    ensures left { IfOk result (TellLeft (lists batches.now) registry.now) }
+    ensures left { IfOk result (TellLeft (lists batches.now) (record { rules = registry.now; owners = owners.now })) }
     ensures refused { IfErr result RefusesNarrowing }
 {
     let rules = spelled_rules(alloc, registry)?;
     let told = changes_in(alloc, batches)?;
-    let left = changes_left(alloc, registry, told)?;
+    let left = changes_left(alloc, registry, owners, told)?;
     let short = short_of(alloc, &rules, &left, until_of(batches))?;
     Ok(short.frames)
 }

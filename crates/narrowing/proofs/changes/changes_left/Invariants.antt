@@ -7,6 +7,6 @@ use Rattle.narrowing.proofs.changes.changes_left.Given as goal
 
 abbrev pub invariant-loop-place : goal.invariant-loop-place
 invariant-loop-place l = record {
-  left : with_rest l.fn.rules (beyond_by l.codes.entries) l.left.items l.place ≡ left_events l.fn.rules (beyond_by l.codes.entries) (dated_facts l.fn.changes.items);
+  left : with_rest (record { rules = l.fn.rules; owners = l.fn.owners }) (beyond_by l.codes.entries) l.left.items l.place ≡ left_events (record { rules = l.fn.rules; owners = l.fn.owners }) (beyond_by l.codes.entries) (dated_facts l.fn.changes.items);
   length : length l.left.items ≡ l.place-end;
 }

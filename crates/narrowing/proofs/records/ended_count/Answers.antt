@@ -10,5 +10,5 @@ use Rattle.narrowing.proofs.records.ended_count.Goals as goal
 pub returns : goal.returns
 returns c = λ history fits.
     c.loop-of.invariant.0
-    ∙ ap (λ (xs : List KeptRecord). count_by (ends_kept c.args.rules.now c.args.moment) (as_kept xs)) (take_all c.loop-of.of-index c.args.records.now c.loop-of-test.false)
-    ∙ ended_count-kept c.args.rules.now (as_kept c.args.records.now) history c.args.moment fits
+    ∙ ap (λ (xs : List KeptRecord). count_by (ends_kept (record { rules = c.args.rules.now; owners = c.args.owners.now }) c.args.moment) (as_kept xs)) (take_all c.loop-of.of-index c.args.records.now c.loop-of-test.false)
+    ∙ ended_count-kept (record { rules = c.args.rules.now; owners = c.args.owners.now }) (as_kept c.args.records.now) history c.args.moment fits
