@@ -2,7 +2,7 @@
 use Rattle.std.specs.Prelude.{◌≡◌, ◌≢◌, ⊤, ℕ, List, None, IsSomeAnd, Ok, Err}
 use Rattle.clients.specs.Registry.{registry_in}
 use Rattle.clients.specs.RegistryRecord.{RegistryRecord}
-use Rattle.clients.specs.declared.fault.ConfigFault.TheVariants as config
+use Rattle.registry_json.specs.declared.fault.ConfigFault.TheVariants as config
 use Rattle.commands.specs.declared.fault.CommandFault.{CommandFault}
 use Rattle.commands.specs.declared.fault.CommandFault.TheVariants as faults
 use Rattle.hook_commands.specs.File.{File}

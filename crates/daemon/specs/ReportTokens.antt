@@ -48,6 +48,7 @@ abbrev pub wanted_tokens : Wanted → List Token
 wanted_tokens wanted =
     key (codes "unavailable") ∷ begin_object ∷ count_tokens (codes "memory") wanted.memory
     ++ count_tokens (codes "store_full") wanted.store_room
+    ++ count_tokens (codes "client_full") wanted.client_room
     ++ count_tokens (codes "drawn_twice") wanted.fresh_draw
     ++ count_tokens (codes "consents_full") wanted.consent_room ++ end_object ∷ []
 

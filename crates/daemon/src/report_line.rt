@@ -66,6 +66,7 @@ fn wanted(line: &mut Object, wanted: &Wanted) -> Result<(), AllocError>
     line.begin("unavailable")?;
     line.number("memory", wanted.memory)?;
     line.number("store_full", wanted.store_room)?;
+    line.number("client_full", wanted.client_room)?;
     line.number("drawn_twice", wanted.fresh_draw)?;
     line.number("consents_full", wanted.consent_room)?;
     line.end()

@@ -15,7 +15,7 @@ run HEX RECORDHEX: runs the hook whose code is HEX on the record RECORDHEX, and 
     Topic {
         name: "ask",
         text: "\
-ask KIND MOMENT CLIENT OWNER SCOPE LIFE: prints, as hex, the record of version 1 of an ask, for run. KIND is 1 where a code is redeemed, 2 where a token is refreshed, 3 for client credentials; MOMENT is in Unix seconds; CLIENT and OWNER are places in the registry, from 1, and OWNER is 0 for client credentials; SCOPE has bit i for the i-th name of the registry's scopes; LIFE is in seconds. The client is allowed just these scopes. All are decimal numbers.
+ask KIND MOMENT CLIENT OWNER SCOPE LIFE: prints, as hex, the record of version 1 of an ask, for run. KIND is 1 where a code is redeemed, 2 where a token is refreshed, 3 for client credentials; MOMENT is in Unix seconds; CLIENT is a client's place in the registry, from 1; OWNER is an owner's number (his place, from 1, where the registry states none), or 0 for client credentials; SCOPE has bit i for the i-th name of the registry's scopes; LIFE is in seconds. The client is allowed just these scopes. All are decimal numbers.
 
   oauthd run $(cat hook.hex) $(oauthd ask 1 1000 7 1 3 300)
 ",
@@ -84,7 +84,7 @@ serve ADDR CONFIG SEEDHEX COUNT: listens at ADDR, prints listening ADDR, serves 
     Topic {
         name: "registry",
         text: "\
-registry FILE: reads the registry in FILE as start does, and serves nothing. Where it is refused, the fault is told with where it stands: Config BadRedirect at clients[17].redirects[0] is the first redirect URI of the 18th client, since items are counted from 0. Else it prints the lives of tokens in seconds, how many owners and clients there are, the names of all scopes, and, behind warning:, what may be a mistake: a member whose name means nothing there, one that stands twice in its object, a key that is the SHA-256 of the empty text, an owner with the operator's key, access tokens that live longer than refresh tokens, and a file that everybody on the machine may read. registry FILE --state STATE prints instead how many codes and tokens of the state file STATE a start under that registry would end, since they go beyond it, or tells why that start would be refused. It writes nothing, and wants no lock.
+registry FILE: reads the registry in FILE as start does, and serves nothing. Where it is refused, the fault is told with where it stands: Config BadRedirect at clients[17].redirects[0] is the first redirect URI of the 18th client, since items are counted from 0. Else it prints the lives of tokens in seconds, how many owners and clients there are, how many unexpired codes and tokens (records) and how many consents are kept at most, what these then take in memory, in megabytes, the names of all scopes, and, behind warning:, what may be a mistake: a member whose name means nothing there, one that stands twice in its object, a key that is the SHA-256 of the empty text, an owner with the operator's key, an owner or the operator with the gateway's, access tokens that live longer than refresh tokens, and a file that everybody on the machine may read. registry FILE --state STATE prints instead how many codes and tokens of the state file STATE a start under that registry would end, since they go beyond it, or tells why that start would be refused. It writes nothing, and wants no lock.
 
   oauthd registry registry.json
   oauthd registry registry.json --state /var/lib/oauthd/state

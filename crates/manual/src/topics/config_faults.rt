@@ -15,7 +15,7 @@ NotJson: the registry is no JSON text (RFC 8259). Look for a comma too many, a q
     Topic {
         name: "BadShape",
         text: "\
-BadShape: a member of the registry is missing or of another type, or a grant is none of authorization_code, refresh_token and client_credentials, or an object in the place of a key or a secret has no sha256. docs/OPERATING.md has a registry with all members.
+BadShape: a member of the registry is missing or of another type, or a grant is none of authorization_code, refresh_token and client_credentials, or an object in the place of a key or a secret has no sha256, or the first owner has a number and another one has none, or the other way round. docs/OPERATING.md has a registry with all members.
 
   \"owners\": \"ann-key\"      \"owners\": [\"ann-key\"]
 ",
@@ -40,7 +40,7 @@ BadRedirect: a redirect URI of a client is no http or https URL in the URL Stand
     Topic {
         name: "Twice",
         text: "\
-Twice: two owner keys, two scope names or the names of two clients are equal. Take one away.
+Twice: two owner keys or numbers, two scope names or the names of two clients are equal. Take one away.
 
   \"scopes\": [\"read\", \"read\"]           \"scopes\": [\"read\"]
 ",

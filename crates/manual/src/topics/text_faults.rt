@@ -27,7 +27,7 @@ OutOfRange: in the text of a hook, a number has the right form and does not fit.
 
   mov64 r0 2147483648      lddw r0 2147483648
 
-In a registry, a life, a length, a count or a character is past its limits, or the file has more than 1,048,576 bytes. Lives are 1 to 31,536,000 seconds; keys and secrets have 1 to 128 visible characters, names of clients 1 to 64 letters, digits, minus signs, full stops and underscores.
+In a registry, a life, a limit, a number, a length, a count or a character is past its limits, or the file has more than 1,048,576 bytes and no limits. Lives are 1 to 31,536,000 seconds; keys and secrets have 1 to 128 visible characters, names of clients 1 to 64 letters, digits, minus signs, full stops and underscores.
 
   \"access_life\": 0         \"access_life\": 300
 ",

@@ -85,7 +85,8 @@ oauthd help has each of the first fourteen:
   Exists, Make: WHY                 no file can be made there
   NoRules, Spelling ..              the file is not what a server wrote
   Follows ..                        a change in the file can't have happened after those before it
-  ScopeMoved NAME, OwnerMoved, ClientMoved NAME    the registry has left out or moved what the file has
+  ScopeMoved NAME, ClientMoved NAME the registry has left out or moved what the file has
+  OwnerMoved N                      owner N of the file stands elsewhere in the registry, or nowhere, or is another one now
   HookDiffers NAME                  the file has another hook of that name; remove it by a request, or leave out the option
   Hook NAME FAULT                   a hook behind start is refused: oauthd help hook
   Full, TooLong                     the file, or what is to be written to it, is too long
