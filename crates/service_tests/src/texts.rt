@@ -5,7 +5,6 @@ use authentication::AuthFault;
 use batch_file::appending::BatchFault;
 use batch_file::system::SystemFault;
 use commands::CommandFault;
-use consent::ConsentFault;
 use daemon::SocketFault;
 use endpoints::RedoFault;
 use event_loop::LoopFault;
@@ -17,7 +16,6 @@ use state_file::StateFault;
 use std::fmt::Display;
 use std::process::Abort;
 use std::test::Fail;
-use token_store::StoreFault;
 use wire::Fault;
 
 const REFUSED: VerifyFault = VerifyFault::Memory;
@@ -115,8 +113,7 @@ fn requests_that_are_refused(rt: HostRuntime) -> Result<(), Fail> {
     assert_told_as(&rt, AuthFault::NoClient, "NoClient")?;
     assert_told_as(&rt, AuthFault::BadSecret, "BadSecret")?;
     assert_told_as(&rt, AuthFault::TwoMethods, "TwoMethods")?;
-    assert_told_as(&rt, AuthFault::BadHeader, "BadHeader")?;
-    assert_told_as(&rt, ConsentFault::Full, "Full")
+    assert_told_as(&rt, AuthFault::BadHeader, "BadHeader")
 }
 
 #[test]
@@ -152,12 +149,7 @@ fn state_files_that_are_refused(rt: HostRuntime) -> Result<(), Fail> {
     for (fault, text) in [
         (RedoFault::MomentBack, "Follows MomentBack"),
         (RedoFault::Unknown, "Follows Unknown"),
-        (RedoFault::Store(StoreFault::Full), "Follows Store Full"),
-        (
-            RedoFault::Store(StoreFault::DrawTaken),
-            "Follows Store DrawTaken",
-        ),
-        (RedoFault::ConsentsFull, "Follows ConsentsFull"),
+        (RedoFault::DrawTaken, "Follows DrawTaken"),
         (RedoFault::NotRight, "Follows NotRight"),
     ] {
         assert_told_as(&rt, StateFault::Follows(fault), text)?;
@@ -175,7 +167,8 @@ fn state_files_that_are_refused(rt: HostRuntime) -> Result<(), Fail> {
     ] {
         assert_told_as(&rt, StateFault::Spelling(fault), text)?;
     }
-    assert_told_as(&rt, StateFault::OwnerMoved, "OwnerMoved")?;
+    assert_told_as(&rt, StateFault::OwnerMoved(4097), "OwnerMoved 4097")?;
+    assert_told_as(&rt, StateFault::FormerOwner, "FormerOwner")?;
     assert_told_as(&rt, StateFault::LifeNarrowed, "LifeNarrowed")?;
     assert_told_as(&rt, StateFault::Full, "Full")?;
     assert_told_as(&rt, StateFault::TooLong, "TooLong")
