@@ -470,10 +470,11 @@ REPORT = {
     "seconds": None,
     "connections": ["open", "accepted"],
     "requests": [
-        "authorize", "consent", "token", "revoke", "introspect", "hooks", "hooks_remove", "hooks_list", "nowhere",
+        "authorize", "consent", "token", "revoke", "introspect", "hooks", "hooks_remove", "owners_end",
+        "hooks_list", "nowhere",
     ],
     "replies": ["200", "302", "400", "401", "403", "404", "405", "503"],
-    "unavailable": ["memory", "store_full", "drawn_twice", "consents_full"],
+    "unavailable": ["memory", "store_full", "client_full", "drawn_twice", "consents_full"],
     "denied_by_hooks": None,
     "records": None,
     "consents": None,

@@ -18,7 +18,8 @@ import state_clocks
 import state_disks
 import state_paths
 from crashes import consents
-from state_format import HEADER, batches_of, changes_of, consented, file_of, first_kind_of, mark_of, next_body, numbered, rules_of, token_issued
+from state_format import (HEADER, batches_of, changes_of, code_given, consented, file_of, first_kind_of, mark_of, next_body, numbered, rules_of, spent,
+                          token_issued)
 from state_trials import LIFE, NotServed, Trials, bytes_of, is_named, without_marks
 
 # The line that tells how much ended beyond the registry, behind how many that were.
@@ -259,6 +260,57 @@ def tries_narrower_registries(trials, content, registry):
         trials.wrong("another name", "refused, and the file was written")
 
 
+def granted(now, family, owner):
+    """Changes: the owner consents, and a code is given and used for a token, whose digest is full of the owner's number."""
+    code, token = bytes([100 + owner]) * 32, bytes([owner]) * 32
+    texts = ("https://app.example/cb", "")
+    return [(now, it) for it in (consented(owner, 1, 1), code_given(family, 1, owner, 1, *texts, code), spent(code),
+                                 token_issued(family, 1, owner, "access", token, 1, 300))]
+
+
+def tries_other_owners(trials, registry):
+    """What an owner granted ends who is left out, and nobody else's. One at another place, and another one at a place, is refused."""
+    now = int(time.time())
+    ann, bob, cat = ({"key": f"{name}-key", "sub": name} for name in ("ann", "bob", "cat"))
+
+    def with_owners(*owners):
+        return {name: value for name, value in registry.items() if name != "gateway"} | {"owners": owners}
+
+    def numbers(*owners):
+        return with_owners(*(dict(owner, number=number) for number, owner in owners))
+
+    def left(path):
+        things = trials.listed("other owners", path)
+        return sorted(it["owner"] for it in things if it["kind"] == "consent"), sorted(it["digest"] for it in things if it["kind"] == "access")
+
+    def file_under(told):
+        return trials.file_of(file_of([rules_of(told), changes_of(granted(now, 1, 1) + granted(now, 2, 2))]))
+
+    places, both = with_owners(ann, bob), ([1, 2], ["01010101", "02020202"])
+    for what, wanted, rules in [("owners who changed places", 1, with_owners(bob, ann)), ("one left out, one behind", 1, with_owners(bob, cat)),
+                                ("the last one left out", 2, with_owners(ann)), ("one called otherwise", 2, with_owners(ann, dict(bob, sub="rob")))]:
+        with open(f"{trials.room}/another.json", "w") as own:
+            json.dump(rules, own)
+        path = file_under(places)
+        before = bytes_of(path)
+        trials.path_refused(what, path, f"OwnerMoved {wanted}", registry=f"{trials.room}/another.json")
+        if bytes_of(path) != before:
+            trials.wrong(what, "refused, and the file was written")
+
+    path = file_under(places)
+    stated = numbers((2, bob), (3, cat), (1, ann))
+    for what, rules in [("another key", with_owners(ann, dict(bob, key="bob-other-key"))), ("one more", with_owners(ann, bob, cat)), ("numbers stated", stated)]:
+        told = under(trials, what, rules, path)
+        if told or left(path) != both:
+            trials.wrong(what, f"{told!r}, {left(path)}")
+    told = under(trials, "one with a number left out", numbers((3, cat), (2, bob)), path)
+    if told != f"oauthd: state: 1{ENDED}\n" or left(path) != ([2], ["02020202"]):
+        trials.wrong("one with a number left out", f"{told!r}, {left(path)}")
+    told = under(trials, "it comes again", stated, path)
+    if left(path) != ([2], ["02020202"]):
+        trials.wrong("it comes again", f"{told!r}, {left(path)}")
+
+
 def main():
     program, given = sys.argv[1:3]
     draws, names = int((sys.argv[3:] + ["400"])[0]), sys.argv[4:]
@@ -276,7 +328,7 @@ def main():
         content = worked_on(trials)
         all_trials = [
             (tries_narrower_registries, content, registry), (tries_the_first_kind, content), (tries_moments, content, registry),
-            (tries_what_is_left, registry),
+            (tries_what_is_left, registry), (tries_other_owners, registry),
             (state_paths.tries_new_files,), (state_paths.tries_other_files,), (state_paths.tries_what_is_no_file, content),
             (state_paths.tries_two_names,), (state_paths.tries_moved_away,), (state_paths.tries_owners, content), (state_paths.tries_order,),
             *((it,) for it in state_clocks.all_trials()), *((it, content) for it in state_disks.all_trials()),

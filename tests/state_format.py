@@ -58,17 +58,30 @@ def mark_of(moment):
     return bytes([MARK]) + moment.to_bytes(8, "big")
 
 
+def short(number):
+    return number.to_bytes(4, "big")
+
+
+def owner_told(place, owner):
+    """What rules tell of an owner: its number, the digest of its key, and that of what it is called, if anything."""
+    owner = owner if isinstance(owner, dict) and "key" in owner else {"key": owner}
+    key, sub = owner["key"], owner.get("sub")
+    digest = bytes.fromhex(key["sha256"]) if isinstance(key, dict) else hashlib.sha256(key.encode()).digest()
+    called = b"\0" if sub is None else b"\1" + hashlib.sha256(sub.encode()).digest()
+    return short(owner.get("number", place)) + digest + called
+
+
 def rules_of(registry):
     """The batch of a registry's rules. `registry` is its JSON, as a dictionary."""
     places = {name: place for place, name in enumerate(registry["scopes"])}
+    owners = registry["owners"]
+    numbered = all(isinstance(owner, dict) and "number" in owner for owner in owners)
 
     def text(it):
-        return len(it).to_bytes(4, "big") + it.encode()
+        return short(len(it)) + it.encode()
 
-    def short(number):
-        return number.to_bytes(4, "big")
-
-    parts = [bytes([RULES]), short(len(registry["scopes"])), *map(text, registry["scopes"]), short(len(registry["owners"])),
+    parts = [bytes([RULES]), short(len(registry["scopes"])), *map(text, registry["scopes"]), short(len(owners)),
+             *(owner_told(place, owner) for place, owner in enumerate(owners, 1)), bytes([numbered, "gateway" in registry]),
              short(len(registry["clients"]))]
     for client in registry["clients"]:
         mask = sum(1 << places[name] for name in client["scope"].split())

@@ -110,10 +110,47 @@ ends 'a hook that is not there' 2 '' 'oauthd: cannot read nowhere\n' start 127.0
 ends 'a hook that is refused' 2 '' 'oauthd: hook b: Verify JumpBack(0)\n' start 127.0.0.1:0 "$registry" --hook a=hook.hex --hook b=back.hex
 ends 'two hooks of one name' 2 '' 'oauthd: hook a: NameTaken\n' start 127.0.0.1:0 "$registry" --hook a=hook.hex --hook2 a=hook.hex
 install -m 640 "$registry" own.json
-said='access_life 300\nrefresh_life 86400\nowners 2\nclients 2\nscopes read write admin\n'
+said='access_life 300\nrefresh_life 86400\nowners 2\nclients 2\nrecords 65536\nconsents 4096\nmemory 16 MB\nscopes read write admin\n'
 ends 'a registry' 0 "$said" '' registry own.json
 chmod 644 own.json
 ends 'a registry that everybody may read' 0 "${said}warning: everybody may read the file\n" '' registry own.json
+
+# filled LENGTH OWNERS MORE: a registry of this length with so many owners and these further members
+filled() {
+    local text
+    text='{"access_life":300,"refresh_life":86400,"operator":"op-key","scopes":["read"],"clients":[],"owners":['
+    text=$text$(seq -f '"u%.0f"' -s , "$2")]$3
+    install -m 640 /dev/null own.json
+    { printf %s "$text"; head -c $(($1 - ${#text} - 1)) /dev/zero | tr '\0' ' '; printf '}'; } >own.json
+}
+# has TITLE OWNERS: the registry is one with so many owners; lacks TITLE FAULT: it is none
+has() {
+    ends "$1" 0 "access_life 300\nrefresh_life 86400\nowners $2\nclients 0\nrecords 65536\nconsents 4096\nmemory 16 MB\nscopes read\n" '' registry own.json
+}
+lacks() {
+    ends "$1" 2 '' "oauthd: Config $2\n" registry own.json
+}
+limits=,'"limits":{}'
+filled 1048576 1 ''
+has 'a registry of 1,048,576 bytes' 1
+filled 1048577 1 ''
+lacks 'one with a byte more' OutOfRange
+filled 1048577 1 "$limits"
+has 'one with limits' 1
+filled 16777216 1 "$limits"
+has 'one of 16,777,216 bytes' 1
+filled 16777217 1 "$limits"
+lacks 'one with limits and a byte more' OutOfRange
+filled 1048576 4096 ''
+has '4,096 owners' 4096
+filled 1048576 4097 ''
+lacks '4,097 owners' 'OutOfRange at owners'
+filled 1048576 65536 "$limits"
+has '65,536 owners with limits' 65536
+filled 1048576 65537 "$limits"
+lacks '65,537 owners' 'OutOfRange at owners'
+head -c 1048577 /dev/zero | tr '\0' ' ' >own.json
+lacks 'a long text of no JSON' OutOfRange
 # state files: none, a new one, one of nobody's, two of older versions, and bytes of an unfinished write; the age is that of a
 # moment that is told
 lists() {

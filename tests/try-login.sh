@@ -16,6 +16,18 @@ if [ "$1" != inside ]; then
 fi
 install_by_page
 
+# A user whom the registry does not list
+python3 - "$(echo carols-password | python3 /usr/local/lib/oauthd/login.py password)" <<'PYTHON'
+import json, sys
+path = "/etc/oauthd-login/login.json"
+with open(path, encoding="utf-8") as file:
+    config = json.load(file)
+config["users"]["carol"] = {"password": sys.argv[1]}
+with open(path, "w", encoding="utf-8") as file:
+    json.dump(config, file)
+PYTHON
+systemctl restart oauthd-login
+
 # The client: https://app.example, by the same nginx
 openssl req -x509 -newkey ec -pkeyopt ec_paramgen_curve:P-256 -nodes -days 30 -subj /CN=app.example \
     -keyout /run/app.key -out /run/app.pem 2>/dev/null
@@ -33,4 +45,5 @@ systemctl reload nginx
 /usr/bin/python3 tests/login/client.py 9100 https://auth.example "$(registered '["clients"][0]["secret"]')" &
 curl -s -o /dev/null --retry 60 --retry-delay 1 --retry-connrefused http://127.0.0.1:9100/ || echo "the client does not answer"
 # Chromium would give itself a higher priority than it was started with.
-setpriv --bounding-set -sys_nice --inh-caps -sys_nice python3 tests/login/browser.py /given/consent.png "$(registered '["owners"][0]')" "$(password_of ann)"
+setpriv --bounding-set -sys_nice --inh-caps -sys_nice python3 tests/login/browser.py /given/consent.png "$(registered '["owners"][0]')" "$(password_of ann)" \
+    "$(registered '["gateway"]')" carols-password

@@ -15,6 +15,9 @@ So an owner's key goes from here to nginx and to oauthd, and never to a browser.
 the key in KEPT.key, so it outlives a restart; it ends after eight hours, when its user signs out, which KEPT.ended tells, and
 when the user gets another password or goes. What owners have allowed is kept in KEPT, and told to oauthd again whenever it
 counts, for oauthd may have forgotten it. A user who denies changes nothing at oauthd: the client hears access_denied, once.
+
+A user of CONFIG with an owner_key is the owner of that key. For one without, CONFIG has the gateway_key of oauthd's registry,
+and the owner's number is drawn here, once, and kept in KEPT.numbers: such users come and go without an edit of the registry.
 """
 import base64
 import hashlib
@@ -35,6 +38,8 @@ SESSION_LIFE = 8 * 3600     # in seconds
 DENIALS = 10000             # of more, the oldest is forgotten: its user is asked again
 TRIES_OF_USER = (10, 30)    # wrong passwords for one user from one address: so many at once, then one in so many seconds
 TRIES = (100, 2)            # and for all users from it
+LEAST_NUMBER = 65537        # of an owner; those below are places in oauthd's registry
+MOST_NUMBER = 4294967295
 HEADERS = (
     ("Cache-Control", "no-store"),
     ("Content-Security-Policy", "default-src 'none'; style-src 'unsafe-inline'; base-uri 'none'; frame-ancestors 'none'"),
@@ -139,6 +144,9 @@ class Login:
         self.listen = config["listen"]
         self.oauthd = config["oauthd"]
         self.users = config["users"]
+        self.gateway_key = config.get("gateway_key")
+        if not self.gateway_key and any(not user.get("owner_key") for user in self.users.values()):
+            sys.exit("a user has no owner_key, and there is no gateway_key")
         self.clients = config["clients"]
         self.scopes = config["scopes"]
         self.kept_file = kept_file
@@ -152,6 +160,7 @@ class Login:
         self.nobody = kept_form(secrets.token_urlsafe(16))
         self.kept = self.read(kept_file)
         self.ended = self.read(kept_file + ".ended")    # the sessions that were left, and until when they would have lasted
+        self.numbers = self.read(kept_file + ".numbers")        # of owners, by their users' names
 
     def read(self, path):
         try:
@@ -245,6 +254,22 @@ class Login:
             self.tries.give_back(address)
         return right
 
+    # What oauthd knows owners by
+
+    def number(self, user):
+        """The number of the user's owner, which is nobody else's: drawn, so that it is no former one, also if the file is lost."""
+        with self.kept_lock:
+            while user not in self.numbers:
+                number = LEAST_NUMBER + secrets.randbelow(MOST_NUMBER - LEAST_NUMBER + 1)
+                if number not in self.numbers.values():
+                    write_whole(self.kept_file + ".numbers", json.dumps({**self.numbers, user: number}).encode())
+                    self.numbers[user] = number
+            return self.numbers[user]
+
+    def key_of(self, user):
+        """What X-Owner-Key is to be for the user: its owner's key, or the gateway's with the number."""
+        return self.users[user].get("owner_key") or f"{self.gateway_key} {self.number(user)}"
+
     # What is asked of oauthd
 
     def ask(self, method, path, headers, body=None):
@@ -280,7 +305,7 @@ class Login:
     def consent(self, user, client, scopes):
         """Tells oauthd that this user lets this client have these scopes, and no others."""
         body = urllib.parse.urlencode({"client_id": client, "scope": " ".join(scopes)})
-        headers = {"X-Owner-Key": self.users[user]["owner_key"], "Content-Type": "application/x-www-form-urlencoded"}
+        headers = {"X-Owner-Key": self.key_of(user), "Content-Type": "application/x-www-form-urlencoded"}
         return self.ask("POST", "/consent", headers, body)[0] == 200
 
     def allow(self, user, client, scopes):
@@ -306,7 +331,7 @@ class Login:
             kept = self.kept.get(session.user, {}).get(client, [])
             if not set(scopes) <= set(kept) or not self.consent(session.user, client, kept):
                 return False
-        return self.users[session.user]["owner_key"]
+        return self.key_of(session.user)
 
 
 def request_in(text):

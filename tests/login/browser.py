@@ -1,8 +1,8 @@
 #!/usr/bin/env python3
-"""Goes through login and consent in Chromium, for tests/try-login.sh: browser.py SCREENSHOT KEY PASSWORD
+"""Goes through login and consent in Chromium, for tests/try-login.sh: browser.py SCREENSHOT KEY PASSWORD GATEWAY OTHER
 
-KEY is the owner's key, which must not reach the browser, PASSWORD the user's. Drives chromedriver by HTTP, with the
-standard library alone."""
+KEY is the key of ann's owner and GATEWAY the gateway's, which must not reach the browser. PASSWORD is ann's, and OTHER that
+of carol, whose owner the gateway names. Drives chromedriver by HTTP, with the standard library alone."""
 import base64
 import http.client
 import json
@@ -10,7 +10,7 @@ import subprocess
 import sys
 import time
 
-screenshot, key, password = sys.argv[1:]
+screenshot, key, password, gateway, other = sys.argv[1:]
 checks, differing = 0, 0
 driver = subprocess.Popen(["chromedriver", "--port=9515", "--silent"], stdout=subprocess.DEVNULL, stderr=subprocess.DEVNULL)
 
@@ -145,9 +145,21 @@ try:
     check("signed-out-with-the-old-cookie", "Who are you?", seen())
     visit("https://app.example/begin?read")
     check("not-signed-in-again", "Who are you?", seen())
+    fill("[name=user]", "carol")
+    fill("[name=password]", other)
+    press("enter")
+    check("another-user", "The example's app asks", seen())
+    press("allow")
+    with open("/var/lib/oauthd-login/allowed.json.numbers", encoding="utf-8") as file:
+        number = json.load(file)["carol"]
+    check("another-user-by-number", f"scope read, active True, refreshed True, sub {number}", text("#told"))
+    subprocess.run(["systemctl", "restart", "oauthd-login"], check=True)
+    time.sleep(1)
+    visit("https://app.example/begin?read")
+    check("the-same-number-after-a-restart", f"scope read, active True, refreshed True, sub {number}", text("#told"))
     log = json.dumps(command("POST", browser + "/se/log", {"type": "performance"}))
     check("log-of-the-network", "True", str("app.example" in log and "X-Frame-Options" in log))
-    check("key-in-the-browser", "False", str(key in log))
+    check("key-in-the-browser", "False", str(key in log or gateway in log))
 finally:
     try:
         command("DELETE", browser)

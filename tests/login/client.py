@@ -55,7 +55,8 @@ class Handler(http.server.BaseHTTPRequestHandler):
                     server + "/introspect", data={"token": second["access_token"]}, withhold_token=True,
                     auth=("app", secret), verify=trusted).json()
                 renewed = first["access_token"] != second["access_token"]
-                self.show(f"scope {told['scope']}, active {told['active']}, refreshed {renewed}")
+                sub = f", sub {told['sub']}" if "sub" in told else ""
+                self.show(f"scope {told['scope']}, active {told['active']}, refreshed {renewed}{sub}")
             except Exception as fault:      # the page says which
                 self.show(f"{type(fault).__name__} {fault}")
         else:
