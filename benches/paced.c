@@ -1,8 +1,8 @@
 /* A client that keeps a pace: the k-th request is due k / RATE seconds after the first, and goes out on the next connection
    that has none under way. How long its reply takes counts from when it was due, so that a server which falls behind shows
    it. Words: a port of 127.0.0.1, how many connections, requests a second, for how many seconds; the request's bytes are
-   standard input. Prints the half, the 99 % and the 99.9 % of the replies' times, in microseconds, and how many replies were
-   not 200. It never sleeps, so it wants a core of its own. */
+   standard input. Prints the half, the 99 % and the 99.9 % of the replies' times and the longest, in microseconds, and how many
+   replies were not 200. It never sleeps, so it wants a core of its own. */
 #define _GNU_SOURCE
 #include <arpa/inet.h>
 #include <errno.h>
@@ -113,6 +113,7 @@ int main(int count, char **words)
         must(now() < start + seconds + 10, "replies in time");
     }
     qsort(times, replies, sizeof *times, in_order);
-    printf("%.0f %.0f %.0f %ld\n", times[replies / 2], times[replies * 99 / 100], times[replies * 999 / 1000], faults);
+    printf("%.0f %.0f %.0f %.0f %ld\n", times[replies / 2], times[replies * 99 / 100], times[replies * 999 / 1000],
+        times[replies - 1], faults);
     return 0;
 }

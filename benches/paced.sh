@@ -54,8 +54,8 @@ print(f"{sys.argv[2] + ' connections, microseconds':34}{'a second':>9}{'nginx: 5
 bad = 0
 for name in ("token", "introspect"):
     rows = [[float(word) for word in line.split()] for line in open(f"{sys.argv[1]}/times.{name}")]
-    rate, *their, faults, half, most, all_but, other = (statistics.median(column) for column in zip(*rows))
-    bad += sum(row[4] + row[8] for row in rows)
+    rate, *their, _, faults, half, most, all_but, _, other = (statistics.median(column) for column in zip(*rows))
+    bad += sum(row[5] + row[10] for row in rows)
     print(f"{'/' + name:34}{rate:9.0f}{their[0]:12.0f}{their[1]:7.0f}{their[2]:8.0f}{half:14.0f}{most:7.0f}{all_but:8.0f}")
 sys.exit(bad > 0)
 MEDIANS

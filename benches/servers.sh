@@ -9,12 +9,13 @@ trap '[ ${#started[@]} = 0 ] || kill "${started[@]}" 2>/dev/null; wait; rm -rf "
 seconds=0.3
 faults=0
 
-# start NAME LIFE [WORD..]: starts a server whose access tokens live so many seconds, with further words; $at is where it
-# listens, $pid its process
+# start NAME LIFE [WORD..]: starts a server whose access tokens live so many seconds, with further words, and with room for
+# $records unexpired ones, where that is said; $at is where it listens, $pid its process
 start() {
     local name=$1 life=$2
     shift 2
-    sed 's/"access_life": *[0-9]*/"access_life": '"$life"'/' examples/registry.json >"$room/$name.json"
+    sed -e 's/"access_life": *[0-9]*/"access_life": '"$life"'/' \
+        ${records:+-e 's/"scopes"/"limits": {"records": '"$records"'}, "scopes"/'} examples/registry.json >"$room/$name.json"
     : >"$room/$name.out"
     "$program" start 127.0.0.1:0 "$room/$name.json" "$@" >"$room/$name.out" 2>"$room/$name.err" &
     pid=$!
