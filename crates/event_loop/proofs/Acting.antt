@@ -68,8 +68,8 @@ module _ {N C J K H : Type 0} (p : Promises N C J K H) (k : ℕ) (place : Place)
 
     writes_once : (s' : LoopState N C J K H) → WritesPlace p k place s s' → ActsOnce (to_write k) s s'
     writes_once s' (writing.sends count front n e on some is done) =
-        writes (call.Bytes front) (record place { since = s.times.steady }) n (led s.progress on) (λ j. takes_other s.progress.journey.world on.world k j count on.happens)
-        (takes_kept s.progress.journey.world on.world k count on.happens) (put_within s.limits.idle s.times s.places k (record place { since = s.times.steady }) (λ _. omega arith))
+        writes (call.Bytes front) (record place { since = s.times.steady; turn = s.turn }) n (led s.progress on) (λ j. takes_other s.progress.journey.world on.world k j count on.happens)
+        (takes_kept s.progress.journey.world on.world k count on.happens) (put_within s.limits.idle s.times s.places k (record place { since = s.times.steady; turn = s.turn }) (λ _. omega arith))
     writes_once s' (writing.finds_no_room n done) =
         writes call.Nothing (record place { writable = false }) n s.progress (λ j other. refl) (λ was. was) (silent (record place { writable = false }) refl)
     writes_once s' (writing.fails n done) =

@@ -144,8 +144,8 @@ module _ {N C J K H : Type 0} where
         record {
           reached = on.reached;
           exchanges =
-              at_places _ j (record place { since = s.times.steady }) refl
-              (λ taken'. exchange_of _ j (record place { since = s.times.steady }) _ _ x.lost refl (wrote_here j room front s.calls) t' (λ is_open stays. x.whole is_open (sym (closing_taken s.progress.journey.world on.world j count on.happens) ∙ stays)))
+              at_places _ j (record place { since = s.times.steady; turn = s.turn }) refl
+              (λ taken'. exchange_of _ j (record place { since = s.times.steady; turn = s.turn }) _ _ x.lost refl (wrote_here j room front s.calls) t' (λ is_open stays. x.whole is_open (sym (closing_taken s.progress.journey.world on.world j count on.happens) ∙ stays)))
               (λ k other. takes_other s.progress.journey.world on.world j k count on.happens other) (λ k other. refl) (λ k other. wrote_other j k room front s.calls other);
         }
     writes_answered j place s' here taken (writing.finds_no_room n done) =

@@ -2,7 +2,7 @@
 use Rattle.std.proofs.Common.{◌≡◌, ◌≢◌, ◌⊎◌, inl, inr, ◌<◌, ◌≤◌, ◌+◌, ℕ, suc, List, Option, Some, [], length, refl, sym, ap, subst, ◌∙◌, arith, slice_get, slice_set}
 use Rattle.event_loop.proofs.Names.{Place, IsOccupied, Cause, slice_get_within, Promises, LoopState, Free, Service, Ready, Tools, Accepting, Shortening, Call, IsDone, IsIdle, IsKeptShort, IsPatient, MayWait, Served, goes}
 use Rattle.event_loop.proofs.Names.{closes, DoneMore, DoneAfter, Past, IsCalm, OnlyTells, IsLimit, IsReadyToWait, LeadsAway, LeadsToShort, SettlesAll, AreAllSettled, MayRest}
-use Rattle.event_loop.proofs.Names.{Running, running, state_of, Told, Queue, waits_done}
+use Rattle.event_loop.proofs.Names.{Running, running, state_of, Told, Queue, waits_done, Reached, World, Times, IsRoomMadeIn}
 use Rattle.event_loop.specs.Served as served
 use Rattle.change_codec.specs.declared.keeper.Length.{Length}
 use Rattle.change_codec.specs.declared.keeper.Length.TheVariants.{Short, Long}
@@ -25,14 +25,14 @@ is_idle p service tools past size settled rest short = record {
 
 module _ {N C J K H : Type 0} (p : Promises N C J K H) where
   pub leaves_to : (k : _) (place : Place) (service : Service) (tools : Tools N C J K H) (service' : Service) (tools' : Tools N C J K H) → slice_get service.places k ≡ Some place → IsOccupied place.stage →
-      ((found : List Ready) (past : Past H) → Cause (state_of (running service tools) found past) k place) → LeadsAway p k place (running service tools) (running service' tools') →
+      ((found : List Ready) (past : Past H) → Reached p.hosting tools.edge past.journey → Cause (state_of (running service tools) found past) k place) → LeadsAway p k place (running service tools) (running service' tools') →
       service'.places ≡ slice_set service.places k (record place { stage = Free }) → service'.due ≡ service.due → SettlesAll p (running service tools) (running service' tools')
   leaves_to k place service tools service' tools' here taken cause leads places due found first past served settled =
       let reached = (served_answered p first _ served).reached in
       let away = leads found past reached in
       record {
         next = away.next;
-        served = goes served (closes k place _ here taken (cause found past) away.closes);
+        served = goes served (closes k place _ here taken (cause found past reached) away.closes);
         settled =
             all_settled k service past service' away.next
             (put_others k service service' (record place { stage = Free }) past.journey.world away.next.journey.world places (λ j other. ap (λ l. slice_get l j) due) (closes_other p k place _ _ away.closes))
@@ -61,6 +61,7 @@ ready_still service past service' calls same done ready =
       settled = settled_still service past still (record past { calls = calls }) refl refl refl done ready.settled;
       queue = elim ready.queue [ inl not ↦ inl not | inr tried ↦ inr (done.keeps Accepting tried) ];
       calm = record { idle = ready.calm.idle; crowded = ready.calm.crowded; tried = ready.calm.tried };
+      room = ready.room;
       reported = ready.reported;
     })
 
@@ -92,7 +93,7 @@ may_wait p a b s t told limit room before same is_limit roomy shorter first past
       may = record {
         patient = is_patient p b t next told limit size ready now.sliced now.rests now.short is_limit;
         fair = record { places = λ k place here. (let within = slice_get_within b.places k place here in (ready.settled k (omega (arith, size, within))).turned place here); queue = ready.queue };
-        prompt = record { idle = ready.calm.idle; crowded = ready.calm.crowded; tried = ready.calm.tried; reported = ready.reported };
+        prompt = record { idle = ready.calm.idle; crowded = ready.calm.crowded; brief = ready.room; tried = ready.calm.tried; reported = ready.reported };
         heard = refl;
         roomy = roomy;
         short = sliced_or_short told now.sliced now.rests;
@@ -104,6 +105,14 @@ may_wait p a b s t told limit room before same is_limit roomy shorter first past
 pub round_done : (a b c d e : List Call) → DoneAfter a b → DoneAfter b c → DoneAfter c d → DoneAfter d e → DoneAfter a e
 round_done a b c d e one two three four = done_then a c e (done_then a b c one two) (done_then c d e three four)
 
+-- where what came with a wait is the same, so is the state behind it
+pub waited_on : {N C J K H : Type 0} (p : Promises N C J K H) (first : LoopState N C J K H) (service : Service) (times : Times) (tools : Tools N C J K H) (found : List Ready) (past : Past H) (held held' turn turn' : ℕ) →
+    held' ≡ held → turn' ≡ turn → Served p first (state_of (running (record service { times = times; held = held; turn = turn }) tools) found past) →
+    Served p first (state_of (running (record service { times = times; held = held'; turn = turn' }) tools) found past)
+waited_on p first service times tools found past held held' turn turn' one two served =
+    subst (λ (m : ℕ). Served p first (state_of (running (record service { times = times; held = m; turn = turn' }) tools) found past)) (sym one)
+    (subst (λ (n : ℕ). Served p first (state_of (running (record service { times = times; held = held; turn = n }) tools) found past)) (sym two) served)
+
 -- there was one wait more
 pub one_wait : (past next since later : List Call) → waits_done next ≡ waits_done past → waits_done since ≡ suc (waits_done next) → DoneAfter since later → waits_done later ≡ waits_done past + 1
 one_wait past next since later before one done = (let more = done.more.waits in omega (arith, before, one, more))
@@ -111,6 +120,10 @@ one_wait past next since later before one done = (let more = done.more.waits in 
 -- where what is told alone became other, all else is as calm
 pub calm_told : (service service' : Service) → OnlyTells service service' → IsCalm service → IsCalm service'
 calm_told service service' same calm = rw same (record { idle = calm.idle; crowded = calm.crowded; tried = calm.tried })
+
+-- and there is as much room
+pub room_told : (service service' : Service) (world : World) → OnlyTells service service' → IsRoomMadeIn service world → IsRoomMadeIn service' world
+room_told service service' world same room = rw same (λ waits. room waits)
 
 -- nobody is to be accepted, or it was tried
 pub told_or_not : {P : Type 0} (queue : Queue) → (queue ≡ Told → P) → (queue ≢ Told) ⊎ P

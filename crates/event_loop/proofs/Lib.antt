@@ -14,3 +14,4 @@ pub mod Leaving
 pub mod Slicing
 pub mod Moments
 pub mod Names
+pub mod Rooming

@@ -1,12 +1,12 @@
 -- The names of other crates that more than one file of these proofs uses.
 pub use Rattle.event_loop.specs.Names.{IsFrontOf, Holds, Keeps, KeepsBasis, Leaves, TellsBasis, HoldsBasis, Until, Event, Write, Refused, LoopFault, Ended, Broken, Free, Open, Queue, Told}
-pub use Rattle.event_loop.specs.Names.{Empty, Barred, Ready, Hosting, SeenEdge, is_closing, Journey, Reached, led_on, connection_at, piece_of, untaken, Piece, World, Connection, Opened, Forgotten}
-pub use Rattle.event_loop.specs.Names.{HasEnded}
+pub use Rattle.event_loop.specs.Names.{Empty, Barred, Waits, Ready, Hosting, SeenEdge, is_closing, Journey, Reached, led_on, connection_at, piece_of, untaken, Piece, World, Connection, Opened, Forgotten}
+pub use Rattle.event_loop.specs.Names.{HasEnded, InEach}
 pub use Rattle.change_codec.specs.Keeping.{Crashes, Basis, LeavesEither}
 pub use Rattle.change_codec.specs.Keepers.{keeping}
 pub use Rattle.endpoints.specs.Server.{Outset, AreUnkept}
 pub use Rattle.event_loop.specs.Calls.{CallKind, IsDone, Transfer, Reading, Writing, Call, Keeping, Shortening, done_since, Wrote, waits as waits_done, Accepting}
-pub use Rattle.event_loop.specs.Closing.{AreWithin, Closes, leaves, Cause, gives_way, freed_queue, is_silent}
+pub use Rattle.event_loop.specs.Closing.{AreWithin, Closes, leaves, Cause, gives_way, makes_room, freed_queue, is_silent, IsBehindReply}
 pub use Rattle.event_loop.specs.Coming.{opens, denies, fresh_place, finds_nobody, asks}
 pub use Rattle.event_loop.specs.Durable.{Carries, Onward, stays, onward, KeeperHolds, StandsBetween, IsWriteKept, MomentIsHeld, MomentStays}
 pub use Rattle.event_loop.specs.Ends.{CannotGoOn, no_wait, no_time, too_far, no_moment, not_kept, not_shortened, no_more}
@@ -15,7 +15,7 @@ pub use Rattle.event_loop.specs.GivingParts.{GivesOn, progress_of}
 pub use Rattle.event_loop.specs.Goes.{Running, Standing, Past, Duty, DoneMore, DoneAfter, ActsAt, IsReadyFor, state_of, to_read, to_write, LeadsOn, standing, LeavesOthers, HoldsAt, LeadsToActs, LeadsToTidy}
 pub use Rattle.event_loop.specs.Goes.{LeadsToSettled, LeadsToAccepts, GoesReading, GoesKept, GoesWriting, LeadsToKept, LeadsWriting, StaysIdle, SettlesAt, TidiesAt, IsHeardAt, IsRestedAt, IsRested}
 pub use Rattle.event_loop.specs.Goes.{IsSettledAt, GoesSettled, running, IsCalm, NobodyIsSilent, OnlyTells, IsLimit, IsReadyToWait, LeadsAway, GoesShorter, LeadsToShort, SettlesAll}
-pub use Rattle.event_loop.specs.Goes.{AreAllSettled}
+pub use Rattle.event_loop.specs.Goes.{AreAllSettled, IsRoomMadeIn, WhereKnown}
 pub use Rattle.event_loop.specs.Goes.{MayRest, IsToldAs, IsWorkLeft, a_read, a_write, IsLeftAt, noted_in, LeadsToHearing, LeadsShut, LeadsReading, LeadsRound, GoesRound, IsInTime}
 pub use Rattle.event_loop.specs.LoopStates.{Promises, LoopState, IsAllKept, with_call, with_place, IsUnkept, promises}
 pub use Rattle.event_loop.specs.Noting.{Noted, notes_it, passes}

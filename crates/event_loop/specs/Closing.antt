@@ -1,6 +1,6 @@
 -- How connections are closed.
-use Rattle.std.specs.Prelude.{◌≡◌, ◌≤◌, ◌<◌, ◌-◌, ℕ, List, Some, slice_get}
-use Rattle.event_loop.specs.Names.{Forgotten, SeenEdge, GoesOn, Free, Queue, Told, Empty, Barred, Asked, Waits}
+use Rattle.std.specs.Prelude.{◌≡◌, ◌≤◌, ◌<◌, ◌-◌, ℕ, List, [], Option, Some, slice_get}
+use Rattle.event_loop.specs.Names.{Connection, connection_at, untaken, Forgotten, SeenEdge, GoesOn, Free, Queue, Told, Empty, Barred, Asked, Waits}
 use Rattle.event_loop.specs.declared.clocks.Times.{Times}
 use Rattle.event_loop.specs.declared.place.Place.{Place}
 use Rattle.event_loop.specs.Calls as call
@@ -17,13 +17,34 @@ IsSilentLongest places place = (j : ℕ) (other : Place) → slice_get places j 
 abbrev pub AreWithin : ℕ → Times → List Place → Type 0
 AreWithin limit times places = (k : ℕ) (place : Place) → slice_get places k ≡ Some place → IsOccupied place.stage → times.steady - place.since ≤ limit
 
+-- It is right behind a reply: since the last wait it took the last of its output, so no reply is owed to it.
+pub record IsBehindReply (turn : ℕ) (place : Place) (connection : Option Connection) : Type 0 where
+  pub taken : IsOccupied place.stage
+  pub lately : place.turn ≡ turn
+  pub nothing_owed : untaken connection ≡ []
+
+-- it holds of the connection at the place, and of none that came before
+pub record IsEldest (P : Place → Option Connection → Type 0) (places : List Place) (connections : List Connection)
+    (k : ℕ) (place : Place) : Type 0 where
+  pub holds : P place (connection_at connections k)
+  pub eldest : (j : ℕ) (other : Place) → slice_get places j ≡ Some other → P other (connection_at connections j) →
+      place.came ≤ other.came
+
+-- each of which it holds came within so many seconds
+abbrev pub AreBrief : (Place → Option Connection → Type 0) → ℕ → Times → List Place → List Connection → Type 0
+AreBrief P limit times places connections = (k : ℕ) (place : Place) → slice_get places k ≡ Some place →
+    P place (connection_at connections k) → times.steady - place.came ≤ limit
+
 -- Why the connection at a place is closed: it is over; it took no byte of a reply for longer than the limit; or all places
--- are taken, another connection waits, and it is silent longest, for longer than the other limit. Of the seconds that are
--- counted the first may be short, so more are counted than the limit has.
+-- are taken, another connection waits, and it is silent longest, for longer than the other limit, or it is there for longer
+-- than that, however busy, and longest of those that are right behind a reply. Of the seconds that are counted the first may be
+-- short, so more are counted than the limit has.
 pub data Cause {N C J K H : Type 0} (s : LoopState N C J K H) (k : ℕ) (place : Place) : Type 0 where
   is_over : IsOver place (known s.progress k) → Cause s k place
   is_silent : s.limits.idle < s.times.steady - place.since → Cause s k place
   gives_way : s.queue ≡ Waits → s.limits.crowded < s.times.steady - place.since → IsSilentLongest s.places place → Cause s k place
+  makes_room : s.queue ≡ Waits → s.limits.crowded < s.times.steady - place.came →
+      IsEldest (IsBehindReply s.turn) s.places s.progress.journey.world.connections k place → Cause s k place
 
 -- the queue when a connection went
 abbrev pub freed_queue : Queue → Queue

@@ -9,9 +9,9 @@ use Rattle.event_loop.specs.Noting.{Noted, NotesFault}
 use Rattle.event_loop.specs.Places.{IsFreeAt, AllTaken, places_limit}
 use Rattle.event_loop.specs.LoopStates.{Promises, LoopState, with_call, with_place}
 
--- a place whose connection came now, from which nothing was told to come yet
+-- a place whose connection came now, from which nothing was told to come yet, and which took nothing yet
 abbrev pub fresh_place : ℕ → Place
-fresh_place now = record { stage = Open; readable = false; writable = true; hung = false; since = now }
+fresh_place now = record { stage = Open; readable = false; writable = true; hung = false; since = now; came = now; turn = 0 }
 
 -- the queue when the listener was found ready
 abbrev pub told_queue : Queue → Queue
@@ -19,7 +19,7 @@ told_queue Empty = Told
 told_queue Asked = Waits
 told_queue queue = queue
 
--- one connection more came, as far as can be counted
+-- one more, as far as can be counted
 abbrev pub one_more : ℕ → ℕ
 one_more count = min (count + 1) (2 ^ 64 - 1)
 

@@ -13,7 +13,7 @@ use Rattle.change_codec.specs.declared.keeper.Length.TheVariants.{Short, Long}
 use Rattle.event_loop.specs.Noting.{Noted}
 use Rattle.event_loop.specs.Places.{IsOccupied, MayRead, MayWrite, NeedsNoRead, NeedsNoWrite, IsOver, IsPlaceAtRest, AllFree}
 use Rattle.event_loop.specs.LoopStates.{Promises, LoopState, IsAllKept}
-use Rattle.event_loop.specs.Closing.{IsSilentLongest, AreWithin, Closes, freed_queue}
+use Rattle.event_loop.specs.Closing.{AreBrief, IsBehindReply, IsEldest, IsSilentLongest, AreWithin, Closes, freed_queue}
 use Rattle.event_loop.specs.Reporting.{Tells}
 use Rattle.event_loop.specs.Served.{HadTurn, IsKeptShort, Served, Shuts, TellsLast}
 use Rattle.event_loop.specs.Ends.{CannotGoOn}
@@ -68,6 +68,7 @@ state_of now found past = record {
   refused = now.service.refused;
   began = now.service.began;
   accepted = now.service.accepted;
+  turn = now.service.turn;
   calls = past.calls;
 }
 
@@ -128,6 +129,18 @@ pub record IsLongestAt (places : List Place) (found : ℕ × Place) : Type 0 whe
   pub here : slice_get places found.0 ≡ Some found.1
   pub taken : IsOccupied found.1.stage
   pub longest : IsSilentLongest places found.1
+
+-- where another connection waits, nobody is there for longer than the limit who is right behind a reply
+abbrev pub IsRoomMadeIn : Service → World → Type 0
+IsRoomMadeIn service world =
+    service.queue ≡ Waits → AreBrief (IsBehindReply service.turn) service.limits.crowded service.times service.places world.connections
+
+-- the connection at the place is right behind a reply, and there for longer than the limit, and none that is so came before it
+pub record IsEldestAt {H : Type 0} (hosting : Hosting H) (edge : SeenEdge H) (service : Service) (found : ℕ × Place) : Type 0 where
+  pub within : found.0 < 64
+  pub here : slice_get service.places found.0 ≡ Some found.1
+  pub late : service.limits.crowded < service.times.steady - found.1.came
+  pub eldest : InEach hosting edge (λ world. IsEldest (IsBehindReply service.turn) service.places world.connections found.0 found.1)
 
 -- the other places are as they were, and so are their connections
 pub record LeavesOthers (k : ℕ) (service : Service) (world : World) (service' : Service) (world' : World) : Type 0 where
@@ -235,6 +248,7 @@ pub record IsReadyToWait {H : Type 0} (service : Service) (past : Past H) : Type
   pub settled : AreAllSettled service past
   pub queue : service.queue ≢ Told ⊎ IsDone Accepting past.calls
   pub calm : IsCalm service
+  pub room : IsRoomMadeIn service past.journey.world
   pub reported : IsReported service
 
 -- HOW THE PARTS LEAD ON

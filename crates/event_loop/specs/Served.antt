@@ -10,10 +10,10 @@ use Rattle.event_loop.specs.Progress.{known, led, IsReached}
 use Rattle.http_edge.specs.Schedule.{Kept}
 use Rattle.event_loop.specs.Places.{IsOccupied, MayRead, MayWrite, NeedsNoRead, NeedsNoWrite, IsOver, IsPlaceAtRest, AllFree, places_limit, ready_limit}
 use Rattle.event_loop.specs.LoopStates.{Promises, LoopState, IsAllKept, IsUnkept, with_call, with_place}
-use Rattle.event_loop.specs.Coming.{AcceptsOne, told_queue}
+use Rattle.event_loop.specs.Coming.{AcceptsOne, one_more, told_queue}
 use Rattle.event_loop.specs.Reading.{ReadsPlace}
 use Rattle.event_loop.specs.Writing.{WritesPlace}
-use Rattle.event_loop.specs.Closing.{AreWithin, Cause, Closes}
+use Rattle.event_loop.specs.Closing.{AreBrief, AreWithin, Cause, Closes, IsBehindReply}
 use Rattle.event_loop.specs.Reporting.{IsDue, Tells, TellsRefusal, is_long_ago}
 use Rattle.event_loop.specs.Moments.{KeepsTimes, seconds_too_far}
 use Rattle.event_loop.specs.declared.report.LastTold.{LastTold}
@@ -42,11 +42,12 @@ pub record IsFair {N C J K H : Type 0} (s : LoopState N C J K H) : Type 0 where
   pub queue : s.queue ≢ Told ⊎ IsDone Accepting s.calls
 
 -- As the clocks told last, nobody is silent for longer than the limit, nor, where another connection waits for a place, for
--- longer than the other limit; where an accept failed and was not tried again, it failed in this second; and where reports
+-- longer than the other limit, nor is anybody there for longer who is right behind a reply; where an accept failed and was not tried again, it failed in this second; and where reports
 -- are wanted, one was told in this second, or less than so many seconds ago.
 pub record IsPrompt {N C J K H : Type 0} (s : LoopState N C J K H) : Type 0 where
   pub idle : AreWithin s.limits.idle s.times s.places
   pub crowded : s.queue ≡ Waits → AreWithin s.limits.crowded s.times s.places
+  pub brief : s.queue ≡ Waits → AreBrief (IsBehindReply s.turn) s.limits.crowded s.times s.places s.progress.journey.world.connections
   pub tried : (since : ℕ) → s.queue ≡ Barred since → since ≡ s.times.steady
   pub reported : (every : ℕ) → s.limits.report ≡ Some every → s.told.report ≡ s.times.steady ⊎ s.times.steady - s.told.report < every
 
@@ -84,7 +85,7 @@ pub data LoopStep {N C J K H : Type 0} (p : Promises N C J K H) (s : LoopState N
       p.sockets.does s.sockets (call.Waited limit room found) n → p.clocks.tells s.clocks (Some times) c →
       seconds_too_far s.limits.ahead (Some times) s.held ≡ None → KeepsTimes p.keeping.crashes times s.keeper keeper →
       IsNoFurther p.keeping.to_go p.keeping.size s.keeper keeper → LoopStep p s (record (with_call s (call.Waited limit room found) n)
-      { clocks = c; keeper = keeper; found = found; times = times; held = max s.held times.moment })
+      { clocks = c; keeper = keeper; found = found; times = times; held = max s.held times.moment; turn = one_more s.turn })
   hears_of_listener : (more : List Ready) → s.found ≡ ready.Listener ∷ more → LoopStep p s (record s { found = more; queue = told_queue s.queue })
   hears_of : (k : ℕ) (readable writable hung : Bool) (more : List Ready) (place place' : Place) → s.found ≡ ready.Connection k readable writable hung ∷ more →
       slice_get s.places k ≡ Some place → place' ≡ told_place place readable writable hung → LoopStep p s (record (with_place s k place') { found = more })
@@ -132,6 +133,7 @@ pub record IsFirst {N C J K H : Type 0} (p : Promises N C J K H) (s : LoopState 
   pub refused : s.refused ≡ None
   pub began : s.began ≡ s.times.steady
   pub accepted : s.accepted ≡ 0
+  pub turn : s.turn ≡ 0
   pub queue : s.queue ≡ Empty
   pub calls : s.calls ≡ []
   pub reached : IsReached p.hosting s.progress

@@ -1,8 +1,9 @@
 //! Accepting connections.
-ghost use Rattle.std.specs.Prelude.{◌≡◌, ◌<◌, ⊤, Some, IfSome, IfNone};
-ghost use Rattle.event_loop.specs.declared.queue.Queue.TheVariants.{Told};
+ghost use Rattle.std.specs.Prelude.{◌≡◌, ◌≢◌, ◌<◌, ⊤, Some, IfSome, IfNone};
+ghost use Rattle.event_loop.specs.declared.queue.Queue.TheVariants.{Told, Waits};
+ghost use Rattle.http_edge.specs.Reached.{InEach};
 ghost use Rattle.event_loop.specs.Places.{IsFreeAt, AllTaken};
-ghost use Rattle.event_loop.specs.Goes.{IsCalm, LeadsToAccepts, running, keeping, promises};
+ghost use Rattle.event_loop.specs.Goes.{IsCalm, IsRoomMadeIn, LeadsToAccepts, running, keeping, promises};
 
 use crate::fault::ConnectionFault;
 use crate::limits::PLACES;
@@ -37,6 +38,7 @@ impl<N: Sockets, C: Clocks, J: Journal, K: Keeper, H: HookHost> Tools<N, C, J, K
         requires told { service.old.queue ≡ Told }
         ensures leads { LeadsToAccepts (promises N.Sockets C.Clocks J.Journal (keeping K.Keeper) H.HookHost) ⊤ (running service.old self.old) (running service.new self.new) }
         ensures calm { IsCalm service.old → IsCalm service.new }
+        ensures taken { service.new.queue ≢ Waits }
     {
         match self.sockets.accept(k) {
             Accepted::Taken => match self.edge.event(Event::Open(ConnectionNo::new(k))) {
@@ -47,6 +49,8 @@ impl<N: Sockets, C: Clocks, J: Journal, K: Keeper, H: HookHost> Tools<N, C, J, K
                         writable: true,
                         hung: false,
                         since: service.times.steady,
+                        came: service.times.steady,
+                        turn: 0,
                     };
                     service.accepted = service.accepted.saturating_add(1);
                 }
@@ -79,6 +83,7 @@ impl<N: Sockets, C: Clocks, J: Journal, K: Keeper, H: HookHost> Tools<N, C, J, K
     pub(crate) fn admit_all(&mut self, service: &mut Service)
         ensures leads { LeadsToAccepts (promises N.Sockets C.Clocks J.Journal (keeping K.Keeper) H.HookHost) (service.new.queue ≡ Told) (running service.old self.old) (running service.new self.new) }
         ensures calm { IsCalm service.old → IsCalm service.new }
+        ensures room { InEach H.HookHost self.old.edge (IsRoomMadeIn service.old) → InEach H.HookHost self.new.edge (IsRoomMadeIn service.new) }
     {
         for _nth in 0..PLACES {
             let Queue::Told = service.queue else {

@@ -1,7 +1,13 @@
 //! What holds of every run of the loop.
 
+ghost use Rattle.std.specs.Prelude.{◌≡◌, ℕ, Some, slice_get};
 ghost use Rattle.change_codec.specs.Keepers.{keeping};
+ghost use Rattle.event_loop.specs.declared.place.Place.{Place};
+ghost use Rattle.event_loop.specs.Answered.{HasAllReplies};
+ghost use Rattle.event_loop.specs.Closing.{IsBehindReply};
 ghost use Rattle.event_loop.specs.LoopStates.{LoopState, promises};
+ghost use Rattle.event_loop.specs.Progress.{known};
+ghost use Rattle.event_loop.specs.Served.{Served};
 ghost use Rattle.event_loop.specs.Slices.{IsNoLonger, LongOnward};
 
 use crate::clocks::Clocks;
@@ -17,4 +23,11 @@ pub fn a_shortening_ends<N: Sockets, C: Clocks, J: Journal, K: Keeper, H: HookHo
     ensures { (s s' : LoopState N C J K H)
         → LongOnward (promises N.Sockets C.Clocks J.Journal (keeping K.Keeper) H.HookHost) s s'
         → IsNoLonger (promises N.Sockets C.Clocks J.Journal (keeping K.Keeper) H.HookHost) s s' }
+{}
+
+/// Who is right behind a reply has had all of them, to all that was read of its connection: so no reply is owed to who makes room.
+pub fn who_makes_room_is_answered<N: Sockets, C: Clocks, J: Journal, K: Keeper, H: HookHost>()
+    ensures { (first s : LoopState N C J K H) → Served (promises N.Sockets C.Clocks J.Journal (keeping K.Keeper) H.HookHost) first s
+        → (k : ℕ) (place : Place) → slice_get s.places k ≡ Some place → IsBehindReply s.turn place (known s.progress k)
+        → HasAllReplies s k }
 {}

@@ -36,8 +36,8 @@ impl Service {
 }
 
 impl<N: Sockets, C: Clocks, J: Journal, K: Keeper, H: HookHost> Tools<N, C, J, K, H> {
-    // Closes and forgets a connection, and notes its fault.
-    fn leave(&mut self, service: &mut Service, k: u32, place: Place)
+    /// Closes and forgets a connection, and notes its fault.
+    pub(crate) fn leave(&mut self, service: &mut Service, k: u32, place: Place)
         requires bound { k < 64 }
         ensures away { LeadsAway (promises N.Sockets C.Clocks J.Journal (keeping K.Keeper) H.HookHost) k place (running service.old self.old) (running service.new self.new) }
         ensures rest { FreesPlace k place service.old service.new }

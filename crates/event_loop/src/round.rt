@@ -106,6 +106,7 @@ impl<N: Sockets, C: Clocks, J: Journal, K: Keeper, H: HookHost> Tools<N, C, J, K
         let is_same_second = steady == service.times.steady;
         service.times = Times { moment, steady };
         service.held = later(service.held, moment);
+        service.turn = service.turn.saturating_add(1);
         self.hear_all(service, &found[..count]);
         self.read_all(service);
         if let Err(fault) = self.keep_all() {
@@ -114,6 +115,7 @@ impl<N: Sockets, C: Clocks, J: Journal, K: Keeper, H: HookHost> Tools<N, C, J, K
         self.write_all(service);
         self.tidy(service, is_same_second);
         self.make_room(service);
+        self.retire_eldest(service);
         self.admit_all(service);
         self.tell(service);
         Ok(())

@@ -33,6 +33,8 @@ pub struct Service {
     pub(crate) began: u64,
     // How many connections came.
     pub(crate) accepted: u64,
+    // Which turn it is: how often it waited.
+    pub(crate) turn: u64,
     // For how many requests the store was full, as was looked at last.
     pub(crate) full: u64,
     // When the journal was told last of what the server does.
@@ -56,6 +58,7 @@ impl Service {
         ensures refused { result.refused ≡ None }
         ensures began { result.began ≡ times.steady }
         ensures accepted { result.accepted ≡ 0 }
+        ensures turn { result.turn ≡ 0 }
     {
         let steady = times.steady;
         Service {
@@ -69,6 +72,7 @@ impl Service {
             noted: None,
             began: steady,
             accepted: 0,
+            turn: 0,
             full: 0,
             told: LastTold {
                 report: steady,

@@ -59,6 +59,7 @@ impl<N: Sockets, C: Clocks, J: Journal, K: Keeper, H: HookHost> Tools<N, C, J, K
         requires wanted { IsSome service.old.limits.report }
         ensures leads { SettlesAll (promises N.Sockets C.Clocks J.Journal (keeping K.Keeper) H.HookHost) (running service.old self.old) (running service.new self.new) }
         ensures rest { OnlyTells service.old service.new }
+        ensures edge { self.new.edge ≡ self.old.edge }
         ensures report { service.new.told.report ≡ service.old.told.report }
     {
         let full = self.edge.server().tally().wanted.store_room;
@@ -78,6 +79,7 @@ impl<N: Sockets, C: Clocks, J: Journal, K: Keeper, H: HookHost> Tools<N, C, J, K
         requires wanted { service.old.limits.report ≡ Some every }
         ensures leads { SettlesAll (promises N.Sockets C.Clocks J.Journal (keeping K.Keeper) H.HookHost) (running service.old self.old) (running service.new self.new) }
         ensures rest { OnlyTells service.old service.new }
+        ensures edge { self.new.edge ≡ self.old.edge }
         ensures reported { IsReported service.new }
     {
         if service.times.steady.saturating_sub(service.told.report) < every {
@@ -92,6 +94,7 @@ impl<N: Sockets, C: Clocks, J: Journal, K: Keeper, H: HookHost> Tools<N, C, J, K
     pub(crate) fn tell(&mut self, service: &mut Service)
         ensures leads { SettlesAll (promises N.Sockets C.Clocks J.Journal (keeping K.Keeper) H.HookHost) (running service.old self.old) (running service.new self.new) }
         ensures rest { OnlyTells service.old service.new }
+        ensures edge { self.new.edge ≡ self.old.edge }
         ensures reported { IsReported service.new }
     {
         let Some(every) = service.limits.report else {

@@ -30,7 +30,12 @@ impl<N: Sockets, C: Clocks, J: Journal, K: Keeper, H: HookHost> Tools<N, C, J, K
             Sent::Bytes(count) => {
                 self.edge.take(connection, count);
                 let since = service.times.steady;
-                service.places[i] = Place { since, ..place };
+                let turn = service.turn;
+                service.places[i] = Place {
+                    since,
+                    turn,
+                    ..place
+                };
             }
             Sent::Later => {
                 let writable = false;

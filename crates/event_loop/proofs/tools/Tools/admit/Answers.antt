@@ -74,3 +74,15 @@ returns-in-Later-clause-calm g c = λ calm. record { idle = calm.idle; crowded =
 
 pub returns-in-Failed-clause-calm : goal.returns-in-Failed-clause-calm
 returns-in-Failed-clause-calm g c = λ calm. record { idle = calm.idle; crowded = λ waits. absurd (cc); tried = λ since barred. cc }
+
+pub returns-in-Ok-clause-taken : goal.returns-in-Ok-clause-taken
+returns-in-Ok-clause-taken g c = λ waits. (let not = sym c.requires.told ∙ waits in absurd (cc))
+
+pub returns-in-Err-clause-taken : goal.returns-in-Err-clause-taken
+returns-in-Err-clause-taken g c = λ waits. (let not = sym c.requires.told ∙ waits in absurd (cc))
+
+pub returns-in-Later-clause-taken : goal.returns-in-Later-clause-taken
+returns-in-Later-clause-taken g c = λ waits. absurd (cc)
+
+pub returns-in-Failed-clause-taken : goal.returns-in-Failed-clause-taken
+returns-in-Failed-clause-taken g c = λ waits. absurd (cc)

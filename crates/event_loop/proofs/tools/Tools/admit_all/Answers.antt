@@ -13,6 +13,7 @@ loop-nth-init g c = record {
     tried = λ less. absurd (omega (arith, less));
   };
   calm = λ calm. calm;
+  room = λ was. was;
 }
 
 pub loop-nth-preserved : goal.loop-nth-preserved
@@ -20,6 +21,7 @@ loop-nth-preserved g c = record {
   leads = λ found first past h settled.
       accepts_then (promises g.N.Sockets g.C.Clocks g.J.Journal (keeping g.K.Keeper) g.H.HookHost) _ _ _ _ _ _ c.loop-nth.invariant.leads c.admit.ensures.leads found first past h settled;
   calm = λ calm. c.admit.ensures.calm (c.loop-nth.invariant.calm calm);
+  room = λ was journey reached waits. absurd (c.admit.ensures.taken waits);
 }
 
 pub returns-clause-leads : goal.returns-clause-leads
@@ -45,3 +47,6 @@ returns-in_default-free_place-clause-leads g c = λ found first past h settled.
       };
       tried = λ told. inl refl;
     }
+
+pub returns-in_default-free_place-clause-room : goal.returns-in_default-free_place-clause-room
+returns-in_default-free_place-clause-room g c = λ was journey reached waits. absurd (cc)

@@ -9,7 +9,7 @@ returns-clause-leads g c =
     let longest = c.in-Some.ensures.longest in
     let long : c.args.service.now.limits.crowded < c.args.service.now.times.steady - c.in-Some.place.since = omega (arith, c.saturating_sub.ensures, c.if-saturating_sub-service.false) in
     leaves_to (promises g.N.Sockets g.C.Clocks g.J.Journal (keeping g.K.Keeper) g.H.HookHost) c.in-Some.k c.in-Some.place c.args.service.now c.args.self.now c.leave.new.service c.leave.new.self longest.here
-    longest.taken (λ found past. gives_way c.in-Waits.is long longest.longest) c.leave.ensures.away (ap (λ (s : Service). s.places) c.leave.ensures.rest) (ap (λ (s : Service). s.due) c.leave.ensures.rest)
+    longest.taken (λ found past reached. gives_way c.in-Waits.is long longest.longest) c.leave.ensures.away (ap (λ (s : Service). s.places) c.leave.ensures.rest) (ap (λ (s : Service). s.due) c.leave.ensures.rest)
 
 pub returns-in_default-clause-calm : goal.returns-in_default-clause-calm
 returns-in_default-clause-calm g c = λ idle tried. record { idle = idle; crowded = λ waits. elim (c.in_default.not-Waits waits) [ ]; tried = tried }

@@ -1,11 +1,11 @@
-use Rattle.std.proofs.Common.{rules, ap, ◌≤◌, ◌-◌, ◌∷◌, take, arith, length, ◌≡◌, subst, refl, sym, ◌∙◌, [], Some, None, ℕ}
-use Rattle.event_loop.proofs.Names.{eqb-true, LoopState, DoneAfter, GoesRound, promises, Service, Accepting, IsDone, goes, Past, running, state_of, Served, no_wait, no_time, no_moment, too_far, keeping}
+use Rattle.std.proofs.Common.{rules, ap, ◌≤◌, ◌-◌, ◌∷◌, take, arith, length, ◌≡◌, subst, refl, sym, ◌∙◌, [], Some, None}
+use Rattle.event_loop.proofs.Names.{eqb-true, LoopState, DoneAfter, GoesRound, promises, Service, Accepting, IsDone, goes, Past, Reached, running, state_of, no_wait, no_time, no_moment, too_far, keeping}
 use Rattle.event_loop.specs.Served.{waits}
 use Rattle.event_loop.specs.Calls as call
 use Rattle.event_loop.specs.Moments.{seconds_too_far}
 use Rattle.event_loop.proofs.Answering.{served_answered}
 use Rattle.event_loop.proofs.Leading.{to_then, kept_then}
-use Rattle.event_loop.proofs.Leaving.{ComesToWait, may_wait, round_done, one_wait, calm_told, told_or_not}
+use Rattle.event_loop.proofs.Leaving.{ComesToWait, may_wait, round_done, one_wait, waited_on, calm_told, room_told, told_or_not}
 use Rattle.event_loop.proofs.tools.Tools.round.Goals as goal
 
 pub returns-in_default-clause-wrong : goal.returns-in_default-clause-wrong
@@ -73,10 +73,8 @@ returns-in-Err-keep_all-clause-wrong g c = λ first past begun was_ready unshort
     let near : seconds_too_far c.shorten_some.new.service.limits.ahead (Some c.in-Some-read.times) c.shorten_some.new.service.held ≡ None = search rules in
     let stepped = goes may.served (waits c.wait_limit-limit.result (length c.wait.new.found) heard c.wait.new.self c.in-Some-read.times c.read.new.self c.keep_moment.new.self may.may c.in-Some.ensures.done c.in-Some-read.ensures near (record { holds = c.in-Ok-keep_moment.ensures.kept; basis = c.in-Ok-keep_moment.ensures.basis; told = c.in-Ok-keep_moment.ensures.told }) c.in-Ok-keep_moment.ensures.no_further) in
     let since : Past g.row.H.Denot = record may.next { calls = call.Waited c.wait_limit-limit.result (length c.wait.new.found) heard ∷ may.next.calls } in
-    let waited = subst (λ (m : ℕ). Served (promises g.N.Sockets g.C.Clocks g.J.Journal (keeping g.K.Keeper) g.H.HookHost) first
-    (state_of (running (record c.shorten_some.new.service { times = c.in-Some-read.times; held = m })
-    (record c.shorten_some.new.self { sockets = c.wait.new.self; clocks = c.read.new.self; keeper = c.keep_moment.new.self })) heard since))
-    (sym c.later-service.ensures) stepped in
+    let waited = waited_on (promises g.N.Sockets g.C.Clocks g.J.Journal (keeping g.K.Keeper) g.H.HookHost) first c.shorten_some.new.service c.in-Some-read.times
+    (record c.shorten_some.new.self { sockets = c.wait.new.self; clocks = c.read.new.self; keeper = c.keep_moment.new.self }) heard since _ _ _ _ c.later-service.ensures c.saturating_add-service.ensures stepped in
     let told = c.hear_all.ensures.hears first since waited (λ k less. (may.ready.settled k less).rested) in
     let read = c.read_all.ensures first [] since (λ kind is. is) told.1 told.0 in
     record {
@@ -103,14 +101,12 @@ returns-clause-goes g c = λ first past begun was_ready unshortened.
         let near : seconds_too_far c.shorten_some.new.service.limits.ahead (Some c.in-Some-read.times) c.shorten_some.new.service.held ≡ None = search rules in
         let stepped = goes may.served (waits c.wait_limit-limit.result (length c.wait.new.found) heard c.wait.new.self c.in-Some-read.times c.read.new.self c.keep_moment.new.self may.may c.in-Some.ensures.done c.in-Some-read.ensures near (record { holds = c.in-Ok-keep_moment.ensures.kept; basis = c.in-Ok-keep_moment.ensures.basis; told = c.in-Ok-keep_moment.ensures.told }) c.in-Ok-keep_moment.ensures.no_further) in
         let since : Past g.row.H.Denot = record may.next { calls = call.Waited c.wait_limit-limit.result (length c.wait.new.found) heard ∷ may.next.calls } in
-        let waited = subst (λ (m : ℕ). Served p first
-        (state_of (running (record c.shorten_some.new.service { times = c.in-Some-read.times; held = m })
-        (record c.shorten_some.new.self { sockets = c.wait.new.self; clocks = c.read.new.self; keeper = c.keep_moment.new.self })) heard since))
-        (sym c.later-service.ensures) stepped in
+        let waited = waited_on p first c.shorten_some.new.service c.in-Some-read.times
+        (record c.shorten_some.new.self { sockets = c.wait.new.self; clocks = c.read.new.self; keeper = c.keep_moment.new.self }) heard since _ _ _ _ c.later-service.ensures c.saturating_add-service.ensures stepped in
         let told = c.hear_all.ensures.hears first since waited (λ k less. (may.ready.settled k less).rested) in
         let read = c.read_all.ensures first [] since (λ kind is. is) told.1 told.0 in
         let written = kept_then p first [] since _ c.read_all.new.service c.write_all.new.service _ c.read_all.new.self c.keep_all.new.self c.write_all.new.self read c.in_default-keep_all.ensures.kept c.write_all.ensures in
-        let on = to_then p [] [] [] _ _ _ _ _ _ (c.tidy.ensures.leads []) (c.make_room.ensures.leads []) first written.on.next written.on.served written.below in
+        let on = to_then p [] [] [] _ _ _ _ _ _ (to_then p [] [] [] _ _ _ _ _ _ (c.tidy.ensures.leads []) (c.make_room.ensures.leads [])) (c.retire_eldest.ensures.leads []) first written.on.next written.on.served written.below in
         let admitted = c.admit_all.ensures.leads [] first on.next on.served on.settled in
         let last = c.tell.ensures.leads [] first admitted.goes.next admitted.goes.served admitted.goes.settled in
         let queue : c.tell.new.service.queue ≡ c.admit_all.new.service.queue = ap (λ (s : Service). s.queue) c.tell.ensures.rest in
@@ -122,7 +118,9 @@ returns-clause-goes g c = λ first past begun was_ready unshortened.
           ready = record {
             settled = last.settled;
             queue = told_or_not {P = IsDone Accepting last.next.calls} c.tell.new.service.queue (λ told. last.done.more.keeps Accepting (admitted.tried (sym queue ∙ told)));
-            calm = calm_told c.admit_all.new.service c.tell.new.service c.tell.ensures.rest (c.admit_all.ensures.calm (c.make_room.ensures.calm idle c.tidy.ensures.tried));
+            calm = calm_told c.admit_all.new.service c.tell.new.service c.tell.ensures.rest (c.admit_all.ensures.calm (c.retire_eldest.ensures.calm (c.make_room.ensures.calm idle c.tidy.ensures.tried)));
+            room = room_told c.admit_all.new.service c.tell.new.service last.next.journey.world c.tell.ensures.rest
+                (c.admit_all.ensures.room c.retire_eldest.ensures.room last.next.journey (subst (λ e. Reached g.H.HookHost e last.next.journey) c.tell.ensures.edge (served_answered p first _ last.served).reached));
             reported = c.tell.ensures.reported;
           };
           unshortened = done.alone;

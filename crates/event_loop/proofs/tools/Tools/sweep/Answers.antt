@@ -38,7 +38,7 @@ loop-k-preserved g c =
     record {
       leads = λ found.
           to_then p found found found c.args.service.now c.loop-k.service c.leave.new.service c.args.self.now c.loop-k.self c.leave.new.self (c.loop-k.invariant.leads found)
-          (leaves_to p c.loop-k.k place c.loop-k.service c.loop-k.self c.leave.new.service c.leave.new.self c.place_at-place.ensures (c.is_taken.ensures.taken c.if-not-is_taken.false) (λ found past. is_silent long) c.leave.ensures.away
+          (leaves_to p c.loop-k.k place c.loop-k.service c.loop-k.self c.leave.new.service c.leave.new.self c.place_at-place.ensures (c.is_taken.ensures.taken c.if-not-is_taken.false) (λ found past reached. is_silent long) c.leave.ensures.away
           (ap (λ (s : Service). s.places) c.leave.ensures.rest) (ap (λ (s : Service). s.due) c.leave.ensures.rest) found);
       below = subst (λ (s : Service). (j : ℕ) → j < c.loop-k.k + 1 → IsInTime s j) (sym c.leave.ensures.rest)
           (λ j less other here taken. elim (set_cases c.loop-k.service.places c.loop-k.k j (record place { stage = Free }) other here) [
