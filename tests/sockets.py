@@ -279,6 +279,161 @@ def a_sixty_fifth():
         )
 
 
+class Guests:
+    """64 clients that keep their connections, each of which asks again after so many seconds, beside others."""
+
+    def __init__(self, server, every):
+        self.every = every
+        self.connections = [server.connect() for _ in range(PLACES)]
+        began = time.monotonic()
+        self.due = {each: began + every * number / PLACES for number, each in enumerate(self.connections)}
+        self.given = {}
+        self.replies = 0
+        self.left = 0
+        self.fault = None
+        self.stop = threading.Event()
+        self.thread = threading.Thread(target=self.run)
+
+    def __enter__(self):
+        self.thread.start()
+        return self
+
+    def __exit__(self, *_):
+        self.stop.set()
+        self.thread.join()
+        for connection in self.connections:
+            connection.close()
+
+    def run(self):
+        try:
+            while not self.stop.is_set():
+                self.ask_those_due()
+                for connection in select.select(list(self.due), [], [], 0.005)[0]:
+                    self.hear(connection)
+        except (Wrong, OSError) as fault:
+            self.fault = fault
+
+    def ask_those_due(self):
+        now = time.monotonic()
+        for connection in [each for each, due in self.due.items() if due <= now and each not in self.given]:
+            if not select.select([connection], [], [], 0)[0]:
+                connection.sendall(introspection())
+                self.given[connection] = b""
+                self.due[connection] = max(now, self.due[connection] + self.every)
+
+    def hear(self, connection):
+        """One that waits for a reply gets it whole, and none ends before."""
+        part = connection.recv(65536)
+        if connection not in self.given:
+            want(part == b"", f"bytes came behind a reply: {part!r}")
+            del self.due[connection]
+            self.left += 1
+            return
+        given = self.given[connection] + part
+        want(part and INACTIVE_REPLY.startswith(given), f"of a reply there came {given!r}, and then {part!r}")
+        self.given[connection] = given
+        if given == INACTIVE_REPLY:
+            del self.given[connection]
+            self.replies += 1
+
+
+def busy_guests(every):
+    """64 that ask each so many seconds give way to others, each of them right behind a reply."""
+
+    def check():
+        with Server() as server, Guests(server, every) as guests:
+            others = []
+            waits = []
+            for _ in range(8):
+                others.append(server.connect())
+                waits.append(ask(others[-1]))
+                want(waits[-1] < 10, f"one more waited {waits[-1]:.1f} seconds")
+            enough = server.settle(lambda: guests.left >= len(waits), 2)
+            want(guests.fault is None, f"one of the 64 met {guests.fault}")
+            want(enough, f"{guests.left} of the 64 gave way to {len(waits)}")
+            return (
+                f"8 more were answered, after {waits[0]:.1f} seconds the first and at most {max(waits[1:]):.1f} the"
+                f" others; the 64 got {guests.replies} whole replies, and {guests.left} of them gave way behind one"
+            )
+
+    return check
+
+
+def slow_guests():
+    """64 that take a byte of a reply each four seconds."""
+    with Server() as server:
+        guests = [server.connect() for _ in range(PLACES)]
+        for guest in guests:
+            guest.sendall(introspection())
+        taken = dict.fromkeys(guests, b"")
+        stop = threading.Event()
+
+        def take():
+            while True:
+                for guest in guests:
+                    taken[guest] += guest.recv(1)
+                if stop.wait(4):
+                    return
+
+        thread = threading.Thread(target=take)
+        thread.start()
+        try:
+            waited = ask(server.connect())
+        finally:
+            stop.set()
+            thread.join()
+        want(waited < 10, f"the 65th waited {waited:.1f} seconds")
+        for guest in guests:
+            given = taken[guest] + receive(guest, len(INACTIVE_REPLY) - len(taken[guest]))
+            want(given == INACTIVE_REPLY, f"one of the 64 got {given!r}")
+        return f"the 65th was answered after {waited:.1f} seconds; each of the 64 got its reply whole"
+
+
+def pipelining_guests():
+    """64 that have eight requests on the way all the time."""
+    with Server() as server:
+        guests = [server.connect() for _ in range(PLACES)]
+        given = dict.fromkeys(guests, 0)
+        here = set(guests)
+        faults = []
+        stop = threading.Event()
+        many = NO_PATH_REPLY * 100
+
+        def go_on():
+            try:
+                for guest in guests:
+                    guest.sendall(NO_PATH * 8)
+                while not stop.is_set():
+                    for guest in select.select(list(here), [], [], 0.005)[0]:
+                        try:
+                            part = guest.recv(4 * len(NO_PATH_REPLY))
+                            before = given[guest] % len(NO_PATH_REPLY)
+                            want(many[before : before + len(part)] == part, f"a wrong reply: {part!r}")
+                            given[guest] += len(part)
+                            if part:
+                                done = (before + len(part)) // len(NO_PATH_REPLY)
+                                guest.sendall(NO_PATH * done)
+                        except (BrokenPipeError, ConnectionResetError):
+                            part = b""
+                        if not part:
+                            here.remove(guest)
+                            want(given[guest] % len(NO_PATH_REPLY) == 0, "a reply was cut")
+            except (Wrong, OSError) as fault:
+                faults.append(fault)
+
+        thread = threading.Thread(target=go_on)
+        thread.start()
+        try:
+            waited = ask(server.connect())
+        finally:
+            stop.set()
+            thread.join()
+        want(waited < 10, f"the 65th waited {waited:.1f} seconds")
+        want(not faults, f"one of the 64 met {faults}")
+        replies = sum(given.values()) // len(NO_PATH_REPLY)
+        return f"the 65th was answered after {waited:.1f} seconds; the 64 got {replies} whole replies"
+
+
 def silence():
     with Server(silence=4) as server:
         connection = server.connect()
@@ -560,6 +715,10 @@ def other_draws():
 CHECKS = {
     "63-idle-and-one-active": sixty_three_idle,
     "64-idle-and-a-65th": a_sixty_fifth,
+    "64-that-ask-each-second": busy_guests(1),
+    "64-that-ask-each-four-seconds": busy_guests(4),
+    "64-that-take-a-byte-each-four": slow_guests,
+    "64-that-pipeline": pipelining_guests,
     "silence": silence,
     "one-byte-a-second": one_byte_a_second,
     "never-reads": never_reads,

@@ -11,6 +11,7 @@ mod hosts;
 mod keeping;
 mod memory;
 mod programs;
+mod room;
 mod sockets;
 mod store;
 mod streams;
