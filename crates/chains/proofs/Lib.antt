@@ -1,0 +1,4 @@
+pub mod Moving
+pub mod Popping
+pub mod Removing
+pub mod Walking

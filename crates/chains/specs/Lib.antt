@@ -1,0 +1,4 @@
+pub mod Chained
+pub mod Before
+pub mod Following
+pub mod ChainedLaws

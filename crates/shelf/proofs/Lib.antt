@@ -1,0 +1,13 @@
+pub mod Keyed
+pub mod Naming
+pub mod Slotting
+pub mod Tallying
+pub mod Timing
+pub mod Sorting
+pub mod Going
+pub mod Keeping
+pub mod Taking
+pub mod Ahead
+pub mod Putting
+pub mod Racking
+pub mod Given

@@ -1,0 +1,99 @@
+//! What a digest names.
+ghost use Rattle.std.specs.Prelude.{◌≡◌, ◌<◌, ◌≤◌, true, IfSome, IfNone, None, option_copied, option_map};
+ghost use Rattle.std.specs.Str.{bytes_eq};
+ghost use Rattle.std.specs.Map.{lookup};
+ghost use Rattle.shelf.specs.Shelved.{bucket, entries_of, facts_of, is_named, room, slot_at, spent_in, IsShelved};
+
+use crate::shelf::{Facts, Lasts, Shelf, Slot};
+use chains::Chains;
+use consent::Digest;
+use std::mem;
+
+// The list of what the digest names: a digest is SHA-256, so its first bytes are spread evenly.
+pub(crate) fn bucket(names: &Chains, digest: &Digest) -> usize
+    requires { 1 ≤ names.now.heads }
+    ensures value { result ≡ bucket names.now.heads digest.now }
+    ensures list { result < names.now.heads }
+{
+    let bytes = digest.bytes();
+    let word = u32::from_le_bytes([bytes[0], bytes[1], bytes[2], bytes[3]]);
+    word as usize % names.lists()
+}
+
+impl<R: Lasts + Drop> Shelf<R> {
+    // What is in the slot, if anything is.
+    fn held(&self, slot: u32) -> Option<&Slot<Digest, R>>
+        ensures { option_copied result ≡ slot_at self.now.slots.items slot }
+    {
+        let Some(Some(found)) = self.slots.get(slot as usize) else {
+            return None;
+        };
+        Some(found)
+    }
+
+    // What the lists and the tally tell of it.
+    pub(crate) fn facts_of(&self, slot: u32) -> Option<Facts>
+        ensures { result ≡ option_map (facts_of R.until R.whose) (slot_at self.now.slots.items slot) }
+    {
+        let Some(Some(found)) = self.slots.get(slot as usize) else {
+            return None;
+        };
+        Some(Facts {
+            digest: found.key,
+            until: found.kept.until(),
+            whose: found.kept.whose(),
+        })
+    }
+
+    // Whether the digest names what is in the slot.
+    fn is_named(&self, slot: u32, digest: &Digest) -> bool
+        ensures { result ≡ is_named digest.now (slot_at self.now.slots.items slot) }
+    {
+        let Some(Some(found)) = self.slots.get(slot as usize) else {
+            return false;
+        };
+        found.key == *digest
+    }
+
+    // The slot of what the digest names.
+    pub(crate) fn find(&self, digest: &Digest) -> Option<u32>
+        requires { IsShelved R.until R.whose self.now }
+        ensures some { IfSome result (λ x. is_named digest.now (slot_at self.now.slots.items x) ≡ true) }
+        ensures none { IfNone result (lookup (bytes_eq digest.now) (entries_of self.now) ≡ None) }
+    {
+        let mut at = self.names.first(bucket(&self.names, digest));
+        while let Some(slot) = at {
+            if self.is_named(slot, digest) {
+                return Some(slot);
+            }
+            at = self.names.behind(slot);
+        }
+        None
+    }
+
+    /// What the digest names.
+    pub fn get(&self, digest: &Digest) -> Option<&R>
+        requires { IsShelved R.until R.whose self.now }
+        ensures { option_copied result ≡ lookup (bytes_eq digest.now) (entries_of self.now) }
+    {
+        let slot = self.find(digest)?;
+        Some(&self.held(slot)?.kept)
+    }
+
+    /// What the digest names was used, if it names something.
+    pub fn spend(&mut self, digest: &Digest)
+        requires { IsShelved R.until R.whose self.old }
+        ensures shelved { IsShelved R.until R.whose self.new }
+        ensures spent { entries_of self.new ≡ spent_in R.spent digest.now (entries_of self.old) (lookup (bytes_eq digest.now) (entries_of self.old)) }
+        ensures room { room self.new ≡ room self.old }
+    {
+        let Some(slot) = self.find(digest) else {
+            return;
+        };
+        let Some(mut found) = mem::replace(&mut self.slots[slot as usize], None) else {
+            return;
+        };
+        found.kept.spend();
+        self.slots[slot as usize] = Some(found);
+    }
+}
