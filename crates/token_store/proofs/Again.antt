@@ -1,6 +1,6 @@
 -- A store that is made of a list fits it with one change more.
 use Rattle.std.proofs.Common.{◌≡◌, ◌<◌, ℕ, max, List, [], ◌∷◌, ◌++◌, Option, Some, None, true, Result, Ok, Err, OnOk, refl, ap, ◌∙◌, sym, subst, arith}
-use Rattle.token_store.proofs.Names.{is_some, IsDistinct, bytes_eq, lookup, keys_of, family_numbered, Event, Grant, grant_of, event_at, grant_at, is_new, terms_of, code_terms, with_change}
+use Rattle.token_store.proofs.Names.{is_some, IsDistinct, bytes_eq, lookup, keys_of, family_numbered, Event, Grant, grant_of, event_at, grant_at, is_new, terms_of, code_terms, with_change, stand_entries}
 use Rattle.token_store.proofs.Names.{change_of, parties_of}
 use Rattle.token_store.proofs.Names.{Made, Issued, CodeGiven, code_terms-new, code_terms-push, code_terms-push_other, has_ended-push_other, has_ended-new, home_shared, code_shared, token_kept}
 use Rattle.token_store.proofs.Names.{code_kept, Record, Shared}
@@ -57,20 +57,20 @@ pub record HasKept (t t' : Tables) (digest : List ℕ) (r : Record) (s : Shared)
   pub tied : IsTied t'
   pub coming : t'.coming ≡ t.coming
   pub last : t'.last ≡ max t.last r.family
-  pub known : lookup (bytes_eq digest) t.records.entries ≡ None → BecomesKnown t.families.entries t'.families.entries r.family s
-  pub keeps : (m : ℕ) → lookup (bytes_eq digest) t.records.entries ≡ None →
+  pub known : lookup (bytes_eq digest) (stand_entries t.records) ≡ None → BecomesKnown t.families.entries t'.families.entries r.family s
+  pub keeps : (m : ℕ) → lookup (bytes_eq digest) (stand_entries t.records) ≡ None →
       TellsSame (kept_of t ++ kept_under (shared_or t.families.entries r.family s) digest r ∷ []) (kept_of t') m
 
 pub on_ok_kept : {X E D : Type 0} (result : Result X E) (t t' : Tables) (digest : List ℕ) (r : Record) (s : Shared) → IsTied t' → t'.coming ≡ t.coming → OnOk result (t'.last ≡ max t.last r.family) →
-    OnOk result (lookup (bytes_eq digest) t.records.entries ≡ None → BecomesKnown t.families.entries t'.families.entries r.family s) →
-    OnOk result ((m : ℕ) → lookup (bytes_eq digest) t.records.entries ≡ None → TellsSame (kept_of t ++ kept_under (shared_or t.families.entries r.family s) digest r ∷ []) (kept_of t') m) →
+    OnOk result (lookup (bytes_eq digest) (stand_entries t.records) ≡ None → BecomesKnown t.families.entries t'.families.entries r.family s) →
+    OnOk result ((m : ℕ) → lookup (bytes_eq digest) (stand_entries t.records) ≡ None → TellsSame (kept_of t ++ kept_under (shared_or t.families.entries r.family s) digest r ∷ []) (kept_of t') m) →
     (HasKept t t' digest r s → D) → OnOk result D
 on_ok_kept (Ok x) t t' digest r s tied coming last known keeps f = f (record { tied = tied; coming = coming; last = last; known = known; keeps = keeps })
 on_ok_kept (Err e) t t' digest r s tied coming last known keeps f = tt
 
-module _ (t t' : Tables) (list : List Event) (m : ℕ) (tied : IsTied t) (live : AllLive t.records.entries m) (fits : FitsList (held_of t) list m) where
-  free : (digest : List ℕ) → grant_at list digest m ≡ None → lookup (bytes_eq digest) t.records.entries ≡ None
-  free digest none = free_at t.families.entries t.records.entries digest m tied.once live (unkept (kept_of t) list m digest fits.store.kept none)
+module _ (t t' : Tables) (list : List Event) (m : ℕ) (tied : IsTied t) (live : AllLive (stand_entries t.records) m) (fits : FitsList (held_of t) list m) where
+  free : (digest : List ℕ) → grant_at list digest m ≡ None → lookup (bytes_eq digest) (stand_entries t.records) ≡ None
+  free digest none = free_at t.families.entries (stand_entries t.records) digest m tied.ties.once live (unkept (kept_of t) list m digest fits.store.kept none)
 
   pub again_token : (home : Home) (token : NewToken) (r : Record) → r.family ≡ home.family → ((s : Shared) → kept_under s token.digest r ≡ token_kept home.family s m token) →
       HasKept t t' token.digest r (home_shared home 0) → standing_refusal list m (Issued home token) ≡ None →

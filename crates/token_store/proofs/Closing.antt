@@ -1,7 +1,9 @@
 -- The tables without the families that have no records.
 use Rattle.std.proofs.Common.{◌≡◌, ◌≤◌, ℕ, List, [], ◌∷◌, Option, Some, None, Bool, true, eqb, refl, ap, sym, arith}
 use Rattle.token_store.proofs.Names.{family_numbered, is_at, list_any, is_some, count_by-cons, values_of, Record, Shared, shared_at, all_kept, member_count, has_owner, OwnerKey, owner_cmp, where_peopled}
-use Rattle.token_store.proofs.Names.{nat_tests}
+use Rattle.token_store.proofs.Names.{nat_tests, IsCounted, Ties}
+use Rattle.token_store.proofs.Dropping.{member_counted}
+use Rattle.token_store.proofs.Lasting.{lasts_as}
 use Rattle.std.specs.Prelude.{◌&&◌, filter, nat_lt}
 use Rattle.std.specs.Option.{option_and_then}
 use Rattle.std.proofs.lemmas.Map.Entries.{option_filter}
@@ -34,3 +36,18 @@ seen_peopled old new (e ∷ es) counted peopled =
     let le = counted e.1.family in
     let is = peopled e.1.family in
     grind (arith, nat_tests, tail, here, le, is)
+
+-- and the tables tell of one another
+pub tied_peopled : (old new : List (ℕ × Shared)) (es : List (List ℕ × Record)) (owners owners' : List OwnerKey) (last swept : ℕ) → ((k : ℕ) → family_numbered new k ≡ option_and_then where_peopled (family_numbered old k)) →
+    ((key : OwnerKey) → has_owner owners' key ≡ (has_owner owners key && is_some (family_numbered new key.1.1))) → Ties old es owners last swept → Ties new es owners' last swept
+tied_peopled old new es owners owners' last swept peopled known tied = record {
+  once = tied.once;
+  homed = λ d r at. (let some = member_counted d es r at in let count = tied.counted r.family in let is = peopled r.family in let home = tied.homed d r at in grind (arith, nat_tests, some, count, is, home));
+  lasting = λ n t le. lasts_as new es n t (shared_at old n).until counted' (tied.lasting n t le) (λ s at. (let is = peopled n in grind (arith, nat_tests, is, at)));
+  counted = counted';
+  owned = λ key. (let was = tied.owned key in let is = known key in let left = peopled key.1.1 in grind (arith, nat_tests, was, is, left));
+  below = tied.below;
+}
+  where
+    counted' : IsCounted new es
+    counted' n = let is = peopled n in let was = tied.counted n in grind (arith, nat_tests, is, was)

@@ -1,6 +1,6 @@
 -- What is counted among what is kept is counted in the history.
 use Rattle.std.proofs.Common.{◌≡◌, ◌≤◌, ◌+◌, ℕ, List, [], ◌∷◌, Option, Some, None, Bool, true, false, cond, refl, ap, ◌∙◌, sym, arith}
-use Rattle.token_store.proofs.Names.{find, count_by, bytes_eq, is_some, nat_le, kept_at, bytes_eq-Decides, count_by-cons, count_by-none, find-passes, find-map, find-uncounted, nat_tests}
+use Rattle.token_store.proofs.Names.{find, count_by, bytes_eq, is_some, nat_le, kept_at, bytes_eq-Decides, count_by-cons, find-map, find-uncounted}
 use Rattle.token_store.proofs.Names.{Event, Grant, grants, grant_at, is_named, is_unexpired, Kept, Record, Shared, FitsHistory, all_kept, kept_in, is_live_at, shared_at, to_keep, values_of, ◌==◌, if◌then◌else◌}
 use Rattle.std.specs.Prelude.{map, option_map, length, ◌&&◌}
 use Rattle.consent.specs.History.{are_taken, has_client_room, has_room, is_taken, is_unexpired_of, unexpired_of}
@@ -9,6 +9,8 @@ use Rattle.token_store.specs.Fits.{refusal, refusal_by}
 use Rattle.token_store.specs.FitsParts.{are_kept, has_kept_client_room, kept_refusal}
 use Rattle.token_store.specs.Kept.{kept_unexpired_of}
 use Rattle.token_store.specs.RecordsParts.{is_live_of}
+use Rattle.shelf.specs.Shelved.{lasts_of}
+use Rattle.token_store.proofs.Names.{client_of, expiry, keys_of, lookup, lookup-none, nat_list_eq_equiv, none_past_head, AllHomed, IsDistinct, IsDistinct-tail}
 use Rattle.token_store.proofs.Looking.{count-map}
 
 -- WITHOUT ONE
@@ -130,6 +132,26 @@ client_seen families es client t =
     count-map (λ e. e.1) (is_live_of families client t) es
     ∙ ap (λ p. count_by p es) (λ i e. and_flip (is_live_at t e.1) ((shared_at families e.1.family).client == client) i)
     ∙ sym (count-map (kept_in families) (λ k. is_unexpired_of client t k.grant) es)
+
+-- each record is of its family's client
+rest_homed : (families : List (ℕ × Shared)) (e : List ℕ × Record) (es : List (List ℕ × Record)) → IsDistinct bytes_eq (keys_of (e ∷ es)) → AllHomed families (e ∷ es) → AllHomed families es
+rest_homed families e es once all d r at = all d r past
+  where
+    past : cond {A = Option Record} (bytes_eq d e.0) (Some e.1) (lookup (bytes_eq d) es) ≡ Some r
+    past =
+        let none : bytes_eq d e.0 ≡ true → lookup (bytes_eq d) es ≡ None = λ is. lookup-none (bytes_eq d) es (none_past_head nat_list_eq_equiv d e es once is) in
+        grind (arith, at, none)
+
+pub client_homed : (families : List (ℕ × Shared)) (es : List (List ℕ × Record)) (client t : ℕ) → IsDistinct bytes_eq (keys_of es) → AllHomed families es →
+    count_by (lasts_of expiry client_of client t) (values_of es) ≡ count_by (is_live_of families client t) (values_of es)
+client_homed families [] client t once all = refl
+client_homed families (e ∷ es) client t once all =
+    let sums = count_by-cons (lasts_of expiry client_of client t) e.1 (values_of es) in
+    let sums' = count_by-cons (is_live_of families client t) e.1 (values_of es) in
+    let own = (bytes_eq-Decides e.0 e.0).1 refl in
+    let home : e.1.client ≡ (shared_at families e.1.family).client = all e.0 e.1 (grind (arith, own)) in
+    let more = client_homed families es client t (IsDistinct-tail bytes_eq e.0 (keys_of es) once) (rest_homed families e es once all) in
+    grind (arith, sums, sums', home, more)
 
 -- WHY CODES AND TOKENS ARE REFUSED
 

@@ -1,9 +1,11 @@
 -- The tables without a record that has expired.
-use Rattle.std.proofs.Common.{◌≡◌, ◌<◌, ◌≤◌, ℕ, ◌+◌, List, Option, Some, None, Bool, true, false, cond, refl, ap, ◌∙◌, sym, arith}
+use Rattle.std.proofs.Common.{◌≡◌, ◌<◌, ◌≤◌, ℕ, ◌+◌, List, [], ◌∷◌, Option, Some, None, Bool, true, false, cond, length, refl, ap, ◌∙◌, sym, arith}
 use Rattle.token_store.proofs.Names.{◌==◌, family_numbered, count_by, unwrap_or, is_some, IsDistinct, IsPermutation, bytes_eq, lookup, remove_entry, values_of, keys_of, sum_by-remove_entry}
 use Rattle.token_store.proofs.Names.{sum_by_values_permutation, bytes_eq-Decides, Record, Shared, Kept, kept_at, kept_unexpired, shared_at, kept_in, kept_under, all_kept, member_count, IsCounted}
 use Rattle.token_store.proofs.Names.{is_live_at, HasLeft, TellsSame, is_unexpired, nat_tests}
-use Rattle.std.specs.Prelude.{option_map}
+use Rattle.std.specs.Prelude.{option_map, sum_by}
+use Rattle.std.proofs.lemmas.List.Sums.{sum_by-cons}
+use Rattle.token_store.proofs.Names.{HasTaken}
 use Rattle.token_store.proofs.Looking.{shown, found, count-map}
 
 -- a count of the others
@@ -45,6 +47,20 @@ same_shared families families' n k digest x keeps left some = grind (arith, nat_
 -- counts of what is seen are counts of the records
 pub count_seen : (families : List (ℕ × Shared)) (es : List (List ℕ × Record)) (t : ℕ) → kept_unexpired (all_kept families es) t ≡ count_by (is_live_at t) (values_of es)
 count_seen families es t = count-map (kept_in families) (λ k. is_unexpired t k.grant) es ∙ sym (count-map (λ e. e.1) (is_live_at t) es)
+
+-- there is one fewer
+pub fewer_entries : (digest : List ℕ) (es es' : List (List ℕ × Record)) (r : Record) → HasTaken es es' digest r → length es' + 1 ≡ length es
+fewer_entries digest es es' r has =
+    let sums = sum_by-remove_entry (λ (x : Record). 1) (bytes_eq digest) es in
+    let at = has.found in
+    let all = λ (xs : List (List ℕ × Record)). each_one xs in
+    let left = all (remove_entry (bytes_eq digest) es) in
+    let whole = all es in
+    rw has.taken (grind (arith, sums, at, left, whole))
+  where
+    each_one : (xs : List (List ℕ × Record)) → sum_by (λ (x : Record). 1) (values_of xs) ≡ length xs
+    each_one [] = refl
+    each_one (x ∷ xs) = let more = each_one xs in let sums = sum_by-cons (λ (y : Record). 1) x.1 (values_of xs) in omega (arith, more, sums)
 
 -- one is gone that had expired
 pub dropped_one : (families families' : List (ℕ × Shared)) (es es' : List (List ℕ × Record)) (digest : List ℕ) (r : Record) (moment : ℕ) (keeps : Bool) →

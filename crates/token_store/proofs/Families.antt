@@ -1,35 +1,40 @@
 -- Families that are ended, opened or let go of.
-use Rattle.std.proofs.Common.{◌≡◌, ◌≢◌, ◌≤◌, ℕ, List, [], ◌∷◌, Option, Some, None, Bool, true, false, eqb, refl, ap, ◌∙◌, sym, arith}
-use Rattle.token_store.proofs.Names.{family_numbered, values_of, count_by-cons, Record, Shared, Agenda, shared_at, all_kept, member_count, is_coded, Tied, IsOwned, RecordChange}
+use Rattle.std.proofs.Common.{◌≡◌, ◌≢◌, ◌≤◌, ℕ, List, [], ◌∷◌, Option, Some, None, Bool, true, false, eqb, refl, ap, ◌∙◌, sym, subst, arith}
+use Rattle.token_store.proofs.Names.{code_scope, family_numbered, values_of, count_by-cons, Record, Shared, shared_at, all_kept, member_count, is_coded, Ties, IsCounted, IsOwned, RecordChange}
 use Rattle.token_store.proofs.Names.{told, may_end, altered, HasAltered, changed, HasEnded, HasLowered, HasIndexed, HasStruck, is_past, IsNextOwned, key_of, has_owner, owner_cmp, is_at, OwnerKey, lowered_shared, nat_tests, Tables, IsTied, kept_of, nat_eq}
 use Rattle.token_store.specs.RecordsParts.{HasClosed, OthersStay}
+use Rattle.token_store.proofs.Lasting.{any_counted, member_few}
+use Rattle.token_store.proofs.Dropping.{member_counted}
+use Rattle.token_store.proofs.Names.{bytes_eq, is_member_at, list_any, lookup, or_nothing, stand_entries, ◌==◌}
 use Rattle.token_store.proofs.Tying.{owner_at, owner_here, keyless, coded_at, key_number, owned_without}
 use Rattle.consent.specs.History.{is_within}
-use Rattle.std.specs.Prelude.{map, option_map}
+use Rattle.std.specs.Prelude.{map, nat_lt, option_map}
 
 -- ENDING
 
+-- as many records, of the same client, until the same moment
+abbrev pub AreAlike : (old new : List (ℕ × Shared)) → Type 0
+AreAlike old new = (k : ℕ) →
+    ((shared_at new k).count ≡ (shared_at old k).count) × (((shared_at new k).client ≡ (shared_at old k).client) × ((shared_at new k).until ≡ (shared_at old k).until))
+
 -- what tells the tables apart from others does not look at the change, and the index is as they are
-pub tied_anew : (old new : List (ℕ × Shared)) (es : List (List ℕ × Record)) (agenda : Agenda) (owners owners' : List OwnerKey) (last : ℕ) → ((k : ℕ) → (shared_at new k).count ≡ (shared_at old k).count) →
-    IsOwned new owners' → Tied old es agenda owners last → Tied new es agenda owners' last
-tied_anew old new es agenda owners owners' last counts owned tied = record {
+pub tied_anew : (old new : List (ℕ × Shared)) (es : List (List ℕ × Record)) (owners owners' : List OwnerKey) (last swept : ℕ) → AreAlike old new →
+    IsOwned new owners' → Ties old es owners last swept → Ties new es owners' last swept
+tied_anew old new es owners owners' last swept alike owned tied = record {
   once = tied.once;
-  listed = tied.listed;
-  exact = tied.exact;
-  counted = λ k. counts k ∙ tied.counted k;
+  homed = λ d r at. tied.homed d r at ∙ sym (alike r.family).1.0;
+  lasting = λ n t le. tied.lasting n t le ∙ ap (nat_lt t) (sym (alike n).1.1);
+  counted = λ k. (alike k).0 ∙ tied.counted k;
   owned = owned;
   below = tied.below;
 }
 
-pub tied_changed : (old new : List (ℕ × Shared)) (es : List (List ℕ × Record)) (agenda : Agenda) (owners : List OwnerKey) (last : ℕ) → ((k : ℕ) → (shared_at new k).count ≡ (shared_at old k).count) →
-    ((key : OwnerKey) → is_coded key (family_numbered new key.1.1) ≡ is_coded key (family_numbered old key.1.1)) → Tied old es agenda owners last → Tied new es agenda owners last
-tied_changed old new es agenda owners last counts coded tied =
-    tied_anew old new es agenda owners owners last counts (λ key. tied.owned key ∙ sym (coded key)) tied
+alike_ended : (old new : List (ℕ × Shared)) (n : ℕ) → HasEnded old new n → AreAlike old new
+alike_ended old new n ended k = let other = ended.others k in let here = ended.here in (grind (arith, nat_tests, here, other), (grind (arith, nat_tests, here, other), grind (arith, nat_tests, here, other)))
 
-pub tied_ended : (old new : List (ℕ × Shared)) (n : ℕ) (es : List (List ℕ × Record)) (agenda : Agenda) (owners owners' : List OwnerKey) (last : ℕ) → HasEnded old new n →
-    IsOwned new owners' → Tied old es agenda owners last → Tied new es agenda owners' last
-tied_ended old new n es agenda owners owners' last ended owned =
-    tied_anew old new es agenda owners owners' last (λ k. (let other = ended.others k in grind (arith, other))) owned
+pub tied_ended : (old new : List (ℕ × Shared)) (n : ℕ) (es : List (List ℕ × Record)) (owners owners' : List OwnerKey) (last swept : ℕ) → HasEnded old new n →
+    IsOwned new owners' → Ties old es owners last swept → Ties new es owners' last swept
+tied_ended old new n es owners owners' last swept ended owned = tied_anew old new es owners owners' last swept (alike_ended old new n ended) owned
 
 -- the change of a family is seen on all its records, and no visit to them is needed
 pub view_ended : (old new : List (ℕ × Shared)) (n : ℕ) (es : List (List ℕ × Record)) → HasEnded old new n → ((k : ℕ) → member_count es k ≤ (shared_at old k).count) →
@@ -54,9 +59,9 @@ owned_ended old new owners owners' n s key is found struck ended owned =
 -- of one family the index has one key
 one_key : (o : Option Shared) (key q : OwnerKey) → is_coded key o ≡ true → q.1.1 ≡ key.1.1 → is_coded q o ≡ true → is_at (owner_cmp key) q ≡ true
 one_key None key q coded here also = grind (arith, coded)
-one_key (Some s) key q coded here also = by s.code_scope refl
+one_key (Some s) key q coded here also = by (code_scope s) refl
   where
-    by : (c : Option ℕ) → s.code_scope ≡ c → is_at (owner_cmp key) q ≡ true
+    by : (c : Option ℕ) → code_scope s ≡ c → is_at (owner_cmp key) q ≡ true
     by None is = grind (arith, is, coded)
     by (Some x) is =
         let mine : (key.0.0 ≡ s.owner) × ((key.0.1 ≡ s.client) × (key.1.0 ≡ x)) = grind (arith, nat_tests, is, coded) in
@@ -102,9 +107,9 @@ pub record LowersOn (old new : List (ℕ × Shared)) (owners : List OwnerKey) (p
 marked_same : (o : Option Shared) (parties : ℕ × ℕ) (mask scope n : ℕ) → is_coded (parties, (scope, n)) o ≡ true → is_within scope mask ≡ false →
     option_map (lowered_shared parties.0 parties.1 mask) (option_map (λ (s : Shared). record s { ended = true }) o) ≡ option_map (lowered_shared parties.0 parties.1 mask) o
 marked_same None parties mask scope n coded beyond = refl
-marked_same (Some s) parties mask scope n coded beyond = by s.code_scope refl
+marked_same (Some s) parties mask scope n coded beyond = by (code_scope s) refl
   where
-    by : (c : Option ℕ) → s.code_scope ≡ c → option_map (lowered_shared parties.0 parties.1 mask) (Some (record s { ended = true })) ≡ option_map (lowered_shared parties.0 parties.1 mask) (Some s)
+    by : (c : Option ℕ) → code_scope s ≡ c → option_map (lowered_shared parties.0 parties.1 mask) (Some (record s { ended = true })) ≡ option_map (lowered_shared parties.0 parties.1 mask) (Some s)
     by None is = grind (arith, nat_tests, is, coded)
     by (Some x) is = grind (arith, nat_tests, is, coded, beyond)
 
@@ -137,9 +142,9 @@ within_more old new owners parties mask after found so_far next within = record 
 settled : (o : Option Shared) (parties : ℕ × ℕ) (mask n : ℕ) → ((scope : ℕ) → is_coded (parties, (scope, n)) o ≡ true → is_within scope mask ≡ true) →
     option_map (lowered_shared parties.0 parties.1 mask) o ≡ o
 settled None parties mask n within = refl
-settled (Some s) parties mask n within = by s.ended s.code_scope refl refl
+settled (Some s) parties mask n within = by s.ended (code_scope s) refl refl
   where
-    by : (e : Bool) (c : Option ℕ) → s.ended ≡ e → s.code_scope ≡ c → option_map (lowered_shared parties.0 parties.1 mask) (Some s) ≡ Some s
+    by : (e : Bool) (c : Option ℕ) → s.ended ≡ e → code_scope s ≡ c → option_map (lowered_shared parties.0 parties.1 mask) (Some s) ≡ Some s
     by true c ended is = let same : record s { ended = true } ≡ s = (λ i. record s { ended = sym ended i }) in grind (arith, same)
     by false None ended is = grind (arith, is)
     by false (Some x) ended is = let low = within x in grind (arith, nat_tests, is, ended, low)
@@ -165,10 +170,12 @@ view_lowered old new (e ∷ es) owner client mask lowered =
     let here = lowered e.1.family in
     grind (arith, tail, here)
 
-pub tied_lowered : (old new : List (ℕ × Shared)) (owner client mask : ℕ) (es : List (List ℕ × Record)) (agenda : Agenda) (owners owners' : List OwnerKey) (last : ℕ) →
-    HasLowered old new owner client mask → IsOwned new owners' → Tied old es agenda owners last → Tied new es agenda owners' last
-tied_lowered old new owner client mask es agenda owners owners' last lowered owned =
-    tied_anew old new es agenda owners owners' last (λ k. (let is = lowered k in grind (arith, is))) owned
+alike_lowered : (old new : List (ℕ × Shared)) (owner client mask : ℕ) → HasLowered old new owner client mask → AreAlike old new
+alike_lowered old new owner client mask lowered k = let is = lowered k in (grind (arith, is), (grind (arith, is), grind (arith, is)))
+
+pub tied_lowered : (old new : List (ℕ × Shared)) (owner client mask : ℕ) (es : List (List ℕ × Record)) (owners owners' : List OwnerKey) (last swept : ℕ) →
+    HasLowered old new owner client mask → IsOwned new owners' → Ties old es owners last swept → Ties new es owners' last swept
+tied_lowered old new owner client mask es owners owners' last swept lowered owned = tied_anew old new es owners owners' last swept (alike_lowered old new owner client mask lowered) owned
 
 -- ALTERING
 
@@ -195,25 +202,71 @@ unseen old new n (e ∷ es) others none =
     grind (arith, nat_tests, sums, same, unseen old new n es others)
 
 pub unseen_empty : (t : Tables) (new : List (ℕ × Shared)) (n : ℕ) → IsTied t → (shared_at t.families.entries n).count ≡ 0 →
-    ((k : ℕ) → k ≢ n → family_numbered new k ≡ family_numbered t.families.entries k) → all_kept new t.records.entries ≡ kept_of t
-unseen_empty t new n tied empty others = let same = tied.counted n in unseen t.families.entries new n t.records.entries others (omega (arith, same, empty))
+    ((k : ℕ) → k ≢ n → family_numbered new k ≡ family_numbered t.families.entries k) → all_kept new (stand_entries t.records) ≡ kept_of t
+unseen_empty t new n tied empty others = let same = tied.ties.counted n in unseen t.families.entries new n (stand_entries t.records) others (omega (arith, same, empty))
 
--- what is seen once a family without records is let go of
-pub tied_closed : (old new : List (ℕ × Shared)) (n : ℕ) (es : List (List ℕ × Record)) (agenda : Agenda) (owners owners' : List OwnerKey) (last : ℕ) → (shared_at old n).count ≡ 0 →
-    HasClosed old new n → (IsOwned old owners → IsOwned new owners') → Tied old es agenda owners last → Tied new es agenda owners' last
-tied_closed old new n es agenda owners owners' last bare closed owned tied = record {
+-- of a family without records none is unexpired
+none_lasts : (families : List (ℕ × Shared)) (es : List (List ℕ × Record)) (n t : ℕ) → IsCounted families es → (shared_at families n).count ≡ 0 → list_any (is_member_at n t) (values_of es) ≡ false
+none_lasts families es n t counted bare =
+    let few = member_few n t (values_of es) in
+    let any = any_counted (is_member_at n t) (values_of es) in
+    let count = counted n in
+    grind (arith, nat_tests, few, any, count, bare)
+
+-- another family without records, or none, stands where one without any did
+pub tied_bare : (old new : List (ℕ × Shared)) (n : ℕ) (es : List (List ℕ × Record)) (owners owners' : List OwnerKey) (last swept : ℕ) → (shared_at old n).count ≡ 0 → (shared_at new n).count ≡ 0 → (shared_at new n).until ≡ 0 →
+    OthersStay old new n → IsOwned new owners' → Ties old es owners last swept → Ties new es owners' last swept
+tied_bare old new n es owners owners' last swept bare empty fresh others owned tied = record {
   once = tied.once;
-  listed = tied.listed;
-  exact = tied.exact;
-  counted = λ k. (let here = closed.here in let other = closed.others k in let was = tied.counted k in grind (arith, nat_tests, here, other, was, bare));
-  owned = owned tied.owned;
+  homed = λ d r at. home d r at (r.family == n) refl;
+  lasting = λ k t le. last_at k t le (k == n) refl;
+  counted = λ k. (let other = others k in let was = tied.counted k in let was_n = tied.counted n in grind (arith, nat_tests, bare, empty, other, was, was_n));
+  owned = owned;
   below = tied.below;
 }
+  where
+    home : (d : List ℕ) (r : Record) → lookup (bytes_eq d) es ≡ Some r → (b : Bool) → (r.family == n) ≡ b → r.client ≡ (shared_at new r.family).client
+    home d r at true same =
+        let is : r.family ≡ n = grind (arith, nat_tests, same) in
+        let some = member_counted d es r at in
+        let count = tied.counted r.family in
+        absurd (let none : (shared_at old r.family).count ≡ 0 = subst (λ k. (shared_at old k).count ≡ 0) (sym is) bare in omega (arith, some, count, none))
+    home d r at false other =
+        let ne : r.family ≢ n = λ is. absurd (grind (arith, nat_tests, other, is)) in
+        tied.homed d r at ∙ ap (λ o. (or_nothing o).client) (sym (others r.family ne))
+
+    last_at : (k t : ℕ) → swept ≤ t → (b : Bool) → (k == n) ≡ b → list_any (is_member_at k t) (values_of es) ≡ nat_lt t (shared_at new k).until
+    last_at k t le true same =
+        let is : n ≡ k = grind (arith, nat_tests, same) in
+        let never : nat_lt t (shared_at new n).until ≡ false = rw fresh (grind (arith, nat_tests)) in
+        subst (λ m. list_any (is_member_at m t) (values_of es) ≡ nat_lt t (shared_at new m).until) is (none_lasts old es n t tied.counted bare ∙ sym never)
+    last_at k t le false other =
+        let ne : k ≢ n = λ is. absurd (grind (arith, nat_tests, other, is)) in
+        tied.lasting k t le ∙ ap (λ o. nat_lt t (or_nothing o).until) (sym (others k ne))
+
+-- the index is that of the families with one in the place of another that it tells the same of
+pub owned_shared : (old new : List (ℕ × Shared)) (n : ℕ) (s : Shared) (owners : List OwnerKey) → IsOwned old owners → family_numbered new n ≡ Some s → OthersStay old new n →
+    ((key : OwnerKey) → is_coded key (family_numbered old n) ≡ is_coded key (Some s)) → IsOwned new owners
+owned_shared old new n s owners owned here others alike key = by (nat_eq key.1.1 n) refl
+  where
+    by : (b : Bool) → nat_eq key.1.1 n ≡ b → has_owner owners key ≡ is_coded key (family_numbered new key.1.1)
+    by true is =
+        let same : key.1.1 ≡ n = grind (arith, nat_tests, is) in
+        owned key ∙ ap (λ k. is_coded key (family_numbered old k)) same ∙ alike key ∙ ap (is_coded key) (sym here) ∙ ap (λ k. is_coded key (family_numbered new k)) (sym same)
+    by false is =
+        let ne : key.1.1 ≢ n = λ same. absurd (grind (arith, nat_tests, is, same)) in
+        owned key ∙ ap (is_coded key) (sym (others key.1.1 ne))
+
+-- what is seen once a family without records is let go of
+pub tied_closed : (old new : List (ℕ × Shared)) (n : ℕ) (es : List (List ℕ × Record)) (owners owners' : List OwnerKey) (last swept : ℕ) → (shared_at old n).count ≡ 0 →
+    HasClosed old new n → (IsOwned old owners → IsOwned new owners') → Ties old es owners last swept → Ties new es owners' last swept
+tied_closed old new n es owners owners' last swept bare closed owned tied =
+    tied_bare old new n es owners owners' last swept bare (ap (λ o. (or_nothing o).count) closed.here) (ap (λ o. (or_nothing o).until) closed.here) closed.others (owned tied.owned) tied
 
 -- a family without records is let go of, and what the tables tell of stays
 pub record IsCleared (t : Tables) (new : List (ℕ × Shared)) (owners : List OwnerKey) (n : ℕ) : Type 0 where
-  pub tied : Tied new t.records.entries t.agenda owners t.last
-  pub kept : all_kept new t.records.entries ≡ kept_of t
+  pub tied : Ties new (stand_entries t.records) owners t.last t.swept
+  pub kept : all_kept new (stand_entries t.records) ≡ kept_of t
   pub closed : HasClosed t.families.entries new n
 
 -- so it is wherever the others lie
@@ -223,8 +276,8 @@ pub cleared : (t : Tables) (mid new : List (ℕ × Shared)) (owners : List Owner
 cleared t mid new owners n tied bare closed owned same =
     let moved : HasClosed t.families.entries new n = record { here = same n ∙ closed.here; others = λ k ne. same k ∙ closed.others k ne } in
     record {
-      tied = tied_closed t.families.entries new n t.records.entries t.agenda t.owners.keys owners t.last bare moved
-          (λ was key. owned was key ∙ ap (is_coded key) (sym (same key.1.1))) tied;
+      tied = tied_closed t.families.entries new n (stand_entries t.records) t.owners.keys owners t.last t.swept bare moved
+          (λ was key. owned was key ∙ ap (is_coded key) (sym (same key.1.1))) tied.ties;
       kept = unseen_empty t new n tied bare moved.others;
       closed = moved;
     }
@@ -246,14 +299,9 @@ owned_opened old new n s owners owners' (Some key) none here others is indexed o
     grind (arith, nat_tests, at, far, number, now, was, other, here, none)
 
 -- and once one without records is opened
-pub tied_opened : (old new : List (ℕ × Shared)) (n : ℕ) (s : Shared) (es : List (List ℕ × Record)) (agenda : Agenda) (owners owners' : List OwnerKey) (last : ℕ) → s.count ≡ 0 →
+pub tied_opened : (old new : List (ℕ × Shared)) (n : ℕ) (s : Shared) (es : List (List ℕ × Record)) (owners owners' : List OwnerKey) (last swept : ℕ) → s.count ≡ 0 → s.until ≡ 0 →
     family_numbered old n ≡ None → family_numbered new n ≡ Some s → OthersStay old new n →
-    HasIndexed owners owners' (key_of s n) → Tied old es agenda owners last → Tied new es agenda owners' last
-tied_opened old new n s es agenda owners owners' last empty none here others indexed tied = record {
-  once = tied.once;
-  listed = tied.listed;
-  exact = tied.exact;
-  counted = λ k. (let other = others k in let was = tied.counted k in let was_n = tied.counted n in grind (arith, nat_tests, here, none, other, was, was_n, empty));
-  owned = owned_opened old new n s owners owners' (key_of s n) none here others refl indexed tied.owned;
-  below = tied.below;
-}
+    HasIndexed owners owners' (key_of s n) → Ties old es owners last swept → Ties new es owners' last swept
+tied_opened old new n s es owners owners' last swept empty fresh none here others indexed tied =
+    tied_bare old new n es owners owners' last swept (ap (λ o. (or_nothing o).count) none) (ap (λ o. (or_nothing o).count) here ∙ empty) (ap (λ o. (or_nothing o).until) here ∙ fresh) others
+    (owned_opened old new n s owners owners' (key_of s n) none here others refl indexed tied.owned) tied

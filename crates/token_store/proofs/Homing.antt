@@ -1,7 +1,7 @@
 -- Whether a family that a token is issued in has records.
 use Rattle.std.proofs.Common.{◌≡◌, refl, ◌⊎◌, inl, inr, ◌<◌, ◌∙◌, ap, ℕ, List, Bool, true, false, Option, None, arith}
 use Rattle.std.specs.Prelude.{◌||◌, is_some}
-use Rattle.token_store.proofs.Names.{Event, is_new, is_home, parties_of, Shared, Tables, kept_of, shared_at, FitsStore, to_keep, held_of, room_of, IsTied, host_of, Waits, IsExpected, IsPeopled}
+use Rattle.token_store.proofs.Names.{Event, is_new, is_home, parties_of, Shared, Tables, kept_of, shared_at, FitsStore, to_keep, held_of, room_of, IsTied, host_of, Waits, IsExpected, IsPeopled, stand_entries}
 use Rattle.token_store.proofs.Names.{nat_tests}
 use Rattle.std.specs.Prelude.{option_map}
 use Rattle.consent.specs.RecordFacts.{KindFact}
@@ -24,8 +24,8 @@ module _ (t : Tables) (history : List Event) (m : ℕ) (tied : IsTied t) (fits :
   pub bare_new : (family : ℕ) → is_new history family ≡ true → (shared_at t.families.entries family).count ≡ 0
   bare_new family new =
       let last = fits.last in
-      let none = tied.below family (grind (arith, nat_tests, new, last)) in
-      let count = tied.counted family in
+      let none = tied.ties.below family (grind (arith, nat_tests, new, last)) in
+      let count = tied.ties.counted family in
       omega (arith, none, count)
 
   -- and a home has some, and shares whose it is
@@ -39,8 +39,8 @@ module _ (t : Tables) (history : List Event) (m : ℕ) (tied : IsTied t) (fits :
       let of : g.family ≡ home.family = grind (arith, nat_tests, its) in
       let whose : (g.client ≡ (parties_of home).client) × (g.owner ≡ (parties_of home).owner) = grind (arith, nat_tests, its) in
       let kept = fits.kept.answers g.digest m (omega arith) ∙ ap (option_map (to_keep history g.digest m)) named in
-      let some = kept_counted t.families.entries t.records.entries g.digest m (to_keep history g.digest m g) tied.once tied.counted kept in
-      let shared = shared_of t.families.entries t.records.entries history m g.digest g tied.once fits.kept named in
+      let some = kept_counted t.families.entries (stand_entries t.records) g.digest m (to_keep history g.digest m g) tied.ties.once tied.ties.counted kept in
+      let shared = shared_of t.families.entries (stand_entries t.records) history m g.digest g tied.ties.once fits.kept named in
       let both : (0 < (shared_at t.families.entries g.family).count) × IsShared history g.family (parties_of home) (shared_at t.families.entries g.family) =
       (some, record { client = shared.client ∙ whose.0; owner = shared.owner ∙ whose.1; terms = shared.terms; ended = shared.ended }) in
       rw of at both

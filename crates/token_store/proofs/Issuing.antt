@@ -3,7 +3,7 @@ use Rattle.std.proofs.Common.{◌≡◌, ℕ, List, [], ◌∷◌, ◌++◌, Opt
 use Rattle.token_store.proofs.Names.{◌==◌, eq-eqb, and_from, find-some, same_Some, bytes_eq-Decides, Event, Grant, grants, grant_at, CanStand, told}
 use Rattle.token_store.proofs.Names.{is_named, is_code, is_code_of, code_terms, has_ended, is_new, is_host, Host, found-named, with_change, code_terms-push_other, has_ended-push_other}
 use Rattle.token_store.proofs.Names.{code_terms-kin, code_terms-new, has_ended-new, is_history-push, Record, Shared, Kept, FitsHistory, to_keep}
-use Rattle.token_store.proofs.Names.{parties_of, home_shared, fact_in, kind_told, owner_told, kept_at, terms_by, kept_under, token_kept}
+use Rattle.token_store.proofs.Names.{parties_of, home_shared, code_scope, fact_in, kind_told, owner_told, kept_at, terms_by, kept_under, token_kept}
 use Rattle.std.specs.Prelude.{option_map}
 use Rattle.consent.specs.declared.change.Home.{Home}
 use Rattle.consent.specs.declared.change.NewToken.{NewToken}
@@ -18,7 +18,7 @@ use Rattle.token_store.proofs.Adding.{Gives, fits_given}
 pub record IsShared (history : List Event) (family : ℕ) (parties : Parties) (s : Shared) : Type 0 where
   pub client : s.client ≡ parties.client
   pub owner : s.owner ≡ parties.owner
-  pub terms : code_terms history family ≡ option_map (terms_by s.client s.owner) s.code_scope
+  pub terms : code_terms history family ≡ option_map (terms_by s.client s.owner) (code_scope s)
   pub ended : has_ended history family ≡ s.ended
 
 pub fits_token : (kept : List Kept) (history : List Event) (moment family : ℕ) (parties : Parties) (s : Shared) (token : NewToken) →
@@ -27,7 +27,7 @@ pub fits_token : (kept : List Kept) (history : List Event) (moment family : ℕ)
 fits_token kept history moment family parties s token is can fits =
     let e : Event = record { moment = moment; change = told.Issued family parties token } in
     let g : Grant = record (token_kept family s moment token).grant { client = parties.client; owner = parties.owner } in
-    let terms : code_terms (history ++ e ∷ []) family ≡ option_map (terms_by s.client s.owner) s.code_scope = code_terms-push_other history e g family refl refl ∙ is.terms in
+    let terms : code_terms (history ++ e ∷ []) family ≡ option_map (terms_by s.client s.owner) (code_scope s) = code_terms-push_other history e g family refl refl ∙ is.terms in
     let ended : has_ended (history ++ e ∷ []) family ≡ s.ended = has_ended-push_other history e family refl ∙ is.ended in
     let gives : Gives history moment e g = record {
       gives_it = refl;
@@ -66,12 +66,12 @@ shared_found kept history moment g s digest r fits found at =
     let seen : kept_under s digest r ≡ to_keep history digest moment g =
     same_Some _ _ (sym found ∙ fits.answers digest moment (omega arith) ∙ ap (option_map (to_keep history digest moment)) at) in
     let client : s.client ≡ g.client = ap (λ x. x.grant.client) seen in
-    let terms : code_terms history g.family ≡ option_map (terms_by s.client s.owner) s.code_scope = sym (ap (λ x. x.terms) seen) in
-    let owner : s.owner ≡ g.owner = owner_cases r.given (ap (λ x. x.grant.kind) seen) (ap (λ x. x.grant.owner) seen) s.code_scope terms in
+    let terms : code_terms history g.family ≡ option_map (terms_by s.client s.owner) (code_scope s) = sym (ap (λ x. x.terms) seen) in
+    let owner : s.owner ≡ g.owner = owner_cases r.given (ap (λ x. x.grant.kind) seen) (ap (λ x. x.grant.owner) seen) (code_scope s) terms in
     (ap (λ x. x.grant.family) seen, record { client = client; owner = owner; terms = terms; ended = sym (ap (λ x. x.ended) seen) })
   where
     owner_cases : (given : Given) → kind_told (fact_in given) ≡ g.kind → owner_told s.owner (fact_in given) ≡ g.owner → (o : Option ℕ) → code_terms history g.family ≡ option_map (terms_by s.client s.owner) o → s.owner ≡ g.owner
-    owner_cases (Token token) kind owner o terms = owner
+    owner_cases (Token token spent) kind owner o terms = owner
     owner_cases (Code texts) kind owner None terms = absurd (code_has_terms history digest moment g at (ap is_code (sym kind)) terms)
     owner_cases (Code texts) kind owner (Some scope) terms = (code_terms-kin history digest moment g (terms_by s.client s.owner scope) fits.is_history.kin at terms).1
 

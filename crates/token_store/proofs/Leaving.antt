@@ -2,13 +2,15 @@
 use Rattle.std.proofs.Common.{◌≡◌, ◌+◌, ℕ, zero, suc, List, [], ◌∷◌, ◌++◌, refl, ap, ◌∙◌, sym, subst, append_assoc, append-nil, arith}
 use Rattle.std.specs.Prelude.{map}
 use Rattle.std.specs.List.{range_with_len}
-use Rattle.token_store.proofs.Names.{Event, event_at, map-append, with_change, with_changes, changes_of, told, Made, Held, FitsStore, MakesChanges, records_of}
+use Rattle.token_store.proofs.Names.{Event, event_at, map-append, with_change, with_changes, changes_of, told, Held, FitsStore, MakesChanges, records_of}
 use Rattle.consent.specs.Changes.{as_list}
 use Rattle.consent.specs.History.{withdrawals}
 use Rattle.consent.specs.History as history
 use Rattle.consent.specs.declared.change.Change.TheVariants as given
 use Rattle.consent.specs.declared.change.Changes.TheVariants.{Left}
 use Rattle.token_store.specs.FitsParts.{Alters}
+use Rattle.token_store.specs.Kept.{Room}
+use Rattle.token_store.specs.Room.{HasRoomFor, IsReady}
 
 -- what fitted a history fits it with the owner's consents to nothing, to each client up to the number
 abbrev pub HasWithdrawn : (old new : Held) → (m owner clients : ℕ) → Type 0
@@ -51,3 +53,14 @@ makes_left old new m owner clients has h fits follows =
 pub none_by : (owner : ℕ) (ns : List ℕ) → 0 ≡ records_of (map (λ client. given.Consented owner client 0) ns)
 none_by owner [] = refl
 none_by owner (n ∷ ns) = let more = none_by owner ns in omega (arith, more)
+
+-- and wait for nothing
+none_ready : (room : Room) (owner : ℕ) (ns : List ℕ) → IsReady room (map (λ client. given.Consented owner client 0) ns)
+none_ready room owner [] = tt
+none_ready room owner (n ∷ ns) = tt
+
+pub left_room : (room : Room) (owner clients : ℕ) → HasRoomFor room (as_list (Left owner clients))
+left_room room owner clients = record {
+  spare = (let none = none_by owner (range_with_len 1 clients) in omega (arith, none));
+  ready = none_ready room owner (range_with_len 1 clients);
+}

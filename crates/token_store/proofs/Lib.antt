@@ -8,6 +8,7 @@ pub mod Sweeping
 pub mod Families
 pub mod Issuing
 pub mod Leaving
+pub mod Lasting
 pub mod Living
 pub mod Homing
 pub mod Looking
@@ -15,7 +16,7 @@ pub mod Owning
 pub mod Following
 pub mod Unexpired
 pub mod Settling
-pub mod Sharing
+pub mod Keeping
 pub mod Spending
 pub mod Standing
 pub mod Telling

@@ -1,7 +1,7 @@
 -- What the store tells of a family, one of whose records is unexpired.
 use Rattle.std.proofs.Common.{◌≡◌, ℕ, List, Option, Some, None, true, false, refl, ap, ◌∙◌, sym, subst, arith}
 use Rattle.token_store.proofs.Names.{find, is_some, bytes_eq, lookup, keys_of, IsDistinct, any-found, any-found_by, find-one, find-passes, bytes_eq-Decides, same_Some, nat_tests}
-use Rattle.token_store.proofs.Names.{Event, Grant, Terms, terms_by, grants, grant_at, is_named, is_live_in, found-named, found_kin, Record, Shared, Kept, kept_at, kept_lives, kept_in, all_kept}
+use Rattle.token_store.proofs.Names.{Event, Grant, Terms, code_scope, terms_by, grants, grant_at, is_named, is_live_in, found-named, found_kin, Record, Shared, Kept, kept_at, kept_lives, kept_in, all_kept}
 use Rattle.token_store.proofs.Names.{shared_at, shared_seen}
 use Rattle.token_store.proofs.Names.{FitsHistory, to_keep}
 use Rattle.std.specs.Prelude.{option_map}
@@ -94,7 +94,7 @@ family_is families es history m family once fits lives =
     (any-found (is_live_in family m) (grants history) (any-found_by (is_named is.grant.digest m) (is_live_in family m) (grants history) is.grant is.named
     (let passes = find-passes (is_named is.grant.digest m) (grants history) is.grant is.named in let own = is.family_is in grind (arith, nat_tests, passes, own))))
   where
-    scope_of : (s : Shared) → Some (shared_seen s) ≡ Some (record { client = s.client; owner = s.owner; code_scope = option_map (λ (t : Terms). t.scope) (option_map (terms_by s.client s.owner) s.code_scope); ended = s.ended })
+    scope_of : (s : Shared) → Some (shared_seen s) ≡ Some (record { client = s.client; owner = s.owner; code_scope = option_map (λ (t : Terms). t.scope) (option_map (terms_by s.client s.owner) (code_scope s)); ended = s.ended })
     scope_of s = grind arith
 
     by : (is : IsNamed families history m family) → (o : Option Grant) → find (is_live_in family m) (grants history) ≡ o → is_some o ≡ true →

@@ -2,7 +2,10 @@
 use Rattle.std.proofs.Common.{◌≡◌, ℕ, ◌+◌, List, [], ◌∷◌, ◌++◌, Option, Some, None, Bool, true, cond, refl, ap, ◌∙◌, sym, arith}
 use Rattle.token_store.proofs.Names.{count_by, IsDistinct, bytes_eq, lookup, keys_of, nat_list_eq_equiv, lookup-none, none_past_head, IsDistinct-tail, bytes_eq-Decides, find-append, sum_by_push}
 use Rattle.token_store.proofs.Names.{Record, Shared, Kept, kept_at, kept_in, all_kept, is_live_at, TellsSame, count_by-cons}
+use Rattle.token_store.proofs.Names.{list_any, values_of, ◌||◌}
 use Rattle.std.specs.Prelude.{map}
+use Rattle.shelf.specs.Shelved.{entries_in, in_slot}
+use Rattle.shelf.specs.Shelved.{Named}
 
 -- what is seen of the record of the digest
 abbrev pub shown : List (ℕ × Shared) → List ℕ → ℕ → Option Record → Option Kept
@@ -18,6 +21,12 @@ found families (e ∷ es) digest t distinct =
     let is = (bytes_eq-Decides digest e.0).0 in
     let none : bytes_eq digest e.0 ≡ true → lookup (bytes_eq digest) es ≡ None = λ h. lookup-none (bytes_eq digest) es (none_past_head nat_list_eq_equiv digest e es distinct h) in
     grind (arith, more, is, none)
+
+-- one of what is in the slots passes where one of the records does
+pub any_slots : (p : Record → Bool) (slots : List (Option (Named Record))) → list_any (in_slot p) slots ≡ list_any p (values_of (entries_in slots))
+any_slots p [] = refl
+any_slots p (None ∷ ss) = any_slots p ss
+any_slots p (Some s ∷ ss) = ap (λ b. p s.kept || b) (any_slots p ss)
 
 -- WHAT IS SEEN ALIKE
 

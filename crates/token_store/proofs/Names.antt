@@ -36,22 +36,20 @@ pub use Rattle.std.specs.Ordering.{is_gt}
 pub use Rattle.std.specs.Prelude.{count_by, ◌==◌, is_some, unwrap_or, nat_le, if◌then◌else◌, ◌||◌, find, nat_eq, not, min, All}
 pub use Rattle.std.specs.Str.{bytes_eq}
 pub use Rattle.std.specs.Vec.{with_items, vec_len}
-pub use Rattle.agenda.specs.Agenda.{deadlines_of, is_deadline, IsExact, least, IsBounded, deadlines_in, is_ahead, is_filled}
+pub use Rattle.shelf.specs.Shelved.{AllLast, HasGone, HasTaken, Puts}
+pub use Rattle.shelf.specs.Standing.{stand_entries, IsStanding}
 pub use Rattle.token_store.specs.Fits.{to_keep, FitsHistory, FitsStore, MakesChanges}
 pub use Rattle.token_store.specs.FitsParts.{MakesChange}
 pub use Rattle.token_store.specs.Image.{as_kept, kept_record, kind_told, owner_told, terms_by}
 pub use Rattle.token_store.specs.Kept.{Kept, kept_at, kept_lives, kept_unexpired, Room, Held}
-pub use Rattle.token_store.specs.Records.{shared_at, all_kept, Tied, kept_of, IsTied, kept_in, kept_under, member_count, IsCounted, is_coded, IsOwned, home_shared, family_numbered, shared_seen}
-pub use Rattle.token_store.specs.Records.{fact_in, expiry}
-pub use Rattle.token_store.specs.Records.{expiry_of, AllListed, IsBelow, or_nothing, has_owner, OwnerKey, is_scope, owner_cmp, code_shared, texts_given}
-pub use Rattle.token_store.specs.RecordsParts.{code_kept, is_member_at, TellsSame, is_live_at, HasLeft, RecordChange, changed, HasEnded, HasLowered, HasIndexed, HasStruck, key_of, is_past, start_of, IsNextOwned, lowered_shared}
+pub use Rattle.token_store.specs.Records.{shared_at, all_kept, Ties, kept_of, IsTied, kept_in, kept_under, member_count, IsCounted, is_coded, IsOwned, home_shared, family_numbered, shared_seen}
+pub use Rattle.token_store.specs.Records.{code_scope, fact_in, expiry, used}
+pub use Rattle.token_store.specs.Records.{client_of, expiry_of, is_member_at, AllHomed, IsBelow, IsLasting, or_nothing, has_owner, OwnerKey, is_scope, owner_cmp, code_shared, texts_given}
+pub use Rattle.token_store.specs.RecordsParts.{code_kept, TellsSame, is_live_at, HasLeft, RecordChange, changed, HasEnded, HasLowered, HasIndexed, HasStruck, key_of, is_past, start_of, IsNextOwned, lowered_shared}
 pub use Rattle.token_store.specs.RecordsParts.{token_kept}
-pub use Rattle.token_store.specs.RecordsParts.{HasEntered, SharesSame, spent_in, HasTaken, IsNoneExpired, AllGone, shared_or, where_peopled, BecomesKnown, SeenSame, HasAltered, altered, Sheds}
+pub use Rattle.token_store.specs.RecordsParts.{HasEntered, SharesSame, spent_in, shared_or, where_peopled, BecomesKnown, SeenSame, HasAltered, altered}
 pub use Rattle.token_store.specs.RecordsParts.{AllLive}
 pub use Rattle.token_store.specs.Room.{Waits, HasRoomFor, IsExpected, IsPeopled, held_of, room_of, records_of}
-pub use Rattle.agenda.specs.declared.agenda.Agenda.{Agenda}
-pub use Rattle.agenda.specs.declared.agenda.Deadline.{Deadline}
-pub use Rattle.agenda.specs.declared.agenda.Page.{Page}
 pub use Rattle.token_store.specs.declared.record.Record.{Record}
 pub use Rattle.token_store.specs.declared.record.Shared.{Shared}
 pub use Rattle.token_store.specs.declared.tables.Coming.{Coming}

@@ -1,5 +1,5 @@
 -- How many families of an owner live.
-use Rattle.std.proofs.Common.{◌≡◌, ◌≤◌, ◌+◌, ℕ, List, [], ◌∷◌, Option, Some, None, Bool, true, false, cond, length, refl, ap, ◌∙◌, sym, arith}
+use Rattle.std.proofs.Common.{◌≡◌, ◌≤◌, ℕ, List, [], ◌∷◌, Option, Some, None, Bool, true, false, refl, ap, ◌∙◌, sym, arith}
 use Rattle.std.specs.Prelude.{filter, map, nat_lt, option_map, not, ◌&&◌}
 use Rattle.std.specs.List.{IsDistinct}
 use Rattle.std.specs.Set.{is_member}
@@ -9,9 +9,9 @@ use Rattle.std.proofs.lemmas.List.Sums.{length-filter}
 use Rattle.std.proofs.lemmas.Map.Made.{length-from_same_keys, IsDistinct-keys_filter}
 use Rattle.consent.specs.History.{families_of, is_code_for}
 use Rattle.consent.specs.ListLaws.{any-none}
-use Rattle.token_store.proofs.Names.{◌==◌, count_by, find, find-passes, find-uncounted, any-found, any-found_by, is_some, lookup, lookup-none, none_past_head, keys_of, list_any, nat_eq, nat_tests, count_by-cons}
+use Rattle.token_store.proofs.Names.{code_scope, ◌==◌, count_by, find, find-passes, find-uncounted, is_some, lookup, lookup-none, none_past_head, keys_of, list_any, nat_eq, nat_tests, count_by-cons, stand_entries}
 use Rattle.token_store.proofs.Names.{AllByRecursion, IsDistinct-cons, IsDistinct-tail}
-use Rattle.token_store.proofs.Names.{Event, Grant, grants, code_terms, has_ended, is_code, is_code_of, is_live_in, lives, terms_of, terms_by}
+use Rattle.token_store.proofs.Names.{Event, Grant, grants, has_ended, is_code_of, is_live_in, lives, terms_of, terms_by}
 use Rattle.token_store.proofs.Names.{FitsHistory, IsTied, Shared, Tables, family_numbered, kept_lives, kept_of}
 use Rattle.token_store.specs.RecordsParts.{is_open_for, is_open_of}
 use Rattle.token_store.proofs.Counting.{kept_alike}
@@ -123,10 +123,10 @@ module _ (t : Tables) (history : List Event) (m owner : ℕ) (tied : IsTied t) (
           never (Some s) = grind (arith, dead)
       by_life true alive None at f found = absurd (let there = lives_there t m n tied alive in grind (arith, there, at))
       by_life true alive (Some s) at f found =
-          let named = named_of t.families.entries t.records.entries history m n tied.once fits alive in
+          let named = named_of t.families.entries (stand_entries t.records) history m n tied.ties.once fits alive in
           let is : IsShared history n (record { owner = named.grant.owner; client = named.grant.client }) s = rw at at named.shared in
-          let terms : option_map terms_of f ≡ option_map (terms_by s.client s.owner) s.code_scope = sym (ap (option_map terms_of) found) ∙ is.terms in
-          by_code f found s.code_scope terms is.ended
+          let terms : option_map terms_of f ≡ option_map (terms_by s.client s.owner) (code_scope s) = sym (ap (option_map terms_of) found) ∙ is.terms in
+          by_code f found (code_scope s) terms is.ended
         where
           by_code : (f : Option Grant) → find (is_code_of n) (grants history) ≡ f → (scope : Option ℕ) → option_map terms_of f ≡ option_map (terms_by s.client s.owner) scope → has_ended history n ≡ s.ended →
               ((not s.ended && is_some scope && (s.owner == owner)) && kept_lives (kept_of t) m n) ≡ passes (λ g. is_code_for history owner m g && (n == g.family)) f

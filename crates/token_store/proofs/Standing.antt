@@ -1,7 +1,7 @@
 -- What a store that is made of a list tells of families, as the list goes on.
 use Rattle.std.proofs.Common.{◌≡◌, ◌≢◌, ℕ, List, [], ◌∷◌, ◌++◌, Option, Some, None, Bool, true, false, refl, ap, ◌∙◌, sym, subst, arith}
 use Rattle.token_store.proofs.Names.{◌==◌, ◌||◌, if◌then◌else◌, option_or, find, is_some, find-passes, find-some, found_kin, IsHistory, Event, Grant, Terms, grant_of, grants, has_ended, code_terms}
-use Rattle.token_store.proofs.Names.{terms_of, is_code_of, is_beyond}
+use Rattle.token_store.proofs.Names.{code_scope, terms_of, is_code_of, is_beyond}
 use Rattle.token_store.proofs.Names.{may_end, code_terms-push_other, code_terms-push_none, has_ended-push, has_ended-push_other, parties_of, home_shared, terms_by, HasAltered, shared_or}
 use Rattle.token_store.proofs.Names.{shared_seen, BecomesKnown}
 use Rattle.token_store.proofs.Names.{family_numbered, Shared, same_Some, nat_tests}
@@ -22,7 +22,7 @@ Knows families list = (n : ℕ) → option_map shared_seen (family_numbered fami
 abbrev pub KnowsEnded : List Event → Type 0
 KnowsEnded list = (n : ℕ) → has_ended list n ≡ true → is_some (family_told list n) ≡ true
 
-scope_told : (s : Shared) → option_map (λ (t : Terms). t.scope) (option_map (terms_by s.client s.owner) s.code_scope) ≡ s.code_scope
+scope_told : (s : Shared) → option_map (λ (t : Terms). t.scope) (option_map (terms_by s.client s.owner) (code_scope s)) ≡ code_scope s
 scope_told s = grind arith
 
 -- WHAT A FAMILY SHARES
@@ -51,7 +51,7 @@ shared_as list n s g kin at seen =
     let of : g.family ≡ n = grind (arith, nat_tests, its) in
     let client : s.client ≡ g.client = ap (λ (x : SeenFamily). x.client) seen in
     let owner : s.owner ≡ g.owner = ap (λ (x : SeenFamily). x.owner) seen in
-    let scope : s.code_scope ≡ option_map (λ (t : Terms). t.scope) (code_terms list n) = rw of at (ap (λ (x : SeenFamily). x.code_scope) seen) in
+    let scope : code_scope s ≡ option_map (λ (t : Terms). t.scope) (code_terms list n) = rw of at (ap (λ (x : SeenFamily). x.code_scope) seen) in
     let ended : s.ended ≡ has_ended list n = rw of at (ap (λ (x : SeenFamily). x.ended) seen) in
     record { client = refl; owner = refl; terms = rw (client, owner, scope) (code_whose list n g kin at); ended = sym ended }
 
@@ -202,7 +202,7 @@ knows_altered old new list e m none is knows is_altered n = by (family_numbered 
         let client : g.client ≡ s.client = sym (ap (λ (x : SeenFamily). x.client) has.seen) in
         let owner : g.owner ≡ s.owner = sym (ap (λ (x : SeenFamily). x.owner) has.seen) in
         rw (is_altered n, at, same, has.at, of, client, owner, terms, ended, shared.terms, shared.ended, scope_told s)
-        (ap (λ x. Some x) (altered_seen (ends n e.change || is_beyond e.change (option_map (terms_by s.client s.owner) s.code_scope)) s))
+        (ap (λ x. Some x) (altered_seen (ends n e.change || is_beyond e.change (option_map (terms_by s.client s.owner) (code_scope s))) s))
 
 pub ended_altered : (list : List Event) (e : Event) (m : ℕ) → IsHistory list m → KnowsEnded list →
     ((n : ℕ) → ends n e.change ≡ true → is_some (family_told list n) ≡ true) → KnowsEnded (list ++ e ∷ [])

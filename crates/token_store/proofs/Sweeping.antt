@@ -1,74 +1,65 @@
 -- The tables as what has expired goes.
-use Rattle.std.proofs.Common.{◌≡◌, ◌<◌, ℕ, List, [], ◌∷◌, ◌++◌, Option, Some, None, false, Bool, true, cond, refl, ◌∙◌, arith}
-use Rattle.token_store.proofs.Names.{OwnerKey, IsDistinct, IsPermutation, bytes_eq, lookup, keys_of, remove_entry, list_any-append, bytes_eq-Decides, Deadline, Record, Shared, least, is_deadline}
-use Rattle.token_store.proofs.Names.{SeenSame, all_kept, expiry_of, IsCounted, IsOwned, is_live_at, HasLeft, HasTaken, IsNoneExpired, AllGone, Sheds, nat_tests}
-use Rattle.token_store.proofs.Looking.{same_on}
-use Rattle.token_store.proofs.Dropping.{counted_without, dropped_one, fewer_members}
-use Rattle.agenda.specs.AgendaLaws.{least_at}
-
--- WHICH ARE GONE
-
--- one that is still to come
-pub gone_ahead : (e : Deadline) (es : List (List ℕ × Record)) (m : ℕ) → m < e.moment → AllGone (e ∷ []) es m
-gone_ahead e es m lt d t listed at = grind (arith, nat_tests)
-
--- one whose record was looked at
-pub gone_one : (e : Deadline) (es : List (List ℕ × Record)) (m : ℕ) → ((t : ℕ) → expiry_of (lookup (bytes_eq e.digest) es) ≡ Some t → m < t) → AllGone (e ∷ []) es m
-gone_one e es m gone d t listed at = let is = (bytes_eq-Decides d e.digest).0 in let late = gone t in grind (arith, is, late)
-
--- those whose least is still to come
-pub gone_later : (xs : List Deadline) (m : ℕ) (es : List (List ℕ × Record)) → m < least xs → AllGone xs es m
-gone_later xs m es lt d t listed at = let le = least_at xs d t listed in omega (arith, lt, le)
-
--- WHAT GOES
-
-pub taken_out : (old without new : List (List ℕ × Record)) (digest : List ℕ) (r : Record) → lookup (bytes_eq digest) old ≡ Some r → IsDistinct bytes_eq (keys_of without) →
-    IsPermutation (remove_entry (bytes_eq digest) old) without → ((d : List ℕ) → lookup (bytes_eq d) without ≡ cond (bytes_eq digest d) None (lookup (bytes_eq d) old)) →
-    new ≡ without → HasTaken old new digest r
-taken_out old without new digest r at once moved taken is = rw is (record { found = at; once = once; moved = moved; taken = taken })
-
-pub sheds_none : (families : List (ℕ × Shared)) (es : List (List ℕ × Record)) (owners : List OwnerKey) (xs : List Deadline) (m : ℕ) (keeps : Bool) → IsDistinct bytes_eq (keys_of es) → IsCounted families es →
-    AllGone xs es m → Sheds families es owners families es owners xs m keeps
-sheds_none families es owners xs m keeps once counted gone =
-    record { once = once; counted = counted; no_more = λ n. omega arith; owned = λ owned. owned; same = record { finds = λ d t le. refl; counts = λ t le. refl }; fewer = λ d t at. at; gone = gone; stay = λ is n. refl }
-
-pub sheds_on : (f g h : List (ℕ × Shared)) (es fs gs : List (List ℕ × Record)) (o p q : List OwnerKey) (xs ys : List Deadline) (m : ℕ) (keeps : Bool) →
-    Sheds f es o g fs p xs m keeps → Sheds g fs p h gs q ys m keeps → Sheds f es o h gs q (xs ++ ys) m keeps
-sheds_on f g h es fs gs o p q xs ys m keeps first more = record {
-  once = more.once;
-  counted = more.counted;
-  no_more = λ n. (let one = first.no_more n in let other = more.no_more n in omega (arith, one, other));
-  owned = λ owned. more.owned (first.owned owned);
-  same = same_on (all_kept f es) (all_kept g fs) (all_kept h gs) m first.same more.same;
-  fewer = λ d t at. first.fewer d t (more.fewer d t at);
-  gone = λ d t listed at. (let both = list_any-append (is_deadline d t) xs ys in
-      let one = first.gone d t in
-      let other = more.gone d t in
-      let less = more.fewer d t at in
-      grind (arith, both, one, other, less, listed, at));
-  stay = λ is n. more.stay is n ∙ first.stay is n;
-}
-
--- a family that is kept looks as it did
-left_seen : (families families' : List (ℕ × Shared)) (n : ℕ) (keeps : Bool) → HasLeft families families' n keeps → keeps ≡ true → SeenSame families families'
-left_seen families families' n keeps left is k = let other = left.others k in grind (arith, nat_tests, left.here, other, is)
-
-pub sheds_one : (families families' : List (ℕ × Shared)) (es es' : List (List ℕ × Record)) (owners owners' : List OwnerKey) (e : Deadline) (r : Record) (m : ℕ) (keeps : Bool) → IsDistinct bytes_eq (keys_of es) →
-    IsCounted families es → HasTaken es es' e.digest r → is_live_at m r ≡ false → HasLeft families families' r.family keeps → (IsOwned families owners → IsOwned families' owners') →
-    Sheds families es owners families' es' owners' (e ∷ []) m keeps
-sheds_one families families' es es' owners owners' e r m keeps once counted has late left owned =
-    let counted' = counted_without families families' es es' e.digest r keeps counted has.found has.moved left in
-    record {
-      once = has.once;
-      counted = counted';
-      no_more = fewer_members es es' e.digest r has.found has.moved;
-      owned = owned;
-      same = dropped_one families families' es es' e.digest r m keeps once has.once counted' has.found (grind (arith, nat_tests, late)) has.moved has.taken left;
-      fewer = λ d t at. (let less = has.taken d in grind (arith, less));
-      gone = gone_one e es' m (λ t at. (let gone = has.taken e.digest in let same = (bytes_eq-Decides e.digest e.digest).1 refl in grind (arith, at, gone, same)));
-      stay = left_seen families families' r.family keeps left;
-    }
+use Rattle.std.proofs.Common.{◌≡◌, ◌<◌, ◌≤◌, ℕ, List, Option, Some, None, true, Bool, cond, refl, ap, ◌∙◌, sym, subst, arith}
+use Rattle.std.specs.Prelude.{nat_lt}
+use Rattle.std.proofs.lemmas.List.Sorted.{IsPermutation-refl}
+use Rattle.std.proofs.lemmas.Map.{lookup-remove_entry}
+use Rattle.token_store.proofs.Names.{OwnerKey, IsDistinct, IsPermutation, bytes_eq, family_numbered, keys_of, list_any, lookup, nat_list_eq_equiv, remove_entry, values_of, Record, Shared}
+use Rattle.token_store.proofs.Names.{expiry, expiry_of, is_member_at, shared_at, AllHomed, AllLast, AllLive, HasLeft, HasTaken, IsCounted, IsOwned, Kept, SeenSame, TellsSame, Ties, all_kept, nat_tests}
+use Rattle.token_store.proofs.Dropping.{count_without, counted_without, dropped_one, fewer_members, member_counted, same_shared}
+use Rattle.token_store.proofs.Lasting.{any_counted, dead_member, lasts_as}
 
 -- what has not expired has no expiry that has come
-pub none_late : (o : Option Record) (t m : ℕ) → IsNoneExpired m o → expiry_of o ≡ Some t → m < t
-none_late o t m live at = grind (arith, nat_tests)
+pub all_live : (es : List (List ℕ × Record)) (m : ℕ) → AllLast expiry es m → AllLive es m
+all_live es m all d t at = by (lookup (bytes_eq d) es) refl at
+  where
+    by : (o : Option Record) → lookup (bytes_eq d) es ≡ o → expiry_of o ≡ Some t → m < t
+    by None is none = cc
+    by (Some r) is some = let lasts = all d r is in grind (arith, some, lasts)
+
+-- a family that is kept looks as it did
+pub left_seen : (families families' : List (ℕ × Shared)) (n : ℕ) (keeps : Bool) → HasLeft families families' n keeps → keeps ≡ true → SeenSame families families'
+left_seen families families' n keeps left is k = let other = left.others k in grind (arith, nat_tests, left.here, other, is)
+
+-- A record that had expired is gone, and its family with the last, unless that is kept.
+module _ (families families' : List (ℕ × Shared)) (es es' : List (List ℕ × Record)) (owners owners' : List OwnerKey) (last swept swept' : ℕ) (keeps : Bool) (digest : List ℕ) (r : Record) (tied : Ties families es owners last swept)
+    (once' : IsDistinct bytes_eq (keys_of es')) (has : HasTaken es es' digest r) (left : HasLeft families families' r.family keeps) where
+  moved : IsPermutation (remove_entry (bytes_eq digest) es) es'
+  moved = subst (λ (xs : List (List ℕ × Record)). IsPermutation (remove_entry (bytes_eq digest) es) xs) (sym has.taken) (IsPermutation-refl (remove_entry (bytes_eq digest) es))
+
+  finds : (d : List ℕ) → lookup (bytes_eq d) es' ≡ cond (bytes_eq digest d) None (lookup (bytes_eq d) es)
+  finds d = ap (λ (xs : List (List ℕ × Record)). lookup (bytes_eq d) xs) has.taken ∙ lookup-remove_entry nat_list_eq_equiv (bytes_eq digest) (nat_list_eq_equiv.congr digest) d es tied.once
+
+  counted' : IsCounted families' es'
+  counted' = counted_without families families' es es' digest r keeps tied.counted has.found moved left
+
+  pub gone_same : (moment : ℕ) → expiry r ≤ moment → TellsSame (all_kept families es) (all_kept families' es') moment
+  gone_same moment late = dropped_one families families' es es' digest r moment keeps tied.once once' counted' has.found late moved finds left
+
+  homed : AllHomed families' es'
+  homed d x at =
+      let some = member_counted d es' x at in
+      let count = counted' x.family in
+      let was : lookup (bytes_eq d) es ≡ Some x = (let is = finds d in grind (arith, is, at)) in
+      tied.homed d x was ∙ ap (λ (k : Kept). k.grant.client) (sym (same_shared families families' r.family x.family d x keeps left (omega (arith, some, count))))
+
+  until_same : (n : ℕ) (s : Shared) → family_numbered families' n ≡ Some s → s.until ≡ (shared_at families n).until
+  until_same n s at = let other = left.others n in let here = left.here in grind (arith, nat_tests, other, here, at)
+
+  any_same : expiry r ≤ swept' → swept ≤ swept' → (n t : ℕ) → swept' ≤ t → list_any (is_member_at n t) (values_of es') ≡ nat_lt t (shared_at families n).until
+  any_same late later n t le =
+      let sums = count_without (is_member_at n t) digest es es' r has.found moved in
+      let dead = dead_member n t r (omega (arith, late, le)) in
+      let any = any_counted (is_member_at n t) (values_of es) in
+      let any' = any_counted (is_member_at n t) (values_of es') in
+      let before = tied.lasting n t (omega (arith, later, le)) in
+      grind (arith, sums, dead, any, any', before)
+
+  pub gone_tied : expiry r ≤ swept' → swept ≤ swept' → (IsOwned families owners → IsOwned families' owners') → Ties families' es' owners' last swept'
+  gone_tied late later owned = record {
+    once = once';
+    homed = homed;
+    lasting = λ n t le. lasts_as families' es' n t (shared_at families n).until counted' (any_same late later n t le) (λ s at. until_same n s at);
+    counted = counted';
+    owned = owned tied.owned;
+    below = λ n lt. (let was = tied.below n lt in let less = fewer_members es es' digest r has.found moved n in omega (arith, was, less));
+  }

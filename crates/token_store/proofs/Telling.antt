@@ -1,6 +1,6 @@
 -- What the store fits, by what is seen of its tables.
 use Rattle.std.proofs.Common.{◌≡◌, ◌<◌, ◌≤◌, ℕ, ◌+◌, List, [], ◌∷◌, Option, Some, None, true, cond, eqb, length, refl, ap, ◌∙◌, sym, arith}
-use Rattle.token_store.proofs.Names.{count_by, IsDistinct, bytes_eq, lookup, keys_of, values_of, nat_list_eq_equiv, length-map, lookup-none, none_past_head, IsDistinct-tail, bytes_eq-Decides}
+use Rattle.token_store.proofs.Names.{count_by, IsDistinct, bytes_eq, lookup, keys_of, values_of, nat_list_eq_equiv, length-map, lookup-none, none_past_head, IsDistinct-tail, bytes_eq-Decides, stand_entries}
 use Rattle.token_store.proofs.Names.{count_by-cons, count_by-none, Event, is_named, Record, Shared, Tables, Kept, kept_at, kept_unexpired, FitsHistory, expiry, kept_in, kept_of, all_kept}
 use Rattle.token_store.proofs.Names.{IsTied, is_live_at, is_member_at, member_count, kept_lives, AllLive, TellsSame, list_any, ◌||◌, is_some, family_numbered, nat_tests}
 use Rattle.std.specs.Prelude.{option_map, nat_lt}
@@ -28,7 +28,7 @@ pub fits_same : (kept : List Kept) (t : Tables) (history : List Event) (moment :
 fits_same kept t history moment tied same fits = record {
   answers = λ d u le. same.finds d u le ∙ fits.answers d u le;
   count = λ u le. same.counts u le ∙ fits.count u le;
-  once = λ d. seen_once t.families.entries t.records.entries d moment tied.once;
+  once = λ d. seen_once t.families.entries (stand_entries t.records) d moment tied.ties.once;
   is_history = fits.is_history;
 }
 
@@ -74,15 +74,15 @@ member_some (e ∷ es) moment n any =
 -- a family that lives is there
 pub lives_there : (t : Tables) (moment n : ℕ) → IsTied t → kept_lives (kept_of t) moment n ≡ true → is_some (family_numbered t.families.entries n) ≡ true
 lives_there t moment n tied lives =
-    let some = member_some t.records.entries moment n (lives_seen t.families.entries t.records.entries moment n ∙ lives) in
-    let same = tied.counted n in
+    let some = member_some (stand_entries t.records) moment n (lives_seen t.families.entries (stand_entries t.records) moment n ∙ lives) in
+    let same = tied.ties.counted n in
     has_slot t.families.entries n (omega (arith, some, same))
 
 -- where none has expired all that are kept are unexpired
-pub all_unexpired : (t : Tables) (moment : ℕ) → IsTied t → AllLive t.records.entries moment → length (kept_of t) ≡ kept_unexpired (kept_of t) moment
+pub all_unexpired : (t : Tables) (moment : ℕ) → IsTied t → AllLive (stand_entries t.records) moment → length (kept_of t) ≡ kept_unexpired (kept_of t) moment
 all_unexpired t moment tied all =
-    let es = t.records.entries in
-    length-map es (kept_in t.families.entries) ∙ sym (live_all es moment tied.once all) ∙ sym (count_seen t.families.entries es moment)
+    let es = stand_entries t.records in
+    length-map es (kept_in t.families.entries) ∙ sym (live_all es moment tied.ties.once all) ∙ sym (count_seen t.families.entries es moment)
 
 -- what is empty fits the history in which nothing happened
 pub fits_nothing : (moment : ℕ) → FitsHistory [] [] moment

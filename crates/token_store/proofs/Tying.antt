@@ -1,6 +1,6 @@
 -- What ties the tables, through a change of them.
 use Rattle.std.proofs.Common.{◌≡◌, ◌≢◌, ◌<◌, ◌≤◌, ℕ, List, Option, Some, None, Bool, true, false, refl, arith}
-use Rattle.token_store.proofs.Names.{family_numbered, is_coded, is_gt, is_at, key_of, HasStruck, IsFromStart, OwnerKey, Shared, owner_cmp, start_of, is_past, IsOwned, nat_tests}
+use Rattle.token_store.proofs.Names.{code_scope, family_numbered, is_coded, is_gt, is_at, key_of, HasStruck, IsFromStart, OwnerKey, Shared, owner_cmp, start_of, is_past, IsOwned, nat_tests}
 
 -- ORDERS
 
@@ -13,17 +13,17 @@ owner_here k q owner client scope number = grind (arith, nat_tests, owner, clien
 -- THE OWNERS' INDEX
 
 pub keyless : (s : Shared) (n : ℕ) (q : OwnerKey) → key_of s n ≡ None → is_coded q (Some s) ≡ false
-keyless s n q none = by s.ended s.code_scope refl refl
+keyless s n q none = by s.ended (code_scope s) refl refl
   where
-    by : (e : Bool) (scope : Option ℕ) → s.ended ≡ e → s.code_scope ≡ scope → is_coded q (Some s) ≡ false
+    by : (e : Bool) (scope : Option ℕ) → s.ended ≡ e → code_scope s ≡ scope → is_coded q (Some s) ≡ false
     by true scope is sc = grind (arith, is)
     by false None is sc = grind (arith, is, sc)
     by false (Some x) is sc = grind (arith, is, sc, none)
 
 pub coded_at : (s : Shared) (n : ℕ) (key q : OwnerKey) → key_of s n ≡ Some key → q.1.1 ≡ n → is_coded q (Some s) ≡ is_at (owner_cmp key) q
-coded_at s n key q some here = by s.ended s.code_scope refl refl
+coded_at s n key q some here = by s.ended (code_scope s) refl refl
   where
-    by : (e : Bool) (scope : Option ℕ) → s.ended ≡ e → s.code_scope ≡ scope → is_coded q (Some s) ≡ is_at (owner_cmp key) q
+    by : (e : Bool) (scope : Option ℕ) → s.ended ≡ e → code_scope s ≡ scope → is_coded q (Some s) ≡ is_at (owner_cmp key) q
     by true scope is sc = grind (arith, is, some)
     by false None is sc = grind (arith, is, sc, some)
     by false (Some x) is sc =

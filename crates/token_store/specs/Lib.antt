@@ -4,6 +4,7 @@ pub mod Fits
 pub mod Found
 pub mod Room
 pub mod Records
+pub mod Kin
 pub mod Image
 pub mod Lists
 -- What only the contracts of this crate's own parts and their proofs cite.

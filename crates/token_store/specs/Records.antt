@@ -1,5 +1,5 @@
 -- The store's tables, and what is seen of them.
-use Rattle.std.specs.Prelude.{◌≡◌, ◌+◌, ℕ, List, Bool, true, false, ◌==◌, ◌&&◌, Option, Some, None, is_some, not, unwrap_or, option_map, map, count_by, string_bytes, nat_eq, ◌<◌}
+use Rattle.std.specs.Prelude.{◌≡◌, ◌+◌, ℕ, List, Bool, true, false, ◌==◌, ◌&&◌, if◌then◌else◌, Option, Some, None, is_some, nat_lt, not, unwrap_or, option_map, map, count_by, string_bytes, nat_eq, ◌<◌, ◌≤◌}
 use Rattle.std.specs.List.{list_any, IsDistinct}
 use Rattle.std.specs.declared.boxed.Box.{Box}
 use Rattle.std.specs.declared.alloc.Global.{Global}
@@ -12,8 +12,7 @@ use Rattle.consent.specs.RecordFacts as fact
 use Rattle.consent.specs.RecordFacts.{KindFact}
 use Rattle.consent.specs.Owners.{owner_number}
 use Rattle.consent.specs.declared.change.Home.{Home}
-use Rattle.agenda.specs.declared.agenda.Agenda.{Agenda}
-use Rattle.agenda.specs.declared.agenda.Deadline.{Deadline}
+use Rattle.shelf.specs.Standing.{stand_entries, IsStanding}
 use Rattle.token_store.specs.declared.record.CodeTexts.{CodeTexts}
 use Rattle.token_store.specs.declared.record.Given.{Given}
 use Rattle.token_store.specs.declared.record.Given.TheVariants.{Code, Token}
@@ -21,7 +20,6 @@ use Rattle.token_store.specs.declared.record.Record.{Record}
 use Rattle.token_store.specs.declared.record.Shared.{Shared}
 use Rattle.token_store.specs.declared.tables.Tables.{Tables}
 use Rattle.consent.specs.declared.change.CodeFacts.{CodeFacts}
-use Rattle.agenda.specs.Agenda.{deadlines_of, IsExact, is_deadline}
 use Rattle.token_store.specs.Found.{SeenFamily}
 use Rattle.token_store.specs.Kept.{Kept}
 use Rattle.token_store.specs.Image.{kept_told}
@@ -35,7 +33,28 @@ texts_seen texts = fact.Code texts.value.owner (string_bytes texts.value.redirec
 -- what was given, without where its texts lie in memory
 abbrev pub fact_in : Given → KindFact
 fact_in (Code texts) = texts_seen texts
-fact_in (Token token) = fact.Token token
+fact_in (Token kind spent) = fact.Token kind
+
+-- it was used
+abbrev pub is_used : Given → Bool
+is_used (Code texts) = texts.value.spent
+is_used (Token kind spent) = spent
+
+-- as it is once it was used
+abbrev pub used_given : Given → Given
+used_given (Code texts) = Code (record texts { value = record texts.value { spent = true } })
+used_given (Token kind spent) = Token kind true
+
+abbrev pub used : Record → Record
+used r = record r { given = used_given r.given }
+
+-- FAMILIES
+
+-- the scope of the family's code, if one opened it
+abbrev pub code_scope : Shared → Option ℕ
+code_scope s = if s.coded then Some s.scope else None
+
+-- RECORDS
 
 -- a record under its digest as it is seen, by what its family shares
 abbrev pub kept_under : Shared → List ℕ → Record → Kept
@@ -48,8 +67,8 @@ kept_under s digest r = kept_told (record {
   scope = r.scope;
   moment = r.moment;
   life = r.life;
-  code_scope = s.code_scope;
-  spent = r.spent;
+  code_scope = code_scope s;
+  spent = is_used r.given;
   ended = s.ended;
 })
 
@@ -57,7 +76,7 @@ kept_under s digest r = kept_told (record {
 
 -- what no family has
 abbrev pub nothing_shared : Shared
-nothing_shared = record { client = 0; owner = 0; code_scope = None; ended = false; count = 0 }
+nothing_shared = record { client = 0; owner = 0; scope = 0; until = 0; count = 0; coded = false; ended = false }
 
 abbrev pub or_nothing : Option Shared → Shared
 or_nothing s = unwrap_or s nothing_shared
@@ -72,7 +91,7 @@ shared_at families n = or_nothing (family_numbered families n)
 
 -- what is seen of a family
 abbrev pub shared_seen : Shared → SeenFamily
-shared_seen s = record { client = s.client; owner = s.owner; code_scope = s.code_scope; ended = s.ended }
+shared_seen s = record { client = s.client; owner = s.owner; code_scope = code_scope s; ended = s.ended }
 
 -- THE VIEW
 
@@ -84,7 +103,7 @@ all_kept families records = map (kept_in families) records
 
 -- all records, each with what its family shares
 abbrev pub kept_of : Tables → List Kept
-kept_of t = all_kept t.families.entries t.records.entries
+kept_of t = all_kept t.families.entries (stand_entries t.records)
 
 -- THE TIES
 
@@ -95,10 +114,9 @@ expiry r = r.moment + r.life
 abbrev pub expiry_of : Option Record → Option ℕ
 expiry_of o = option_map expiry o
 
--- each record has its deadline
-abbrev pub AllListed : List Deadline → List (List ℕ × Record) → Type 0
-AllListed deadlines records =
-    (digest : List ℕ) (t : ℕ) → expiry_of (lookup (bytes_eq digest) records) ≡ Some t → list_any (is_deadline digest t) deadlines ≡ true
+-- whose it is
+abbrev pub client_of : Record → ℕ
+client_of r = r.client
 
 -- how many records are of the family
 abbrev pub member_count : List (List ℕ × Record) → ℕ → ℕ
@@ -115,7 +133,7 @@ is_scope scope (Some s) = s == scope
 -- the family has not ended, and its code is of this owner, this client and this scope
 abbrev pub is_coded : OwnerKey → Option Shared → Bool
 is_coded key None = false
-is_coded key (Some s) = not s.ended && is_scope key.1.0 s.code_scope && (s.owner == key.0.0) && (s.client == key.0.1)
+is_coded key (Some s) = not s.ended && is_scope key.1.0 (code_scope s) && (s.owner == key.0.0) && (s.client == key.0.1)
 
 -- the order of the index
 abbrev pub owner_cmp : OwnerKey → OwnerKey → Ordering
@@ -142,19 +160,33 @@ ArePeopled families = (n : ℕ) → is_some (family_numbered families n) ≡ tru
 abbrev pub IsBelow : List (List ℕ × Record) → ℕ → Type 0
 IsBelow records last = (n : ℕ) → last < n → member_count records n ≡ 0
 
+-- each record is of the client of its family
+abbrev pub AllHomed : List (ℕ × Shared) → List (List ℕ × Record) → Type 0
+AllHomed families records =
+    (digest : List ℕ) (r : Record) → lookup (bytes_eq digest) records ≡ Some r → r.client ≡ (shared_at families r.family).client
+
+-- the record is of the family, and unexpired
+abbrev pub is_member_at : ℕ → ℕ → Record → Bool
+is_member_at family moment r = (r.family == family) && nat_lt moment (expiry r)
+
+-- from then on, until when something of each family is unexpired is known
+abbrev pub IsLasting : List (ℕ × Shared) → List (List ℕ × Record) → ℕ → Type 0
+IsLasting families records swept =
+    (n t : ℕ) → swept ≤ t → list_any (is_member_at n t) (values_of records) ≡ nat_lt t (shared_at families n).until
+
 -- The tables tell of the same records and families, and of no family of a greater number than the last.
-pub record Tied (families : List (ℕ × Shared)) (records : List (List ℕ × Record)) (agenda : Agenda) (owners : List OwnerKey)
-    (last : ℕ) : Type 0 where
+pub record Ties (families : List (ℕ × Shared)) (records : List (List ℕ × Record)) (owners : List OwnerKey) (last swept : ℕ) : Type 0 where
   -- each digest is there once
   pub once : IsDistinct bytes_eq (keys_of records)
-  pub listed : AllListed (deadlines_of agenda) records
-  pub exact : IsExact agenda
+  pub homed : AllHomed families records
+  pub lasting : IsLasting families records swept
   pub counted : IsCounted families records
   pub owned : IsOwned families owners
   pub below : IsBelow records last
 
-abbrev pub IsTied : Tables → Type 0
-IsTied t = Tied t.families.entries t.records.entries t.agenda t.owners.keys t.last
+pub record IsTied (t : Tables) : Type 0 where
+  pub standing : IsStanding expiry client_of t.records
+  pub ties : Ties t.families.entries (stand_entries t.records) t.owners.keys t.last t.swept
 
 -- NEW RECORDS
 
@@ -164,8 +196,10 @@ texts_given facts = fact.Code facts.owner facts.redirect.now facts.challenge.now
 
 -- what a new family without a code shares
 abbrev pub home_shared : Home → ℕ → Shared
-home_shared home count = record { client = home.client; owner = owner_number home.owner; code_scope = None; ended = false; count = count }
+home_shared home count =
+    record { client = home.client; owner = owner_number home.owner; scope = 0; until = 0; count = count; coded = false; ended = false }
 
 -- what a new code's family shares, with so many records
 abbrev pub code_shared : CodeFacts → ℕ → Shared
-code_shared facts count = record { client = facts.client; owner = facts.owner; code_scope = Some facts.scope; ended = false; count = count }
+code_shared facts count =
+    record { client = facts.client; owner = facts.owner; scope = facts.scope; until = 0; count = count; coded = true; ended = false }

@@ -1,28 +1,27 @@
 -- Beside Records: only the contracts of this crate's own parts and their proofs cite this, no public clause.
-use Rattle.std.specs.Prelude.{◌≡◌, ◌≢◌, ◌+◌, ◌-◌, ◌<◌, ◌≤◌, ℕ, List, [], ◌∷◌, ◌++◌, Bool, true, false, not, nat_lt, nat_le, ◌==◌, ◌&&◌, if◌then◌else◌, ◌||◌, Option, Some, None, is_some, option_map, unwrap_or}
-use Rattle.std.specs.List.{list_any, IsDistinct}
+use Rattle.std.specs.Prelude.{◌≡◌, ◌≢◌, ◌+◌, ◌-◌, ◌<◌, ◌≤◌, ℕ, List, [], ◌∷◌, ◌++◌, Bool, true, false, not, nat_lt, nat_le, ◌==◌, ◌&&◌, if◌then◌else◌, ◌||◌, Option, Some, None, is_some, max, option_map, unwrap_or}
 use Rattle.std.specs.Str.{bytes_eq}
 use Rattle.std.specs.declared.ops.Bound.{Bound}
 use Rattle.std.specs.declared.ops.Bound.TheVariants.{Included, Excluded}
 use Rattle.std.specs.BTreeMap.{is_at}
-use Rattle.std.specs.List.Sorted.{IsPermutation}
-use Rattle.std.specs.Map.{lookup, keys_of, remove_entry, set_value}
+use Rattle.std.specs.Map.{lookup}
 use Rattle.consent.specs.RecordFacts as fact
 use Rattle.consent.specs.Limits.{code_life}
 use Rattle.consent.specs.History.{is_named, is_beyond, ends}
 use Rattle.consent.specs.History as told
 use Rattle.consent.specs.History.Change.{Consented}
-use Rattle.agenda.specs.declared.agenda.Deadline.{Deadline}
+use Rattle.shelf.specs.Shelved as shelved
+use Rattle.shelf.specs.Shelved.{Named}
+use Rattle.shelf.specs.declared.shelf.Slot.{Slot}
+use Rattle.consent.specs.declared.kept_record.KeptRecord.{KeptRecord}
 use Rattle.token_store.specs.declared.record.Record.{Record}
 use Rattle.token_store.specs.declared.record.Shared.{Shared}
 use Rattle.token_store.specs.declared.tables.Tables.{Tables}
 use Rattle.consent.specs.declared.change.CodeFacts.{CodeFacts}
 use Rattle.consent.specs.declared.change.NewToken.{NewToken}
-use Rattle.agenda.specs.Agenda.{is_deadline}
 use Rattle.token_store.specs.Kept.{Kept, kept_at, kept_unexpired}
-use Rattle.token_store.specs.Image.{terms_by, kept_told}
-use Rattle.token_store.specs.Records.{kept_under, kept_in, family_numbered, shared_at, kept_of, shared_seen, all_kept, expiry_of, OwnerKey, owner_cmp, has_owner, code_shared, texts_given, member_count}
-use Rattle.token_store.specs.Records.{IsCounted, IsOwned}
+use Rattle.token_store.specs.Image.{kept_record, terms_by, kept_told}
+use Rattle.token_store.specs.Records.{kept_under, kept_in, family_numbered, shared_at, kept_of, shared_seen, expiry_of, OwnerKey, owner_cmp, has_owner, code_scope, code_shared, texts_given, used}
 use Rattle.std.specs.Option.{option_and_then}
 
 abbrev pub is_live_at : ℕ → Record → Bool
@@ -32,21 +31,36 @@ is_live_at moment r = nat_lt moment (r.moment + r.life)
 abbrev pub is_live_of : List (ℕ × Shared) → ℕ → ℕ → Record → Bool
 is_live_of families client moment r = is_live_at moment r && ((shared_at families r.family).client == client)
 
--- and of the family
-abbrev pub is_member_at : ℕ → ℕ → Record → Bool
-is_member_at family moment r = (r.family == family) && is_live_at moment r
-
 -- the family is of the owner, a code opened it, and it has not ended
 abbrev pub is_open_for : ℕ → Shared → Bool
-is_open_for owner s = not s.ended && is_some s.code_scope && (s.owner == owner)
+is_open_for owner s = not s.ended && is_some (code_scope s) && (s.owner == owner)
 
 -- and it lives
 abbrev pub is_open_of : ℕ → (ℕ → Bool) → ℕ × Shared → Bool
 is_open_of owner lives e = is_open_for owner e.1 && lives e.0
 
+-- such a family is in the slot
+abbrev pub open_in : ℕ → (ℕ → Bool) → Option (Slot ℕ Shared) → Bool
+open_in owner lives None = false
+open_in owner lives (Some s) = is_open_of owner lives (s.key, s.kept)
+
 -- what is found under the digest, as it is seen
 abbrev pub kept_found : Tables → List ℕ → Option Record → Option Kept
 kept_found t digest found = option_map (λ r. kept_in t.families.entries (digest, r)) found
+
+-- the family of what is in the slot is there
+abbrev pub IsFamilyOf : List (ℕ × Shared) → Option (Named Record) → Type 0
+IsFamilyOf families None = Unit {0}
+IsFamilyOf families (Some s) = is_some (family_numbered families s.kept.family) ≡ true
+
+-- what is in the slot is shown, if it is unexpired
+abbrev pub shown_in : List (ℕ × Shared) → ℕ → Option (Named Record) → List Kept
+shown_in families moment None = []
+shown_in families moment (Some s) = if is_live_at moment s.kept then kept_in families (s.key, s.kept) ∷ [] else []
+
+abbrev pub IsShownIn : List (ℕ × Shared) → ℕ → Option (Named Record) → Option KeptRecord → Type 0
+IsShownIn families moment slot None = shown_in families moment slot ≡ []
+IsShownIn families moment slot (Some k) = shown_in families moment slot ≡ kept_record k ∷ []
 
 -- what is kept, with the record under the digest
 abbrev pub kept_with : Tables → List ℕ → Record → List Kept
@@ -61,54 +75,21 @@ pub record TellsSame (kept kept' : List Kept) (moment : ℕ) : Type 0 where
 abbrev pub KeepsToo : (old new : Tables) → List ℕ → Record → Type 0
 KeepsToo old new digest r = (moment : ℕ) → kept_at (kept_of old) digest moment ≡ None → TellsSame (kept_with old digest r) (kept_of new) moment
 
--- the record is found under the digest, and under each other digest what was
-abbrev pub HasPut : (old new : List (List ℕ × Record)) → List ℕ → Record → Type 0
-HasPut old new digest r = (d : List ℕ) → lookup (bytes_eq d) new ≡ (if bytes_eq digest d then Some r else lookup (bytes_eq d) old)
-
--- the record of the digest is taken out
-pub record HasTaken (old new : List (List ℕ × Record)) (digest : List ℕ) (r : Record) : Type 0 where
-  pub found : lookup (bytes_eq digest) old ≡ Some r
-  pub once : IsDistinct bytes_eq (keys_of new)
-  pub moved : IsPermutation (remove_entry (bytes_eq digest) old) new
-  pub taken : (d : List ℕ) → lookup (bytes_eq d) new ≡ (if bytes_eq digest d then None else lookup (bytes_eq d) old)
-
--- there is none, or it has not expired
-abbrev pub IsNoneExpired : ℕ → Option Record → Type 0
-IsNoneExpired moment None = Unit {0}
-IsNoneExpired moment (Some r) = is_live_at moment r ≡ true
-
 -- none has expired
 abbrev pub AllLive : List (List ℕ × Record) → ℕ → Type 0
 AllLive records moment = (digest : List ℕ) (t : ℕ) → expiry_of (lookup (bytes_eq digest) records) ≡ Some t → moment < t
-
--- those of these deadlines that are there expire after the moment
-abbrev pub AllGone : List Deadline → List (List ℕ × Record) → ℕ → Type 0
-AllGone deadlines records moment = (digest : List ℕ) (t : ℕ) → list_any (is_deadline digest t) deadlines ≡ true →
-    expiry_of (lookup (bytes_eq digest) records) ≡ Some t → moment < t
 
 -- each family looks as it did
 abbrev pub SeenSame : (old new : List (ℕ × Shared)) → Type 0
 SeenSame old new = (n : ℕ) → option_map shared_seen (family_numbered new n) ≡ option_map shared_seen (family_numbered old n)
 
--- Some records are gone that had expired, and their families with the last of them, unless those are kept; none that is left has one of these deadlines and has expired.
-pub record Sheds (families : List (ℕ × Shared)) (records : List (List ℕ × Record)) (owners : List OwnerKey) (families' : List (ℕ × Shared))
-    (records' : List (List ℕ × Record)) (owners' : List OwnerKey) (deadlines : List Deadline) (moment : ℕ) (keeps : Bool) : Type 0 where
-  pub once : IsDistinct bytes_eq (keys_of records')
-  pub counted : IsCounted families' records'
-  pub no_more : (n : ℕ) → member_count records' n ≤ member_count records n
-  pub owned : IsOwned families owners → IsOwned families' owners'
-  pub same : TellsSame (all_kept families records) (all_kept families' records') moment
-  pub fewer : (digest : List ℕ) (t : ℕ) → expiry_of (lookup (bytes_eq digest) records') ≡ Some t → expiry_of (lookup (bytes_eq digest) records) ≡ Some t
-  pub gone : AllGone deadlines records' moment
-  pub stay : keeps ≡ true → SeenSame families families'
-
 -- each but the family with the number is as it was
 abbrev pub OthersStay : (old new : List (ℕ × Shared)) → ℕ → Type 0
 OthersStay old new n = (k : ℕ) → k ≢ n → family_numbered new k ≡ family_numbered old k
 
--- so many records more are of the family
-pub record HasEntered (old new : List (ℕ × Shared)) (n more : ℕ) : Type 0 where
-  pub here : family_numbered new n ≡ option_map (λ (s : Shared). record s { count = s.count + more }) (family_numbered old n)
+-- one record more is of the family, which expires then
+pub record HasEntered (old new : List (ℕ × Shared)) (n until : ℕ) : Type 0 where
+  pub here : family_numbered new n ≡ option_map (λ (s : Shared). record s { count = s.count + 1; until = max s.until until }) (family_numbered old n)
   pub others : OthersStay old new n
 
 -- the family with one record fewer, which goes with the last unless it is kept
@@ -149,18 +130,17 @@ pub record HasEnded (old new : List (ℕ × Shared)) (n : ℕ) : Type 0 where
 
 -- the records, with that of the digest spent
 abbrev pub spent_in : List ℕ → List (List ℕ × Record) → Option Record → List (List ℕ × Record)
-spent_in digest es None = es
-spent_in digest es (Some r) = set_value (bytes_eq digest) es (record r { spent = true })
+spent_in digest es o = shelved.spent_in used digest es o
 
 -- the family, ended if it is of the two and goes beyond the mask
 abbrev pub lowered_shared : ℕ → ℕ → ℕ → Shared → Shared
 lowered_shared owner client mask s =
-    if is_beyond (Consented owner client mask) (option_map (terms_by s.client s.owner) s.code_scope) then record s { ended = true } else s
+    if is_beyond (Consented owner client mask) (option_map (terms_by s.client s.owner) (code_scope s)) then record s { ended = true } else s
 
 -- the family, ended if the change ends it or is a consent to less than its code's scope
 abbrev pub altered : told.Change → ℕ → Shared → Shared
 altered change n s =
-    if ends n change || is_beyond change (option_map (terms_by s.client s.owner) s.code_scope) then record s { ended = true } else s
+    if ends n change || is_beyond change (option_map (terms_by s.client s.owner) (code_scope s)) then record s { ended = true } else s
 
 -- each family is as the change leaves it
 abbrev pub HasAltered : (old new : List (ℕ × Shared)) → told.Change → Type 0
@@ -174,6 +154,10 @@ shared_or families n s = unwrap_or (family_numbered families n) s
 pub record BecomesKnown (old new : List (ℕ × Shared)) (n : ℕ) (s : Shared) : Type 0 where
   pub here : option_map shared_seen (family_numbered new n) ≡ Some (shared_seen (shared_or old n s))
   pub others : OthersStay old new n
+
+-- the family has records
+abbrev pub is_peopled : Shared → Bool
+is_peopled s = nat_lt 0 s.count
 
 -- the family, if it has records
 abbrev pub where_peopled : Shared → Option Shared
@@ -193,7 +177,7 @@ key_under scope parties n = option_map (λ scope. (parties, (scope, n))) scope
 
 -- the index's key of the family, unless it has ended or no code is known
 abbrev pub key_of : Shared → ℕ → Option OwnerKey
-key_of s n = key_under (open_scope s.ended s.code_scope) (s.owner, s.client) n
+key_of s n = key_under (open_scope s.ended (code_scope s)) (s.owner, s.client) n
 
 -- the index has the key too, if there is one
 abbrev pub HasIndexed : (old new : List OwnerKey) → Option OwnerKey → Type 0
@@ -254,7 +238,7 @@ token_kept family s moment token = kept_told (record {
   scope = token.scope;
   moment = moment;
   life = token.life;
-  code_scope = s.code_scope;
+  code_scope = code_scope s;
   spent = false;
   ended = s.ended;
 })

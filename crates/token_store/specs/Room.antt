@@ -1,12 +1,11 @@
 -- What room a store has for changes.
-use Rattle.std.specs.Prelude.{◌≡◌, ◌⊎◌, ◌+◌, ◌<◌, ◌≤◌, ℕ, List, [], ◌∷◌, true, Option, Some, None, is_some, min, option_map}
-use Rattle.std.specs.HashMap.{spare}
+use Rattle.std.specs.Prelude.{◌≡◌, ◌⊎◌, ◌+◌, ◌<◌, ◌≤◌, ℕ, List, [], ◌∷◌, true, Option, Some, None, is_some, option_map}
+use Rattle.shelf.specs.Standing.{stand_room}
 use Rattle.consent.specs.declared.change.Change.{Change}
 use Rattle.consent.specs.declared.change.Change.TheVariants.{CodeGiven, Issued}
 use Rattle.token_store.specs.declared.record.Shared.{Shared}
 use Rattle.token_store.specs.declared.tables.Coming.{Coming}
 use Rattle.token_store.specs.declared.tables.Tables.{Tables}
-use Rattle.agenda.specs.Agenda.{agenda_room}
 use Rattle.consent.specs.RecordFacts.{KindFact}
 use Rattle.token_store.specs.Kept.{Room, Held}
 use Rattle.token_store.specs.Records.{kept_of, family_numbered, shared_at, is_coded, OwnerKey, code_shared, home_shared, texts_seen, texts_given}
@@ -62,7 +61,7 @@ HasRoom store changes = HasRoomFor store.room changes
 -- what room the tables have
 abbrev pub room_of : Tables → Room
 room_of t = record {
-  records = min (spare t.records) (agenda_room t.agenda);
+  records = stand_room t.records;
   families = t.families.entries;
   coming = t.coming;
 }

@@ -10,7 +10,7 @@ ghost use Rattle.token_store.specs.RecordsParts.{HasAltered, HasEnded, HasLowere
 ghost use Rattle.token_store.specs.Room.{records_by, HasRoomFor, HasSpare, IsPeopled, IsReady, held_of, room_of};
 
 use crate::record::{Record, Shared};
-use crate::tables::{Coming, Tables, end_one, lower_all, spend_one};
+use crate::tables::{Coming, Tables, end_one, lower_all};
 use consent::{
     Change, Changes, ClientNo, CodeFacts, Digest, Home, Moment, NewToken, OwnerNo, ScopeSet,
 };
@@ -44,7 +44,7 @@ impl Tables {
         ensures peopled { IsPeopled (room_of self.new) home.now.family }
     {
         self.pass(home.family);
-        let record = Record::of_token(token, moment, home.family);
+        let record = Record::of_token(token, moment, home);
         if self.coming.is_some() {
             self.coming = None;
             self.put_expected(Shared::of_home(home), &token.digest, record);
@@ -62,7 +62,7 @@ impl Tables {
         ensures coming { self.new.coming ≡ self.old.coming }
     {
         if self.record_at(digest, moment).is_some() {
-            spend_one(&mut self.records, digest);
+            self.records.spend(digest);
         }
     }
 

@@ -11,6 +11,7 @@ mod applying;
 mod expiring;
 mod fault;
 mod found;
+mod kin;
 mod listing;
 mod quota;
 mod record;

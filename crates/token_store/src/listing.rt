@@ -3,10 +3,12 @@ ghost use Rattle.std.specs.Prelude.{◌≡◌, filter, IfOk};
 ghost use Rattle.consent.specs.History.{is_unexpired};
 ghost use Rattle.token_store.specs.Image.{as_kept, kept_record};
 ghost use Rattle.token_store.specs.Records.{kept_of, kept_under, IsTied};
+ghost use Rattle.token_store.specs.RecordsParts.{IsFamilyOf, IsShownIn};
 
 use crate::record::{Given, Record, Shared};
 use crate::tables::Tables;
 use consent::{Digest, KeptKind, KeptRecord, Moment};
+use shelf::Slot;
 use std::alloc::{AllocError, Global};
 
 impl Record {
@@ -20,7 +22,7 @@ impl Record {
                 redirect: texts.redirect.as_str(),
                 challenge: texts.challenge.as_str(),
             },
-            Given::Token(kind) => KeptKind::Token(*kind),
+            Given::Token(kind, _) => KeptKind::Token(*kind),
         };
         KeptRecord {
             digest: *digest,
@@ -31,14 +33,35 @@ impl Record {
             scope: self.scope,
             moment: self.moment,
             life: self.life,
-            code_scope: shared.code_scope,
-            spent: self.spent,
+            code_scope: shared.code_scope(),
+            spent: self.is_spent(),
             ended: shared.ended,
         }
     }
 }
 
 impl Tables {
+    // What is in the slot, if it is unexpired.
+    fn unexpired_in<'a>(
+        &self,
+        slot: &'a Option<Slot<Digest, Record>>,
+        moment: Moment,
+    ) -> Option<KeptRecord<'a>>
+        requires { IsFamilyOf self.now.families.entries slot.now }
+        ensures { IsShownIn self.now.families.entries moment slot.now result }
+    {
+        let Some(found) = slot else {
+            return None;
+        };
+        if !found.kept.is_unexpired(moment) {
+            return None;
+        }
+        let Some(shared) = self.families.get(found.kept.family) else {
+            unreachable!()
+        };
+        Some(found.kept.kept(&found.key, shared))
+    }
+
     /// The unexpired records.
     pub(crate) fn kept_records(
         &self,
@@ -49,14 +72,11 @@ impl Tables {
         ensures { IfOk result (λ v. as_kept v.items ≡ filter (λ k. is_unexpired moment k.grant) (kept_of self.now)) }
     {
         let mut kept = Vec::new(alloc);
-        for (digest, record) in self.records.iter() {
-            if !record.is_unexpired(moment) {
-                continue;
-            }
-            let Some(shared) = self.families.get(&record.family) else {
+        for slot in self.records.slots() {
+            let Some(found) = self.unexpired_in(slot, moment) else {
                 continue;
             };
-            let Ok(()) = kept.push(record.kept(digest, shared)) else {
+            let Ok(()) = kept.push(found) else {
                 return Err(AllocError);
             };
         }

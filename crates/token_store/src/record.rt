@@ -1,28 +1,31 @@
 //! A code or token as the store keeps it, and what those of a family share.
 ghost use Rattle.std.specs.Prelude.{◌≡◌, ◌+◌, ℕ, List, IfOk};
 ghost use Rattle.token_store.specs.Found.{family_seen, found_seen, kept_seen};
-ghost use Rattle.token_store.specs.Records.{kept_under, shared_seen, code_shared, home_shared, texts_seen, texts_given};
-ghost use Rattle.token_store.specs.RecordsParts.{is_live_at, is_open_for, IsCodeRecord, token_kept};
+ghost use Rattle.token_store.specs.Records.{client_of, code_scope, expiry, is_used, kept_under, shared_seen, code_shared, home_shared, texts_seen, texts_given, used};
+ghost use Rattle.token_store.specs.RecordsParts.{is_live_at, is_open_for, is_peopled, IsCodeRecord, token_kept};
 
 use crate::found::{Family, Found};
 use consent::{
     CODE_LIFE, ClientNo, CodeFacts, Home, Kind, Moment, NewToken, OwnerNo, ScopeSet, TokenKind,
 };
+use shelf::{Lasts, Stays};
 use std::alloc::{AllocError, Global};
 
 /// What an authorization code has and a token has not.
 #[derive(Drop)]
 pub(crate) struct CodeTexts {
     pub(crate) owner: OwnerNo,
+    /// The code was used.
+    pub(crate) spent: bool,
     pub(crate) redirect: String,
     pub(crate) challenge: String,
 }
 
-/// What was given.
+/// What was given, and whether it was used.
 #[derive(Drop)]
 pub(crate) enum Given {
     Code(Box<CodeTexts>),
-    Token(TokenKind),
+    Token(TokenKind, bool),
 }
 
 /// What is kept under a digest.
@@ -33,7 +36,8 @@ pub(crate) struct Record {
     pub(crate) scope: ScopeSet,
     pub(crate) moment: Moment,
     pub(crate) life: u32,
-    pub(crate) spent: bool,
+    /// That of its family.
+    pub(crate) client: ClientNo,
 }
 
 /// What the codes and tokens of a family share.
@@ -43,10 +47,14 @@ pub(crate) struct Shared {
     /// 0 where the family is the client's own.
     pub(crate) owner: u32,
     /// The scope of the family's code, if one opened it.
-    pub(crate) code_scope: Option<ScopeSet>,
+    pub(crate) scope: ScopeSet,
+    /// From when on none of its records is unexpired.
+    pub(crate) until: u64,
+    /// How many those are.
+    pub(crate) count: u32,
+    /// A code opened it.
+    pub(crate) coded: bool,
     pub(crate) ended: bool,
-    /// How many records are of the family.
-    pub(crate) count: usize,
 }
 
 impl CodeTexts {
@@ -56,6 +64,7 @@ impl CodeTexts {
     {
         let texts = CodeTexts {
             owner: facts.owner,
+            spent: false,
             redirect: String::from_str(alloc, facts.redirect)?,
             challenge: String::from_str(alloc, facts.challenge)?,
         };
@@ -71,9 +80,11 @@ impl Shared {
         Shared {
             client: facts.client,
             owner: facts.owner.get(),
-            code_scope: Some(facts.scope),
-            ended: false,
+            scope: facts.scope,
+            until: 0,
             count: 0,
+            coded: true,
+            ended: false,
         }
     }
 
@@ -84,17 +95,26 @@ impl Shared {
         Shared {
             client: home.client,
             owner: OwnerNo::number_of(home.owner),
-            code_scope: None,
-            ended: false,
+            scope: ScopeSet::empty(),
+            until: 0,
             count: 0,
+            coded: false,
+            ended: false,
         }
+    }
+
+    /// The scope of the family's code, if one opened it.
+    pub(crate) fn code_scope(&self) -> Option<ScopeSet>
+        ensures { result ≡ code_scope self.now }
+    {
+        self.coded.then_some(self.scope)
     }
 
     /// Whether it is of the owner, a code opened it, and it has not ended.
     pub(crate) fn is_open_for(&self, owner: OwnerNo) -> bool
         ensures { result ≡ is_open_for owner self.now }
     {
-        !self.ended && self.code_scope.is_some() && self.owner == owner.get()
+        !self.ended && self.coded && self.owner == owner.get()
     }
 
     /// What is answered of the family.
@@ -104,7 +124,7 @@ impl Shared {
         Family {
             client: self.client,
             owner: OwnerNo::numbered(self.owner),
-            code_scope: self.code_scope,
+            code_scope: self.code_scope(),
             ended: self.ended,
         }
     }
@@ -124,6 +144,25 @@ impl Record {
         moment.get() < self.expiry()
     }
 
+    /// That of its family, which shares this.
+    pub(crate) fn homed(self, shared: &Shared) -> Record
+        ensures { result ≡ record self { client = shared.now.client } }
+    {
+        let mut homed = self;
+        homed.client = shared.client;
+        homed
+    }
+
+    /// Whether it was used.
+    pub(crate) fn is_spent(&self) -> bool
+        ensures { result ≡ is_used self.now.given }
+    {
+        match &self.given {
+            Given::Code(texts) => texts.spent,
+            Given::Token(_, spent) => *spent,
+        }
+    }
+
     /// What is answered of it.
     pub(crate) fn found(&self, shared: &Shared) -> Found<'_>
         ensures { (digest : List ℕ) → found_seen result ≡ kept_seen (kept_under shared.now digest self.now) }
@@ -135,7 +174,7 @@ impl Record {
                 texts.redirect.as_str(),
                 texts.challenge.as_str(),
             ),
-            Given::Token(kind) => (Kind::Token(*kind), OwnerNo::numbered(shared.owner), "", ""),
+            Given::Token(kind, _) => (Kind::Token(*kind), OwnerNo::numbered(shared.owner), "", ""),
         };
         Found {
             kind,
@@ -147,7 +186,7 @@ impl Record {
             life: self.life,
             redirect,
             challenge,
-            spent: self.spent,
+            spent: self.is_spent(),
             ended: shared.ended,
         }
     }
@@ -163,28 +202,61 @@ impl Record {
         ensures kept { IsCodeRecord number facts.now moment result }
         ensures family { result.family ≡ number }
     {
+        let mut unspent = texts;
+        unspent.spent = false;
         Record {
-            given: Given::Code(texts),
+            given: Given::Code(unspent),
             family: number,
             scope: facts.scope,
             moment,
             life: CODE_LIFE,
-            spent: false,
+            client: facts.client,
         }
     }
 
-    /// That of a token, in the family with the number.
-    pub(crate) fn of_token(token: &NewToken, moment: Moment, number: u64) -> Record
-        ensures kept { (shared : Shared) → kept_under shared token.now.digest result ≡ token_kept number shared moment token.now }
-        ensures family { result.family ≡ number }
+    /// That of a token, in the home.
+    pub(crate) fn of_token(token: &NewToken, moment: Moment, home: &Home) -> Record
+        ensures kept { (shared : Shared) → kept_under shared token.now.digest result ≡ token_kept home.now.family shared moment token.now }
+        ensures family { result.family ≡ home.now.family }
     {
         Record {
-            given: Given::Token(token.kind),
-            family: number,
+            given: Given::Token(token.kind, false),
+            family: home.family,
             scope: token.scope,
             moment,
             life: token.life,
-            spent: false,
+            client: home.client,
+        }
+    }
+}
+
+impl Stays for Shared {
+    ghost stays = { is_peopled };
+
+    fn stays(&self) -> bool {
+        self.count > 0
+    }
+}
+
+impl Lasts for Record {
+    ghost until = { expiry };
+
+    ghost whose = { client_of };
+
+    ghost spent = { used };
+
+    fn until(&self) -> u64 {
+        self.expiry()
+    }
+
+    fn whose(&self) -> u32 {
+        self.client.get()
+    }
+
+    fn spend(&mut self) {
+        match &mut self.given {
+            Given::Code(texts) => texts.spent = true,
+            Given::Token(_, spent) => *spent = true,
         }
     }
 }

@@ -1,19 +1,20 @@
 //! The changes of a list are made again: what can stand in it need not be able to follow.
 ghost use Rattle.std.specs.Prelude.{◌≡◌, ◌++◌, ◌&&◌, List, [], ◌∷◌, ℕ, None, Some, is_some, max, option_map, IfErr, OnOk};
-ghost use Rattle.std.specs.Option.{option_and_then};
 ghost use Rattle.std.specs.Str.{bytes_eq};
 ghost use Rattle.std.specs.Map.{lookup};
+ghost use Rattle.shelf.specs.Standing.{stand_entries};
 ghost use Rattle.consent.specs.History.{with_change};
 ghost use Rattle.consent.specs.Changes.{change_of, parties_of};
 ghost use Rattle.token_store.specs.FitsParts.{are_kept};
 ghost use Rattle.token_store.specs.Lists.{is_open_to, refused_by, standing_refusal, ForEachList, FitsList, RefusesAgain};
 ghost use Rattle.token_store.specs.Records.{family_numbered, has_owner, OwnerKey, kept_of, kept_under, shared_seen, ArePeopled, IsTied};
-ghost use Rattle.token_store.specs.RecordsParts.{shared_or, where_peopled, AllLive, BecomesKnown, OthersStay, TellsSame};
+ghost use Rattle.token_store.specs.RecordsParts.{shared_or, AllLive, BecomesKnown, OthersStay, TellsSame};
 ghost use Rattle.token_store.specs.Room.{held_of};
 
 use crate::fault::AgainFault;
+use crate::kin::Families;
 use crate::record::{CodeTexts, Record, Shared};
-use crate::tables::{Families, Owners, Tables};
+use crate::tables::{Owners, Tables};
 use consent::{Change, Digest, Home, Moment, OwnerNo};
 use std::alloc::{AllocError, Global};
 use std::slice;
@@ -23,7 +24,7 @@ impl Tables {
     fn is_open_to(&self, home: &Home) -> bool
         ensures { result ≡ is_open_to (parties_of home.now) (option_map shared_seen (family_numbered self.now.families.entries home.now.family)) }
     {
-        let Some(shared) = self.families.get(&home.family) else {
+        let Some(shared) = self.families.get(home.family) else {
             return true;
         };
         shared.client == home.client
@@ -39,10 +40,8 @@ impl Tables {
         if !can_be {
             return Some(AgainFault::Unknown);
         }
-        if self.is_taken(slice::from_ref(digest), moment) {
-            return Some(AgainFault::DrawTaken);
-        }
-        None
+        let is_taken = self.is_taken(slice::from_ref(digest), moment);
+        is_taken.then_some(AgainFault::DrawTaken)
     }
 
     // Why the change cannot stand next.
@@ -57,7 +56,7 @@ impl Tables {
             Change::Issued { home, token } => {
                 self.gift_refusal(self.is_open_to(home), &token.digest, moment)
             }
-            Change::FamilyEnded { family } if !self.families.contains_key(family) => {
+            Change::FamilyEnded { family } if self.families.get(*family).is_none() => {
                 Some(AgainFault::Unknown)
             }
             _ => None,
@@ -68,13 +67,14 @@ impl Tables {
     fn open_home(&mut self, number: u64, shared: Shared) -> Result<(), AllocError>
         requires tied { IsTied self.old }
         requires empty { shared.count ≡ 0 }
+        requires fresh { shared.until ≡ 0 }
         ensures tied { IsTied self.new }
         ensures here { OnOk result (family_numbered self.new.families.entries number ≡ Some (shared_or self.old.families.entries number shared)) }
         ensures others { OthersStay self.old.families.entries self.new.families.entries number }
         ensures same { kept_of self.new ≡ kept_of self.old }
         ensures beside { self.new ≡ record self.old { families = self.new.families; owners = self.new.owners } }
     {
-        if self.families.contains_key(&number) {
+        if self.families.get(number).is_some() {
             return Ok(());
         }
         self.open_family(number, shared)
@@ -90,12 +90,13 @@ impl Tables {
     ) -> Result<(), AllocError>
         requires tied { IsTied self.old }
         requires empty { shared.count ≡ 0 }
+        requires fresh { shared.until ≡ 0 }
         ensures tied { IsTied self.new }
         ensures coming { self.new.coming ≡ self.old.coming }
         ensures last { OnOk result (self.new.last ≡ max self.old.last new.family) }
-        ensures known { OnOk result (lookup (bytes_eq digest.now) self.old.records.entries ≡ None →
+        ensures known { OnOk result (lookup (bytes_eq digest.now) (stand_entries self.old.records) ≡ None →
             BecomesKnown self.old.families.entries self.new.families.entries new.family shared) }
-        ensures keeps { OnOk result ((m : ℕ) → lookup (bytes_eq digest.now) self.old.records.entries ≡ None →
+        ensures keeps { OnOk result ((m : ℕ) → lookup (bytes_eq digest.now) (stand_entries self.old.records) ≡ None →
             TellsSame (kept_of self.old ++ kept_under (shared_or self.old.families.entries new.family shared) digest.now new ∷ []) (kept_of self.new) m) }
     {
         self.make_room(alloc, 1)?;
@@ -113,7 +114,7 @@ impl Tables {
         moment: Moment,
     ) -> Result<(), AllocError>
         requires tied { IsTied self.old }
-        requires live { AllLive self.old.records.entries moment }
+        requires live { AllLive (stand_entries self.old.records) moment }
         ensures tied { IsTied self.new }
         ensures redone { OnOk result (ForEachList (held_of self.old) moment (λ list. standing_refusal list moment change.now ≡ None →
             FitsList (held_of self.new) (with_change list moment (change_of change.now)) moment)) }
@@ -129,7 +130,7 @@ impl Tables {
                 self.keep_again(alloc, Shared::of_code(facts), digest, record)
             }
             Change::Issued { home, token } => {
-                let record = Record::of_token(token, moment, home.family);
+                let record = Record::of_token(token, moment, home);
                 self.keep_again(alloc, Shared::of_home(home), &token.digest, record)
             }
             _ => {
@@ -171,21 +172,14 @@ impl Tables {
         ensures last { self.new.last ≡ self.old.last }
         ensures peopled { ArePeopled self.new.families.entries }
     {
-        keep_peopled(&mut self.families);
+        self.families.keep_peopled();
         keep_known(&mut self.owners, &self.families);
     }
-}
-
-// Lets go of the families without records.
-fn keep_peopled(families: &mut Families)
-    ensures { (n : ℕ) → family_numbered families.new.entries n ≡ option_and_then where_peopled (family_numbered families.old.entries n) }
-{
-    families.retain(|_, shared| shared.count > 0);
 }
 
 // Lets go of the families in the index that are not there.
 fn keep_known(owners: &mut Owners, families: &Families)
     ensures { (key : OwnerKey) → has_owner owners.new.keys key ≡ has_owner owners.old.keys key && is_some (family_numbered families.now.entries key.1.1) }
 {
-    owners.retain(|(_, (_, number))| families.contains_key(number));
+    owners.retain(|(_, (_, number))| families.get(*number).is_some());
 }

@@ -1,7 +1,6 @@
 //! Room for changes.
 ghost use Rattle.std.specs.Prelude.{◌≡◌, ◌⊎◌, ℕ, List, [], ◌∷◌, None, OnOk, option_map};
-ghost use Rattle.std.specs.Str.{bytes_eq};
-ghost use Rattle.std.specs.Map.{lookup};
+ghost use Rattle.shelf.specs.Standing.{stand_entries};
 ghost use Rattle.consent.specs.Changes.{as_list};
 ghost use Rattle.consent.specs.declared.change.Change.{Change};
 ghost use Rattle.token_store.specs.Records.{IsTied, kept_of, texts_seen};
@@ -61,11 +60,11 @@ impl Tables {
     ) -> Result<(), AllocError>
         requires tied { IsTied self.old }
         requires empty { shared.count ≡ 0 }
+        requires fresh { shared.until ≡ 0 }
         requires none { self.old.coming ≡ None }
         ensures tied { IsTied self.new }
         ensures same { kept_of self.new ≡ kept_of self.old }
         ensures records { self.new.records ≡ self.old.records }
-        ensures agenda { self.new.agenda ≡ self.old.agenda }
         ensures last { self.new.last ≡ self.old.last }
         ensures expected { OnOk result (IsExpected (room_of self.new) number shared (option_map texts_seen texts) ⊎ IsPeopled (room_of self.new) number) }
     {
@@ -84,7 +83,6 @@ impl Tables {
         ensures tied { IsTied self.new }
         ensures same { kept_of self.new ≡ kept_of self.old }
         ensures records { self.new.records ≡ self.old.records }
-        ensures agenda { self.new.agenda ≡ self.old.agenda }
         ensures last { self.new.last ≡ self.old.last }
         ensures ready { OnOk result (IsReady (room_of self.new) (change.now ∷ [])) }
     {
@@ -106,11 +104,10 @@ impl Tables {
         ensures families { self.new.families ≡ self.old.families }
         ensures coming { self.new.coming ≡ self.old.coming }
         ensures last { self.new.last ≡ self.old.last }
-        ensures found { (digest : List ℕ) → lookup (bytes_eq digest) self.new.records.entries ≡ lookup (bytes_eq digest) self.old.records.entries }
+        ensures found { stand_entries self.new.records ≡ stand_entries self.old.records }
         ensures room { OnOk result (HasSpare (room_of self.new) more) }
     {
-        self.records.reserve(more)?;
-        self.agenda.reserve(alloc, more)
+        self.records.reserve(alloc, more)
     }
 
     /// Takes the memory that the changes need.

@@ -1,5 +1,5 @@
 //! The store of codes and tokens.
-ghost use Rattle.std.specs.Prelude.{◌≡◌, ℕ, List, [], None, length, option_map, IfErr, IfOk, OnOk};
+ghost use Rattle.std.specs.Prelude.{◌≡◌, ◌≤◌, ◌⊎◌, ◌+◌, ℕ, List, [], None, length, option_map, IfErr, IfOk, OnOk};
 ghost use Rattle.consent.specs.History.{Event, families_of, greatest_family, is_new, next_family, unexpired_count, with_change};
 ghost use Rattle.consent.specs.Changes.{as_list, change_of};
 ghost use Rattle.consent.specs.Seen.{seen_at};
@@ -35,13 +35,13 @@ impl Model for Store {
 }
 
 impl Store {
-    /// No codes and tokens, which later ones take memory from `alloc` for.
-    pub fn new(alloc: Global) -> Self
+    /// No codes and tokens, which later ones take memory from `alloc` for: the first for so many.
+    pub fn new(alloc: Global, size: u32) -> Self
         ensures fits { (moment : ℕ) → FitsStore result [] moment }
         ensures list { (moment : ℕ) → FitsList result [] moment }
     {
         Store {
-            tables: Tables::new(alloc),
+            tables: Tables::new(alloc, size),
             alloc,
         }
     }
@@ -58,7 +58,7 @@ impl Store {
         ensures { ForEachHistory self.now moment (λ history. option_map found_seen result ≡ seen_at history digest.now moment) }
     {
         let record = self.tables.record_at(digest, moment)?;
-        let shared = self.tables.families.get(&record.family)?;
+        let shared = self.tables.families.get(record.family)?;
         Some(record.found(shared))
     }
 
@@ -69,7 +69,7 @@ impl Store {
         if !self.tables.lives(number, moment) {
             return None;
         }
-        Some(self.tables.families.get(&number)?.family())
+        Some(self.tables.families.get(number)?.family())
     }
 
     /// Whether the number is greater than that of each family so far.
@@ -138,6 +138,15 @@ impl Store {
         self.tables.drop_expired(moment, false);
     }
 
+    /// Lets go of some of what has expired, which changes no answer: of all, or of 64 codes and tokens.
+    pub fn drop_some(&mut self, moment: Moment)
+        ensures fits { ForEachHistory self.old moment (λ history. FitsStore self.new history moment) }
+        ensures kept { ForEachHistory self.old moment
+            (λ history. (length self.new.kept ≡ unexpired_count history moment) ⊎ length self.new.kept + 64 ≤ length self.old.kept) }
+    {
+        self.tables.drop_some(moment);
+    }
+
     /// Makes a change of a list again: one that can stand next in it, though it could not follow.
     pub fn redo(&mut self, change: &Change<'_>, moment: Moment) -> Result<(), AgainFault>
         ensures redone { OnOk result (ForEachList self.old moment (λ list. FitsList self.new (with_change list moment (change_of change.now)) moment)) }
@@ -158,7 +167,7 @@ impl Store {
     pub fn family_told(&self, number: u64) -> Option<Family>
         ensures { (list : List Event) (moment : ℕ) → FitsList self.now list moment → option_map family_seen result ≡ family_told list number }
     {
-        Some(self.tables.families.get(&number)?.family())
+        Some(self.tables.families.get(number)?.family())
     }
 
     /// The list is at its end: families without codes and tokens go.

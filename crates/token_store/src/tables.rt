@@ -3,20 +3,22 @@ ghost use Rattle.std.specs.Prelude.{nat_eq, ◌==◌, ◌≡◌, ◌+◌, ◌<�
 ghost use Rattle.std.specs.List.{list_any, IsDistinct};
 ghost use Rattle.std.specs.Str.{bytes_eq};
 ghost use Rattle.std.specs.Map.{lookup, keys_of, values_of};
-ghost use Rattle.agenda.specs.Agenda.{deadlines_of, least, HasCome};
+ghost use Rattle.shelf.specs.Shelved.{in_slot};
+ghost use Rattle.shelf.specs.Standing.{stand_entries};
 ghost use Rattle.token_store.specs.Kept.{kept_at, kept_lives, kept_unexpired, kept_unexpired_of};
 ghost use Rattle.token_store.specs.FitsParts.{are_kept, has_kept_client_room, has_kept_room, kept_refusal};
 ghost use Rattle.token_store.specs.Room.{HasSpare, Waits, room_of};
-ghost use Rattle.token_store.specs.Records.{family_numbered, kept_under, kept_of, shared_at, IsOwned, IsTied};
-ghost use Rattle.token_store.specs.RecordsParts.{is_live_at, is_live_of, is_member_at, is_open_of, key_of, key_under, open_scope, start_of, IsNextOwned, kept_found, HasEntered, HasLeft, HasClosed, HasEnded, HasIndexed, HasLowered, HasPut, HasStruck, AllLive, KeepsToo, OthersStay, TellsSame, spent_in};
+ghost use Rattle.token_store.specs.Records.{family_numbered, is_member_at, expiry, kept_under, kept_of, shared_at, IsOwned, IsTied};
+ghost use Rattle.token_store.specs.RecordsParts.{is_open_of, key_of, open_in, start_of, IsNextOwned, kept_found, HasEntered, HasLeft, HasClosed, HasEnded, HasIndexed, HasLowered, HasStruck, KeepsToo, OthersStay, TellsSame};
 
 use crate::fault::StoreFault;
+use crate::kin::Families;
 use crate::quota::Quota;
 use crate::record::{CodeTexts, Record, Shared};
-use agenda::Agenda;
 use consent::{ClientNo, Digest, Moment, OwnerNo, ScopeSet};
+use shelf::{Slot, Stand};
 use std::alloc::{AllocError, Global};
-use std::collections::{BTreeSet, HashMap};
+use std::collections::BTreeSet;
 use std::ops::Bound;
 
 /// Of a family: the numbers of its owner and client, its code's scope, and its own number.
@@ -24,9 +26,6 @@ pub(crate) type OwnerKey = ((u32, u32), (u64, u64));
 
 /// Families that have not ended and whose code is known.
 pub(crate) type Owners = BTreeSet<OwnerKey>;
-
-/// What the families of these numbers share.
-pub(crate) type Families = HashMap<u64, Shared>;
 
 /// A family without records, for a code or a token that is about to come.
 #[derive(Drop)]
@@ -38,9 +37,7 @@ pub(crate) struct Coming {
 
 #[derive(Drop)]
 pub(crate) struct Tables {
-    pub(crate) records: HashMap<Digest, Record>,
-    /// When each of the records expires.
-    pub(crate) agenda: Agenda,
+    pub(crate) records: Stand<Record>,
     pub(crate) families: Families,
     /// The families that have not ended, by owner, client and their code's scope.
     pub(crate) owners: Owners,
@@ -48,10 +45,13 @@ pub(crate) struct Tables {
     pub(crate) coming: Option<Coming>,
     /// The greatest number of a family so far.
     pub(crate) last: u64,
+    /// What was let go of so far had expired by then.
+    pub(crate) swept: u64,
 }
 
 impl Tables {
-    pub(crate) fn new(alloc: Global) -> Self
+    /// Nothing. Once the first comes memory is made ready for so many records.
+    pub(crate) fn new(alloc: Global, size: u32) -> Self
         ensures tied { IsTied result }
         ensures empty { kept_of result ≡ [] }
         ensures homeless { result.families.entries ≡ [] }
@@ -59,19 +59,19 @@ impl Tables {
         ensures last { result.last ≡ 0 }
     {
         Tables {
-            records: HashMap::new(alloc),
-            agenda: Agenda::new(alloc),
-            families: HashMap::new(alloc),
+            records: Stand::new(size),
+            families: Families::new(alloc, size),
             owners: BTreeSet::new(alloc),
             coming: None,
             last: 0,
+            swept: 0,
         }
     }
 
     /// The unexpired record of the digest.
     #[tactic(auto, using(crate::proofs::Looking::found))]
     pub(crate) fn record_at(&self, digest: &Digest, moment: Moment) -> Option<&Record>
-        requires { IsDistinct bytes_eq (keys_of self.now.records.entries) }
+        requires { IsTied self.now }
         ensures { kept_found self.now digest.now (option_copied result) ≡ kept_at (kept_of self.now) digest.now moment }
     {
         let record = self.records.get(digest)?;
@@ -86,31 +86,7 @@ impl Tables {
         requires { IsTied self.now }
         ensures { result ≡ kept_unexpired (kept_of self.now) moment }
     {
-        if self.is_none_expired(moment) {
-            return self.records.len();
-        }
-        self.count_live(moment)
-    }
-
-    // How many are so, where the least deadline has come.
-    fn count_live(&self, moment: Moment) -> usize
-        requires { HasCome (deadlines_of self.now.agenda) moment }
-        ensures { result ≡ count_by (is_live_at moment) (values_of self.now.records.entries) }
-    {
-        self.records
-            .values()
-            .filter(|record| record.is_unexpired(moment))
-            .count()
-    }
-
-    // Whether the moment comes before any record expires.
-    #[inline]
-    pub(crate) fn is_none_expired(&self, moment: Moment) -> bool
-        requires { IsTied self.now }
-        ensures value { result ≡ nat_lt moment (least (deadlines_of self.now.agenda)) }
-        ensures live { result ≡ true → AllLive self.now.records.entries moment }
-    {
-        moment.get() < self.agenda.earliest
+        self.records.count(moment)
     }
 
     /// So many more would be one too many.
@@ -126,28 +102,10 @@ impl Tables {
 
     // How many of the client's records are unexpired.
     fn count_of(&self, client: ClientNo, moment: Moment) -> usize
+        requires { IsTied self.now }
         ensures { result ≡ kept_unexpired_of (kept_of self.now) client moment }
     {
-        self.count_live_of(client, moment)
-    }
-
-    // How many are so: all records are looked at.
-    fn count_live_of(&self, client: ClientNo, moment: Moment) -> usize
-        ensures { result ≡ count_by (is_live_of self.now.families.entries client moment) (values_of self.now.records.entries) }
-    {
-        self.records
-            .values()
-            .filter(|record| record.is_unexpired(moment) && self.is_of(record.family, client))
-            .count()
-    }
-
-    // Whether the family is the client's.
-    fn is_of(&self, number: u64, client: ClientNo) -> bool
-        ensures { result ≡ ((shared_at self.now.families.entries number).client == client) }
-    {
-        self.families
-            .get(&number)
-            .is_some_and(|shared| shared.client == client)
+        self.records.count_of(client.get(), moment)
     }
 
     // So many more of the client's would be one too many, if those have a limit.
@@ -166,7 +124,7 @@ impl Tables {
 
     // One of the digests is that of an unexpired record, or of another of them.
     pub(crate) fn is_taken(&self, digests: &[Digest], moment: Moment) -> bool
-        requires { IsDistinct bytes_eq (keys_of self.now.records.entries) }
+        requires { IsTied self.now }
         ensures { result ≡ are_kept (kept_of self.now) moment digests.now }
     {
         let [digest, others @ ..] = digests else {
@@ -194,10 +152,8 @@ impl Tables {
         if self.is_client_full(quota, digests.len(), moment) {
             return Some(StoreFault::ClientFull);
         }
-        if self.is_taken(digests, moment) {
-            return Some(StoreFault::DrawTaken);
-        }
-        None
+        let is_taken = self.is_taken(digests, moment);
+        is_taken.then_some(StoreFault::DrawTaken)
     }
 
     // Whether records are of the family.
@@ -205,7 +161,7 @@ impl Tables {
         ensures { result ≡ nat_lt 0 (shared_at self.now.families.entries number).count }
     {
         self.families
-            .get(&number)
+            .get(number)
             .is_some_and(|shared| shared.count > 0)
     }
 
@@ -214,18 +170,27 @@ impl Tables {
         requires { IsTied self.now }
         ensures { result ≡ kept_lives (kept_of self.now) moment number }
     {
-        if self.is_none_expired(moment) {
-            return self.is_peopled(number);
+        if moment.get() < self.swept {
+            return self.has_live(number, moment);
         }
-        self.has_live(number, moment)
+        self.lasts(number, moment)
     }
 
-    // Whether one is, where the least deadline has come: all records are looked at.
-    fn has_live(&self, number: u64, moment: Moment) -> bool
-        requires { HasCome (deadlines_of self.now.agenda) moment }
-        ensures { result ≡ list_any (is_member_at number moment) (values_of self.now.records.entries) }
+    // Whether one may be, by when the last of them expires.
+    fn lasts(&self, number: u64, moment: Moment) -> bool
+        ensures { result ≡ nat_lt moment (shared_at self.now.families.entries number).until }
     {
-        self.records.values().any(|record| record.family == number && record.is_unexpired(moment))
+        self.families
+            .get(number)
+            .is_some_and(|shared| moment.get() < shared.until)
+    }
+
+    // Whether one is, at a moment before what has gone expired: all records are looked at.
+    fn has_live(&self, number: u64, moment: Moment) -> bool
+        requires { moment < self.now.swept }
+        ensures { result ≡ list_any (is_member_at number moment) (values_of (stand_entries self.now.records)) }
+    {
+        is_member_among(self.records.slots(), number, moment)
     }
 
     /// How many of the owner's families there are that a code opened and nothing ended, and of which
@@ -235,10 +200,34 @@ impl Tables {
         ensures count { result ≡ count_by (is_open_of owner (kept_lives (kept_of self.now) moment)) self.now.families.entries }
         ensures unique { IsDistinct nat_eq (keys_of self.now.families.entries) }
     {
-        self.families
+        self.count_open(self.families.slots(), owner, moment)
+    }
+
+    // In how many of the slots such a family is.
+    fn count_open(
+        &self,
+        slots: &[Option<Slot<u64, Shared>>],
+        owner: OwnerNo,
+        moment: Moment,
+    ) -> usize
+        requires { IsTied self.now }
+        ensures { result ≡ count_by (open_in owner (kept_lives (kept_of self.now) moment)) slots.now }
+    {
+        slots
             .iter()
-            .filter(|(number, shared)| shared.is_open_for(owner) && self.lives(**number, moment))
+            .filter(|slot| self.is_open_in(slot, owner, moment))
             .count()
+    }
+
+    // Whether such a family is in the slot.
+    fn is_open_in(&self, slot: &Option<Slot<u64, Shared>>, owner: OwnerNo, moment: Moment) -> bool
+        requires { IsTied self.now }
+        ensures { result ≡ open_in owner (kept_lives (kept_of self.now) moment) slot.now }
+    {
+        let Some(found) = slot else {
+            return false;
+        };
+        found.kept.is_open_for(owner) && self.lives(found.key, moment)
     }
 
     /// The number is a family's.
@@ -256,6 +245,7 @@ impl Tables {
     pub(crate) fn open_family(&mut self, number: u64, shared: Shared) -> Result<(), AllocError>
         requires tied { IsTied self.old }
         requires empty { shared.count ≡ 0 }
+        requires fresh { shared.until ≡ 0 }
         requires bare { (shared_at self.old.families.entries number).count ≡ 0 }
         ensures tied { IsTied self.new }
         ensures here { OnOk result (family_numbered self.new.families.entries number ≡ Some shared) }
@@ -265,12 +255,8 @@ impl Tables {
     {
         close(&mut self.families, &mut self.owners, number);
         self.families.reserve(1)?;
-        let scope = open_scope(shared.ended, shared.code_scope);
-        let parties = (shared.owner, shared.client.get());
-        add_owner(&mut self.owners, scope, parties, number)?;
-        let Ok(_) = self.families.insert(number, shared) else {
-            unreachable!()
-        };
+        add_owner(&mut self.owners, key_of(&shared, number))?;
+        self.families.put(number, shared);
         Ok(())
     }
 
@@ -286,17 +272,17 @@ impl Tables {
         ensures peopled { 0 < (shared_at self.new.families.entries new.family).count }
         ensures keeps { KeepsToo self.old self.new digest.now new }
         ensures room { (room_of self.old).records ≤ (room_of self.new).records + 1 }
-        ensures found { HasPut self.old.records.entries self.new.records.entries digest.now new }
-        ensures entered { lookup (bytes_eq digest.now) self.old.records.entries ≡ None → HasEntered self.old.families.entries self.new.families.entries new.family 1 }
+        ensures entered { lookup (bytes_eq digest.now) (stand_entries self.old.records) ≡ None → HasEntered self.old.families.entries self.new.families.entries new.family (expiry new) }
     {
-        // There are fewer than 2^63, and so there are of the family.
+        // There are fewer than 2^32, and so there are of the family.
         let _ = self.records.len();
-        enter(&mut self.families, new.family, 1);
-        self.agenda.add(digest, new.expiry());
-        let Ok(replaced) = self.records.insert(*digest, new) else {
+        let Some(shared) = self.families.get(new.family).copied() else {
             unreachable!()
         };
-        if let Some(expired) = replaced {
+        let new = new.homed(&shared);
+        enter(&mut self.families, new.family, new.expiry());
+        if let Some(expired) = self.records.put(digest, new) {
+            self.swept = self.swept.max(expired.expiry());
             leave(&mut self.families, &mut self.owners, expired.family, false);
         }
     }
@@ -306,6 +292,7 @@ impl Tables {
         requires tied { IsTied self.old }
         requires waits { Waits self.old.families.entries new.family shared }
         requires empty { shared.count ≡ 0 }
+        requires fresh { shared.until ≡ 0 }
         requires passed { new.family ≤ self.old.last }
         requires room { HasSpare (room_of self.old) 1 }
         ensures tied { IsTied self.new }
@@ -316,7 +303,7 @@ impl Tables {
         ensures keeps { (moment : ℕ) → kept_at (kept_of self.old) digest.now moment ≡ None →
             TellsSame (kept_of self.old ++ kept_under shared digest.now new ∷ []) (kept_of self.new) moment }
     {
-        share(&mut self.families, new.family, shared);
+        self.families.set(new.family, shared);
         self.put(digest, new);
     }
 }
@@ -329,42 +316,23 @@ fn most_before(limit: u32, more: usize) -> Option<usize>
     (limit as usize).checked_sub(more)
 }
 
-// The scope under which a family stands in the index, if it stands there.
-fn open_scope(ended: bool, code_scope: Option<ScopeSet>) -> Option<ScopeSet>
-    ensures { result ≡ open_scope ended code_scope }
-{
-    if ended {
-        return None;
-    }
-    code_scope
-}
-
-// The index's key of a family of the two, if it stands there under a scope.
-fn key_under(scope: Option<ScopeSet>, parties: (u32, u32), number: u64) -> Option<OwnerKey>
-    ensures { result ≡ key_under scope parties number }
-{
-    Some((parties, (scope?.bits(), number)))
-}
-
 // The index's key of the family, if it stands there.
 fn key_of(shared: &Shared, number: u64) -> Option<OwnerKey>
     ensures { result ≡ key_of shared.now number }
 {
+    if shared.ended || !shared.coded {
+        return None;
+    }
     let parties = (shared.owner, shared.client.get());
-    key_under(open_scope(shared.ended, shared.code_scope), parties, number)
+    Some((parties, (shared.scope.bits(), number)))
 }
 
-// Puts a family of the two into the index, if it stands there under a scope.
-fn add_owner(
-    owners: &mut Owners,
-    scope: Option<ScopeSet>,
-    parties: (u32, u32),
-    number: u64,
-) -> Result<(), AllocError>
-    ensures indexed { OnOk result (HasIndexed owners.old.keys owners.new.keys (key_under scope parties number)) }
+// Puts the key into the index, if there is one.
+fn add_owner(owners: &mut Owners, key: Option<OwnerKey>) -> Result<(), AllocError>
+    ensures indexed { OnOk result (HasIndexed owners.old.keys owners.new.keys key) }
     ensures err { OnErr result (owners.new.keys ≡ owners.old.keys) }
 {
-    let Some(key) = key_under(scope, parties, number) else {
+    let Some(key) = key else {
         return Ok(());
     };
     owners.insert(key)?;
@@ -380,24 +348,15 @@ fn strike_key(owners: &mut Owners, key: Option<OwnerKey>)
     }
 }
 
-// The family, if it is there, is as it is given.
-fn share(families: &mut Families, number: u64, shared: Shared)
-    ensures here { family_numbered families.new.entries number ≡ option_map (λ was. shared) (family_numbered families.old.entries number) }
-    ensures others { OthersStay families.old.entries families.new.entries number }
+// One record more is of the family, which expires then.
+fn enter(families: &mut Families, number: u64, until: u64)
+    requires few { (shared_at families.old.entries number).count + 1 < 2 ^ 32 }
+    ensures entered { HasEntered families.old.entries families.new.entries number until }
 {
-    if let Some(found) = families.get_mut(&number) {
-        *found = shared;
-    }
-}
-
-// So many records more are of the family.
-fn enter(families: &mut Families, number: u64, more: usize)
-    requires few { (shared_at families.old.entries number).count + more < 2 ^ 64 }
-    ensures entered { HasEntered families.old.entries families.new.entries number more }
-{
-    if let Some(mut shared) = families.get(&number).copied() {
-        shared.count += more;
-        share(families, number, shared);
+    if let Some(mut shared) = families.get(number).copied() {
+        shared.count += 1;
+        shared.until = shared.until.max(until);
+        families.set(number, shared);
     }
 }
 
@@ -405,9 +364,9 @@ fn enter(families: &mut Families, number: u64, more: usize)
 fn mark_ended(families: &mut Families, number: u64)
     ensures ended { HasEnded families.old.entries families.new.entries number }
 {
-    if let Some(mut shared) = families.get(&number).copied() {
+    if let Some(mut shared) = families.get(number).copied() {
         shared.ended = true;
-        share(families, number, shared);
+        families.set(number, shared);
     }
 }
 
@@ -416,20 +375,11 @@ pub(crate) fn end_one(families: &mut Families, owners: &mut Owners, number: u64)
     ensures owned { IsOwned families.old.entries owners.old.keys → IsOwned families.new.entries owners.new.keys }
     ensures ended { HasEnded families.old.entries families.new.entries number }
 {
-    let Some(shared) = families.get(&number) else {
+    let Some(shared) = families.get(number) else {
         return;
     };
     strike_key(owners, key_of(shared, number));
     mark_ended(families, number);
-}
-
-// The record of the digest is spent, if there is one.
-pub(crate) fn spend_one(records: &mut HashMap<Digest, Record>, digest: &Digest)
-    ensures spent { records.new.entries ≡ spent_in digest.now records.old.entries (lookup (bytes_eq digest.now) records.old.entries) }
-{
-    if let Some(record) = records.get_mut(digest) {
-        record.spent = true;
-    }
 }
 
 // Ends each family of the two whose code's scope is not within the mask: each once, and one look for
@@ -484,6 +434,23 @@ fn start_of(parties: (u32, u32), after: Option<u64>) -> Bound<OwnerKey>
     }
 }
 
+// Whether an unexpired record of the family is in one of the slots.
+fn is_member_among(slots: &[Option<Slot<Digest, Record>>], number: u64, moment: Moment) -> bool
+    ensures { result ≡ list_any (in_slot (is_member_at number moment)) slots.now }
+{
+    slots.iter().any(|slot| is_member_in(slot, number, moment))
+}
+
+// Whether an unexpired record of the family is in the slot.
+fn is_member_in(slot: &Option<Slot<Digest, Record>>, number: u64, moment: Moment) -> bool
+    ensures { result ≡ in_slot (is_member_at number moment) slot.now }
+{
+    let Some(found) = slot else {
+        return false;
+    };
+    found.kept.family == number && found.kept.is_unexpired(moment)
+}
+
 fn is_among(digest: &Digest, digests: &[Digest]) -> bool
     ensures { result ≡ list_any (bytes_eq digest.now) digests.now }
 {
@@ -495,12 +462,12 @@ pub(crate) fn leave(families: &mut Families, owners: &mut Owners, number: u64, k
     ensures owned { IsOwned families.old.entries owners.old.keys → IsOwned families.new.entries owners.new.keys }
     ensures left { HasLeft families.old.entries families.new.entries number keeps }
 {
-    let Some(mut shared) = families.get(&number).copied() else {
+    let Some(mut shared) = families.get(number).copied() else {
         return;
     };
     if keeps || shared.count > 1 {
         shared.count = shared.count.saturating_sub(1);
-        share(families, number, shared);
+        families.set(number, shared);
         return;
     }
     close(families, owners, number);
@@ -511,7 +478,7 @@ pub(crate) fn close(families: &mut Families, owners: &mut Owners, number: u64)
     ensures owned { IsOwned families.old.entries owners.old.keys → IsOwned families.new.entries owners.new.keys }
     ensures closed { HasClosed families.old.entries families.new.entries number }
 {
-    let Some(shared) = families.remove(&number) else {
+    let Some(shared) = families.take(number) else {
         return;
     };
     strike_key(owners, key_of(&shared, number));

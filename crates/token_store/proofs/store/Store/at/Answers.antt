@@ -1,5 +1,5 @@
 use Rattle.std.proofs.Common.{◌≡◌, ap, ◌∙◌, sym, Some, arith}
-use Rattle.token_store.proofs.Names.{family_numbered, kept_at, kept_in, kept_of, kept_under, option_copied, or_nothing}
+use Rattle.token_store.proofs.Names.{family_numbered, kept_at, kept_in, kept_of, kept_under, option_copied, or_nothing, stand_entries}
 use Rattle.std.specs.Option.{option_map}
 use Rattle.token_store.specs.Found.{kept_seen}
 use Rattle.token_store.proofs.Dropping.{has_slot, kept_counted}
@@ -28,7 +28,7 @@ returns-in_err-shared c =
     let k = kept_in t.families.entries (d, c.in_ok-record.record.now) in
     let at : kept_at (kept_of t) d c.args.moment ≡ Some k =
     sym c.record_at.ensures ∙ ap (λ o. option_map (λ x. kept_in t.families.entries (d, x)) (option_copied o)) c.in_ok-record.was in
-    let there = has_slot t.families.entries k.grant.family (kept_counted t.families.entries t.records.entries d c.args.moment k c.self.invariant.once c.self.invariant.counted at) in
+    let there = has_slot t.families.entries k.grant.family (kept_counted t.families.entries (stand_entries t.records) d c.args.moment k c.self.invariant.ties.once c.self.invariant.ties.counted at) in
     let missing = ap option_copied c.in_err-shared.was in
     let got = c.get.ensures in
     absurd (grind (arith, there, missing, got))

@@ -1,6 +1,6 @@
 use Rattle.std.proofs.Common.{◌≡◌, ap, ◌∙◌, sym, Some, arith}
 use Rattle.std.specs.Prelude.{option_map}
-use Rattle.token_store.proofs.Names.{kept_of, option_copied, shared_at, shared_seen}
+use Rattle.token_store.proofs.Names.{kept_of, option_copied, shared_at, shared_seen, stand_entries}
 use Rattle.token_store.specs.Found.{family_of_grant}
 use Rattle.token_store.proofs.Living.{family_is, none_lives}
 use Rattle.token_store.proofs.Telling.{lives_there}
@@ -14,7 +14,7 @@ returns c = rw (← c.self.view_is) (λ history fits.
     let was = ap option_copied c.in_ok-get.was in
     let there : c.in_ok-get.field-0.now ≡ shared_at t.families.entries n = grind (arith, got, was) in
     ap (λ x. Some x) (c.family.ensures ∙ ap shared_seen there)
-    ∙ family_is t.families.entries t.records.entries history c.args.moment n c.self.invariant.once fits.kept (sym c.lives.ensures ∙ c.if-not-lives.false))
+    ∙ family_is t.families.entries (stand_entries t.records) history c.args.moment n c.self.invariant.ties.once fits.kept (sym c.lives.ensures ∙ c.if-not-lives.false))
 
 pub returns-then-not-lives : goal.returns-then-not-lives
 returns-then-not-lives c = rw (← c.self.view_is) (λ history fits.

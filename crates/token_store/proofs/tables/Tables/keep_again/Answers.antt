@@ -1,5 +1,5 @@
 use Rattle.std.proofs.Common.{◌≡◌, ◌∙◌, ◌∷◌, ◌++◌, [], List, Option, Some, None, ap, subst, arith}
-use Rattle.token_store.proofs.Names.{family_numbered, Kept, kept_at, kept_of, kept_under, or_nothing, Shared, shared_or, TellsSame}
+use Rattle.token_store.proofs.Names.{family_numbered, Kept, kept_at, kept_of, kept_under, or_nothing, Shared, shared_or, TellsSame, stand_entries}
 use Rattle.token_store.proofs.Looking.{shown, found, same_push, same_on}
 use Rattle.token_store.proofs.tables.Tables.keep_again.Goals as goal
 
@@ -15,7 +15,7 @@ returns-clause-keeps c = λ m none.
     let room = c.make_room.ensures.same m in
     let gone : kept_at (kept_of t2) d m ≡ None =
     ap (λ (ks : List Kept). kept_at ks d m) c.open_home.ensures.same ∙ room.finds d m (omega arith)
-    ∙ found t.families.entries t.records.entries d m c.requires.tied.once ∙ ap (shown t.families.entries d m) none in
+    ∙ found t.families.entries (stand_entries t.records) d m c.requires.tied.ties.once ∙ ap (shown t.families.entries d m) none in
     let here : family_numbered t2.families.entries r.family ≡ Some s = rw c.make_room.ensures.families at c.in_ok-open_home.ensures.here in
     let put : TellsSame (kept_of t2 ++ kept_under (or_nothing (family_numbered t2.families.entries r.family)) d r ∷ []) (kept_of t4) m =
     (rw c.pass.ensures.same at (c.put.ensures.keeps m)) gone in

@@ -1,5 +1,5 @@
 use Rattle.std.proofs.Common.{refl}
-use Rattle.token_store.proofs.Names.{told, event_at, kept_of}
+use Rattle.token_store.proofs.Names.{told, event_at, kept_of, stand_entries}
 use Rattle.token_store.proofs.Families.{tied_lowered, view_lowered}
 use Rattle.token_store.proofs.Following.{fits_consented}
 use Rattle.token_store.proofs.Changing.{last_pushed_none}
@@ -10,7 +10,7 @@ returns c =
     let t = c.args.self.now in
     let slots = t.families.entries in
     let slots' = c.lower_all.new.families.entries in
-    let es = t.records.entries in
+    let es = stand_entries t.records in
     let owner = c.args.owner in
     let client = c.args.client in
     let mask = c.args.mask in
@@ -19,7 +19,7 @@ returns c =
     let owned = c.lower_all.ensures.owned in
     let changed = view_lowered slots slots' es owner client mask lowered in
     record {
-      tied = tied_lowered slots slots' owner client mask es t.agenda t.owners.keys c.lower_all.new.owners.keys t.last lowered owned c.requires.tied;
+      tied = record { standing = c.requires.tied.standing; ties = tied_lowered slots slots' owner client mask es t.owners.keys c.lower_all.new.owners.keys t.last t.swept lowered owned c.requires.tied.ties };
       alters = λ history fits. record {
         kept = rw changed (fits_consented (kept_of t) history m owner client mask fits.kept);
         last = last_pushed_none t.last history (event_at m (told.Consented owner client mask)) fits.last refl;

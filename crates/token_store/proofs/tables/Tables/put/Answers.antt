@@ -1,47 +1,78 @@
-use Rattle.std.proofs.Common.{◌≡◌, ◌∙◌, sym, None, Some, refl, arith}
+use Rattle.std.proofs.Common.{◌≡◌, ◌<◌, ◌≤◌, ◌∙◌, ap, sym, subst, None, Some, refl, arith}
+use Rattle.token_store.proofs.Names.{bytes_eq, bytes_eq-Decides, expiry, family_numbered, lookup, or_nothing, shared_at, stand_entries, Record}
 use Rattle.token_store.proofs.Settling.{settled, count_few}
 use Rattle.token_store.proofs.Dropping.{member_counted}
 use Rattle.token_store.proofs.tables.Tables.put.Goals as goal
 
 pub enter-requires : goal.enter-requires
-enter-requires c = record { few = (let t = c.args.self.now in let le = count_few t.families.entries t.records.entries c.args.new.family c.requires.tied.counted in let len = c.len.ensures.len in let few = c.len.ensures.small in omega (arith, le, len, few)) }
+enter-requires c =
+    let t = c.args.self.now in
+    let le = count_few t.families.entries (stand_entries t.records) c.homed-new.result.family c.requires.tied.ties.counted in
+    let len = c.len.ensures.value in
+    let few = c.len.ensures.small in
+    omega (arith, le, len, few)
 
 -- something was under the digest
-pub returns-in-Some : goal.returns-in-Some
-returns-in-Some c =
+pub returns-in-Some-put : goal.returns-in-Some-put
+returns-in-Some-put c =
     let t = c.args.self.now in
-    let put = c.in-Ok.ensures in
-    let found = sym put.old ∙ c.in-Some.is in
-    let all = settled t.families.entries c.enter.new.families.entries c.leave.new.families.entries t.records.entries c.insert.new.self.entries t.agenda c.add.new.self t.owners.keys c.leave.new.owners.keys t.last
-    c.args.digest.now (Some c.in-Some.expired) c.args.new c.requires.tied c.requires.passed c.requires.open c.enter.ensures.entered c.leave.ensures.left c.leave.ensures.owned
-    (sym found) (rw c.in-Some.is at put.entries) c.insert.ensures.unique put.updates.0 (rw c.expiry.ensures at c.add.ensures.added) c.add.ensures.exact in
+    let f = t.families.entries in
+    let d = c.args.digest.now in
+    let r = c.homed-new.result in
+    let x = c.in-Some-put.expired in
+    let e = c.put.ensures in
+    let is = c.homed-new.ensures in
+    let of : r.family ≡ c.args.new.family = ap (λ (y : Record). y.family) is in
+    let got = c.get.ensures.value in
+    let same = c.copied.ensures in
+    let found = c.in-Some.is in
+    let there : family_numbered f c.args.new.family ≡ Some c.in-Some.shared = grind (arith, got, same, found) in
+    let home : r.client ≡ (shared_at f r.family).client = ap (λ (y : Record). y.client) is ∙ ap (λ o. (or_nothing o).client) (sym there) ∙ ap (λ n. (shared_at f n).client) (sym of) in
+    let puts = rw c.in-Some-put.is at e.puts in
+    let later = c.max-self.ensures in
+    let until = c.expiry-in-Some-put.ensures in
+    let all = settled f c.enter.new.families.entries c.leave.new.families.entries (stand_entries t.records) (stand_entries c.put.new.self) t.owners.keys c.leave.new.owners.keys t.last t.swept c.max-self.result
+    d (Some x) r c.requires.tied.ties (rw of c.requires.passed) (rw of c.requires.open) home (rw c.expiry.ensures at c.enter.ensures.entered) c.leave.ensures.left c.leave.ensures.owned
+    puts e.found (omega (arith, later)) (λ y its. (let own : x ≡ y = grind (arith, its) in subst (λ (z : Record). expiry z ≤ c.max-self.result) own (omega (arith, later, until)))) in
+    let at : lookup (bytes_eq d) (stand_entries c.put.new.self) ≡ Some r = (let own = (bytes_eq-Decides d d).1 refl in e.found d ∙ rw own refl) in
     record {
-      tied = all.tied;
+      tied = record { standing = e.standing; ties = all.tied };
       last = refl;
       coming = refl;
-      peopled = (let member = member_counted c.args.digest.now c.insert.new.self.entries c.args.new put.updates.1 in let same = all.tied.counted c.args.new.family in omega (arith, member, same));
-      keeps = all.keeps;
-      room = (let records = c.insert.ensures in grind (arith, records));
-      found = put.updates.0;
-      entered = λ none. absurd (let both : None ≡ Some c.in-Some.expired = sym none ∙ found in cc);
+      peopled = (let member = member_counted d (stand_entries c.put.new.self) r at in let count = all.tied.counted r.family in let some : 0 < (shared_at c.leave.new.families.entries r.family).count = omega (arith, member, count) in rw of at some);
+      keeps = rw is at all.keeps;
+      room = e.room;
+      entered = λ none. absurd (let was = puts.found in let both : None ≡ Some x = sym none ∙ was in cc);
     }
 
 -- nothing was
-pub returns-in_default-replaced : goal.returns-in_default-replaced
-returns-in_default-replaced c =
+pub returns-in_default-put : goal.returns-in_default-put
+returns-in_default-put c =
     let t = c.args.self.now in
-    let put = c.in-Ok.ensures in
-    let slots = c.enter.new.families.entries in
-    let all = settled t.families.entries slots slots t.records.entries c.insert.new.self.entries t.agenda c.add.new.self t.owners.keys t.owners.keys t.last
-    c.args.digest.now None c.args.new c.requires.tied c.requires.passed c.requires.open c.enter.ensures.entered refl (λ owned. owned)
-    (sym c.in_default-replaced.is ∙ put.old) (rw c.in_default-replaced.is at put.entries) c.insert.ensures.unique put.updates.0 (rw c.expiry.ensures at c.add.ensures.added) c.add.ensures.exact in
+    let f = t.families.entries in
+    let d = c.args.digest.now in
+    let r = c.homed-new.result in
+    let e = c.put.ensures in
+    let is = c.homed-new.ensures in
+    let of : r.family ≡ c.args.new.family = ap (λ (y : Record). y.family) is in
+    let got = c.get.ensures.value in
+    let same = c.copied.ensures in
+    let found = c.in-Some.is in
+    let there : family_numbered f c.args.new.family ≡ Some c.in-Some.shared = grind (arith, got, same, found) in
+    let home : r.client ≡ (shared_at f r.family).client = ap (λ (y : Record). y.client) is ∙ ap (λ o. (or_nothing o).client) (sym there) ∙ ap (λ n. (shared_at f n).client) (sym of) in
+    let puts = rw c.in_default-put.is at e.puts in
+    let f' = c.enter.new.families.entries in
+    let entered = rw c.expiry.ensures at c.enter.ensures.entered in
+    let all = settled f f' f' (stand_entries t.records) (stand_entries c.put.new.self) t.owners.keys t.owners.keys t.last t.swept t.swept
+    d None r c.requires.tied.ties (rw of c.requires.passed) (rw of c.requires.open) home entered refl (λ owned. owned)
+    puts e.found (omega arith) (λ y its. cc) in
+    let at : lookup (bytes_eq d) (stand_entries c.put.new.self) ≡ Some r = (let own = (bytes_eq-Decides d d).1 refl in e.found d ∙ rw own refl) in
     record {
-      tied = all.tied;
+      tied = record { standing = e.standing; ties = all.tied };
       last = refl;
       coming = refl;
-      peopled = (let member = member_counted c.args.digest.now c.insert.new.self.entries c.args.new put.updates.1 in let same = all.tied.counted c.args.new.family in omega (arith, member, same));
-      keeps = all.keeps;
-      room = (let records = c.insert.ensures in grind (arith, records));
-      found = put.updates.0;
-      entered = λ none. c.enter.ensures.entered;
+      peopled = (let member = member_counted d (stand_entries c.put.new.self) r at in let count = all.tied.counted r.family in let some : 0 < (shared_at f' r.family).count = omega (arith, member, count) in rw of at some);
+      keeps = rw is at all.keeps;
+      room = e.room;
+      entered = λ none. rw is at entered;
     }
