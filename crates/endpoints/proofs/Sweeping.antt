@@ -1,5 +1,5 @@
 -- What a step leaves is swept.
-use Rattle.std.proofs.Common.{◌≡◌, ℕ, List, length, max, ap, sym, ◌∙◌, arith, subst}
+use Rattle.std.proofs.Common.{◌≡◌, ◌⊎◌, inl, inr, ◌+◌, ◌≤◌, ℕ, List, length, max, ap, sym, ◌∙◌, arith, subst}
 use Rattle.endpoints.proofs.Names.{Event, unexpired_count, Hosting, Written, FitsStore, Held, SeenServer, Outset, FitsServer, Arrival, IsSwept, Steps, Sweeps}
 use Rattle.endpoints.proofs.Answering.{swept_step}
 
@@ -14,18 +14,29 @@ module _ {H : Type 0} (hosting : Hosting H) where
   -- what is kept is as much as is unexpired of one history, and so of each
   swept_each : (mid : SeenServer H) (kept : Held) (outset : Outset H) (after : List Event) (n : ℕ) →
       ((history : List Event) → FitsStore mid.store history mid.greatest → FitsStore kept history mid.greatest) →
-      ((history : List Event) → FitsStore mid.store history mid.greatest → length kept.kept ≡ unexpired_count history mid.greatest) →
-      FitsServer hosting mid outset after n → IsSwept hosting (record mid { store = kept })
-  swept_each mid kept outset after n dropped few fits other_outset history m fits' =
-      let there : FitsStore mid.store after mid.greatest = subst (λ (n : ℕ). FitsStore mid.store after n) (sym fits.greatest_is) fits.store in
+      FitsStore mid.store after mid.greatest → length kept.kept ≡ unexpired_count after mid.greatest → IsSwept hosting (record mid { store = kept })
+  swept_each mid kept outset after n dropped there all other_outset history m fits' =
       let here : FitsStore kept after mid.greatest = dropped after there in
       let other : FitsStore kept history mid.greatest = subst (λ (n : ℕ). FitsStore kept history n) (sym fits'.greatest_is) fits'.store in
-      few after there ∙ sym (here.kept.count mid.greatest (omega arith)) ∙ other.kept.count mid.greatest (omega arith)
+      all ∙ sym (here.kept.count mid.greatest (omega arith)) ∙ other.kept.count mid.greatest (omega arith)
       ∙ ap (unexpired_count history) fits'.greatest_is
+
+  swept_or : (mid : SeenServer H) (kept : Held) (outset : Outset H) (after : List Event) (n before : ℕ) →
+      ((history : List Event) → FitsStore mid.store history mid.greatest → FitsStore kept history mid.greatest) →
+      ((history : List Event) → FitsStore mid.store history mid.greatest →
+      (length kept.kept ≡ unexpired_count history mid.greatest) ⊎ length kept.kept + 62 ≤ before) →
+      FitsServer hosting mid outset after n → IsSwept hosting (record mid { store = kept }) ⊎ length kept.kept + 62 ≤ before
+  swept_or mid kept outset after n before dropped few fits =
+      let there : FitsStore mid.store after mid.greatest = subst (λ (n : ℕ). FitsStore mid.store after n) (sym fits.greatest_is) fits.store in
+      elim (few after there) [
+        | inl all ↦ inl (swept_each mid kept outset after n dropped there all)
+        | inr fewer ↦ inr fewer
+      ]
 
   pub sweeps : (old mid : SeenServer H) (kept : Held) (arrival : Arrival) (reply : Written) →
       ((history : List Event) → FitsStore mid.store history mid.greatest → FitsStore kept history mid.greatest) →
-      ((history : List Event) → FitsStore mid.store history mid.greatest → length kept.kept ≡ unexpired_count history mid.greatest) →
+      ((history : List Event) → FitsStore mid.store history mid.greatest →
+      (length kept.kept ≡ unexpired_count history mid.greatest) ⊎ length kept.kept + 62 ≤ length old.store.kept) →
       Steps hosting old arrival reply mid → Sweeps hosting old (record mid { store = kept })
   sweeps old mid kept arrival reply dropped few steps outset history m fits =
-      let s = steps outset history m fits in swept_each mid kept outset _ (max m arrival.moment) dropped few s.3.fits
+      let s = steps outset history m fits in swept_or mid kept outset _ (max m arrival.moment) (length old.store.kept) dropped few s.3.fits

@@ -1,5 +1,5 @@
 -- What one request does to a server, whatever has happened before.
-use Rattle.std.specs.Prelude.{◌≡◌, ℕ, List, Bool, Option, length, max}
+use Rattle.std.specs.Prelude.{◌≡◌, ◌⊎◌, ◌+◌, ◌≤◌, ℕ, List, Bool, Option, length, max}
 use Rattle.endpoints.specs.Names.{HookFault, Hosting, RegistryRecord, Event, unexpired_count, Asked, Written, Draws}
 use Rattle.endpoints.specs.Bounded.{IsBounded}
 use Rattle.endpoints.specs.Hosts.{IsHostFault, says_with}
@@ -48,6 +48,6 @@ KeepsBounds hosting server = OfEach hosting server (λ rules history m. IsBounde
 abbrev pub IsSwept : {H : Type 0} → Hosting H → SeenServer H → Type 0
 IsSwept hosting server = OfEach hosting server (λ rules history m. length server.store.kept ≡ unexpired_count history m)
 
--- a server that fitted some history is swept then
+-- a server that fitted some history is swept then, or keeps 62 fewer than before
 abbrev pub Sweeps : {H : Type 0} → Hosting H → SeenServer H → SeenServer H → Type 0
-Sweeps hosting old new = OfEach hosting old (λ rules history m. IsSwept hosting new)
+Sweeps hosting old new = OfEach hosting old (λ rules history m. IsSwept hosting new ⊎ length new.store.kept + 62 ≤ length old.store.kept)

@@ -6,6 +6,7 @@ mod authorize;
 mod beside;
 mod consenting;
 mod documents;
+mod expiring;
 mod hooks;
 mod introspect;
 mod laws;

@@ -58,10 +58,11 @@ impl<H: HookHost> Remaking<H> {
     pub fn new(alloc: Global, rules: Registry, host: H) -> Self
         ensures fits { FitsRemaking H.HookHost result (outset_of rules host) [] 0 }
     {
+        let size = rules.limits().records;
         Remaking {
             rules,
             host,
-            store: Store::new(alloc),
+            store: Store::new(alloc, size),
             consents: Consents::new(alloc),
             greatest: Moment::new(0),
             alloc,

@@ -1,5 +1,5 @@
 //! The server.
-ghost use Rattle.std.specs.Prelude.{◌≡◌, ◌≤◌, [], None, Some, IfErr, IfOk, OnErr, OnOk, max, length, option_map, unwrap_or, ◌⊎◌};
+ghost use Rattle.std.specs.Prelude.{◌≡◌, ◌≤◌, [], None, Some, IfErr, IfOk, OnErr, OnOk, max, length, option_map, unwrap_or, ◌⊎◌, ◌+◌};
 ghost use Rattle.consent.specs.Changes.{as_list};
 ghost use Rattle.messages.specs.Asked.{asked_of};
 ghost use Rattle.answers.specs.Short.{IsShortReply, IsShortAnswer, state_limit};
@@ -25,6 +25,7 @@ use crate::authorize::authorize;
 use crate::beside::make_beside;
 use crate::consenting::consent;
 use crate::documents::tell;
+use crate::expiring::{let_go, make_way};
 use crate::hooks::{install, remove};
 use crate::introspect::introspect;
 use crate::leaving::end_owner;
@@ -106,10 +107,11 @@ impl<H: HookHost> Server<H> {
         ensures fits { FitsServer H.HookHost result (outset_of rules host) [] 0 }
         ensures notes { Notes result None [] }
     {
+        let size = rules.limits().records;
         Server {
             rules,
             host,
-            store: Store::new(alloc),
+            store: Store::new(alloc, size),
             consents: Consents::new(alloc),
             greatest: Moment::new(0),
             unkept: None,
@@ -376,7 +378,7 @@ impl<H: HookHost> Server<H> {
         ensures short { length request.now.target.now ≤ state_limit → IsShortReply result }
     {
         self.greatest = greater(self.greatest, moment);
-        self.store.drop_expired(self.greatest);
+        make_way(&mut self.store, self.rules.limits().records, self.greatest);
         let Some(endpoint) = Endpoint::at(request.path()) else {
             return Response::bare(StatusCode::NOT_FOUND);
         };
@@ -398,38 +400,29 @@ impl<H: HookHost> Server<H> {
         self.greatest = greater(self.greatest, moment);
     }
 
-    /// Lets go of what has expired at the moment, before which nothing is answered from now on.
-    pub fn drop_expired(&mut self, moment: Moment)
-        ensures reached { Reaches H.HookHost self.old moment self.new }
-        ensures same { self.new ≡ record self.old { greatest = max self.old.greatest moment; store = self.new.store } }
-    {
-        self.greatest = greater(self.greatest, moment);
-        self.store.drop_expired(self.greatest);
-    }
-
-    // Lets go of what has expired, which changes no answer.
-    fn sweep(&mut self)
+    // Lets go of what has expired, which changes no answer: of all, or of so much that 62 fewer are kept than before.
+    fn sweep(&mut self, before: usize)
         ensures same { self.new ≡ record self.old { store = self.new.store } }
         ensures fits { WhereverFits self.old.store self.old.greatest (λ h. FitsStore self.new.store h self.old.greatest) }
         ensures kept { WhereverFits self.old.store self.old.greatest
-            (λ h. length self.new.store.kept ≡ unexpired_count h self.old.greatest) }
+            (λ h. (length self.new.store.kept ≡ unexpired_count h self.old.greatest) ⊎ length self.new.store.kept + 62 ≤ before) }
     {
-        let now = self.greatest;
-        self.store.drop_expired(now);
+        let_go(&mut self.store, before, self.greatest);
     }
 
     /// Answers a request at the greatest moment so far: the reply of the first point of its endpoint's list that holds, or
     /// the 503 of refused memory, with which nothing happens. What no endpoint answers (404, 405) takes no memory. It is
-    /// counted. Afterwards nothing is kept that has expired.
+    /// counted. Afterwards nothing is kept that has expired, or 62 codes and tokens fewer are kept than before.
     pub fn step(&mut self, request: &Request<'_>, moment: Moment, draws: &Draws) -> Response
         ensures replies { Steps H.HookHost self.old
             (record { asked = asked_of request.now; moment = moment; draws = draws.now }) result self.new }
         ensures kept { Sweeps H.HookHost self.old self.new }
         ensures short { length request.now.target.now ≤ state_limit → IsShortReply result }
     {
+        let before = self.record_count();
         let mut cause = None;
         let reply = self.answer(request, moment, draws, &mut cause);
-        self.sweep();
+        self.sweep(before);
         self.tally
             .count(Endpoint::at(request.path()), reply.status(), cause);
         reply

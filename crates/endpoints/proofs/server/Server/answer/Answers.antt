@@ -20,7 +20,7 @@ returns-in_default-clause-replies g c = λ outset history m fits0.
     let fits = rw (← c.self.view_is) at fits0 in
     let moment = at_moment _ m c.args.moment _ c.greater-self-inside.ensures fits.greatest_is in
     let none : endpoint_at (path_of c.args.request.now.target.now) ≡ None = ap endpoint_at (sym c.path.ensures) ∙ sym c.at.ensures ∙ c.in_default.is in
-    let now = swept g.H.HookHost _ outset history m _ _ moment.0 fits (c.drop_expired.ensures.fits history) in
+    let now = swept g.H.HookHost _ outset history m _ _ moment.0 fits (c.make_way.ensures.fits history) in
     (false, None, tt, rw (none, ← moment.1) (bare_step g.H.HookHost (record { server = c.args.self.now; outset = outset; history = history; moment = c.greater-self-inside.result }) _ 404 _ now c.bare.ensures (unkept_as _ _ c.self.view_is) (host_as _ _ c.self.view_is)))
 
 pub returns-then-ne-clause-replies : goal.returns-then-ne-clause-replies
@@ -30,7 +30,7 @@ returns-then-ne-clause-replies g c = λ outset history m fits0.
     let there : endpoint_at (path_of c.args.request.now.target.now) ≡ Some c.in-Some.endpoint = ap endpoint_at (sym c.path.ensures) ∙ sym c.at.ensures ∙ c.in-Some.is in
     let other : not (bytes_eq c.args.request.now.method.now (method_at c.in-Some.endpoint)) ≡ true =
     sym (c.ne.ensures ∙ ap (λ b. not (bytes_eq c.args.request.now.method.now b)) c.method.ensures) ∙ c.if-ne.true in
-    let now = swept g.H.HookHost _ outset history m _ _ moment.0 fits (c.drop_expired.ensures.fits history) in
+    let now = swept g.H.HookHost _ outset history m _ _ moment.0 fits (c.make_way.ensures.fits history) in
     (false, None, tt, rw (there, other, ← moment.1) (bare_step g.H.HookHost (record { server = c.args.self.now; outset = outset; history = history; moment = c.greater-self-inside.result }) _ 405 _ now c.bare-then-ne.ensures (unkept_as _ _ c.self.view_is) (host_as _ _ c.self.view_is)))
 
 pub returns-in_default-answer_at-clause-replies : goal.returns-in_default-answer_at-clause-replies
@@ -40,7 +40,7 @@ returns-in_default-answer_at-clause-replies g c = λ outset history m fits0.
     let there : endpoint_at (path_of c.args.request.now.target.now) ≡ Some c.in-Some.endpoint = ap endpoint_at (sym c.path.ensures) ∙ sym c.at.ensures ∙ c.in-Some.is in
     let method : bytes_eq c.args.request.now.method.now (method_at c.in-Some.endpoint) ≡ true =
     not-false _ (sym (c.ne.ensures ∙ ap (λ b. not (bytes_eq c.args.request.now.method.now b)) c.method.ensures) ∙ c.if-ne.false) in
-    let now = swept g.H.HookHost _ outset history m _ _ moment.0 fits (c.drop_expired.ensures.fits history) in
+    let now = swept g.H.HookHost _ outset history m _ _ moment.0 fits (c.make_way.ensures.fits history) in
     let same = none_made g.H.HookHost _ _ (record { endpoint = c.in-Some.endpoint; asked = asked_of c.args.request.now; draws = c.args.draws.now }) c.answer_at.result c.in_default-answer_at.not-Ok c.answer_at.ensures.replies in
     (true, None, tt, rw (there, method, ← moment.1) (bare_step g.H.HookHost (record { server = c.args.self.now; outset = outset; history = history; moment = c.greater-self-inside.result }) _ 503 _ (same.fits outset history _ now) c.bare-in_default-answer_at.ensures (same.unkept ∙ unkept_as _ _ c.self.view_is) (same.host ∙ host_as _ _ c.self.view_is)))
 
@@ -51,6 +51,6 @@ returns-clause-replies g c = λ outset history m fits0.
     let there : endpoint_at (path_of c.args.request.now.target.now) ≡ Some c.in-Some.endpoint = ap endpoint_at (sym c.path.ensures) ∙ sym c.at.ensures ∙ c.in-Some.is in
     let method : bytes_eq c.args.request.now.method.now (method_at c.in-Some.endpoint) ≡ true =
     not-false _ (sym (c.ne.ensures ∙ ap (λ b. not (bytes_eq c.args.request.now.method.now b)) c.method.ensures) ∙ c.if-ne.false) in
-    let now = swept g.H.HookHost _ outset history m _ c.drop_expired.new.self moment.0 fits (c.drop_expired.ensures.fits history) in
-    rw (← moment.1) (stepped g.H.HookHost c.args.self.now (record { rules = c.self.inside.rules; host = c.self.inside.host; store = c.drop_expired.new.self; consents = c.self.inside.consents; greatest = c.greater-self-inside.result; unkept = noted_in c.self.inside.unkept; prepared = prepared_in c.self.inside.unkept })
+    let now = swept g.H.HookHost _ outset history m _ c.make_way.new.store moment.0 fits (c.make_way.ensures.fits history) in
+    rw (← moment.1) (stepped g.H.HookHost c.args.self.now (record { rules = c.self.inside.rules; host = c.self.inside.host; store = c.make_way.new.store; consents = c.self.inside.consents; greatest = c.greater-self-inside.result; unkept = noted_in c.self.inside.unkept; prepared = prepared_in c.self.inside.unkept })
     _ outset history c.in-Some.endpoint (asked_of c.args.request.now) c.args.draws.now _ there method now c.in-Ok.ensures.replies (host_as _ _ c.self.view_is) (unkept_as _ _ c.self.view_is))

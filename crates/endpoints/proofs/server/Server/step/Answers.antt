@@ -13,4 +13,4 @@ pub returns-clause-kept : goal.returns-clause-kept
 returns-clause-kept g c =
     let arrival : Arrival = record { asked = asked_of c.args.request.now; moment = c.args.moment; draws = c.args.draws.now } in
     subst (λ server. Sweeps g.H.HookHost c.args.self.now server) (sym (c.self.view_is ∙ c.sweep.ensures.same))
-    (sweeps g.H.HookHost c.args.self.now c.answer-reply.new.self c.sweep.new.self.store arrival c.answer-reply.result c.sweep.ensures.fits c.sweep.ensures.kept c.answer-reply.ensures.replies)
+    (sweeps g.H.HookHost c.args.self.now c.answer-reply.new.self c.sweep.new.self.store arrival c.answer-reply.result c.sweep.ensures.fits (λ history fits. rw c.record_count-before.ensures at (c.sweep.ensures.kept history fits)) c.answer-reply.ensures.replies)
