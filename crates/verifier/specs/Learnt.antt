@@ -1,6 +1,6 @@
 -- What a test teaches: of the two numbers that it compares, and of those that are linked to them.
 use Rattle.std.specs.Prelude.{◌≡◌, ◌≢◌, ℕ, ◌+◌, Bool, true, false, List, slice_set, Option, Some, None}
-use Rattle.verifier.specs.Names.{RegNo, Operand, Reg, Imm, Layout, BinOp, Add, Sub, Eq, Width, reg_number, State, Scalar, InScalar, ShowsOne, Kind, IsKindRefined, Bits, Lowest, Shifted, Relation}
+use Rattle.verifier.specs.Names.{Operand, Reg, Imm, Layout, BinOp, Add, Sub, Eq, Width, reg_number, State, Scalar, InScalar, ShowsOne, Kind, IsKindRefined, Bits, Lowest, Shifted, Relation}
 use Rattle.verifier.specs.Names.{Sum, Difference}
 use Rattle.range.specs.Domain.{IsSingleResult, IsSoundResult}
 use Rattle.scalar.specs.Narrowed.{Answer, AreNarrowed, LiesInLeastSum}
@@ -10,7 +10,9 @@ use Rattle.verifier.specs.declared.known.Test.{Test}
 use Rattle.verifier.specs.declared.link.Link.{Link}
 use Rattle.verifier.specs.Fits.{InStates, Reading, StateFits, is_exact}
 use Rattle.verifier.specs.Follows.{IsOperand, reg_of, register_at, test_answer}
-use Rattle.verifier.specs.Links.{joining, link_at}
+use Rattle.verifier.specs.Links.{with_turn, link_at}
+use Rattle.verifier.specs.declared.link.Turn.{Turn}
+use Rattle.verifier.specs.declared.link.Turn.TheVariants.{Left, Right, Others}
 
 -- ---- the two numbers that are compared
 
@@ -93,31 +95,30 @@ abbrev pub MaySpread : Option Link → ℕ → Known → Known → Type 0
 MaySpread None k old new = new ≡ old
 MaySpread (Some link) k old new = IsSpread link k old new
 
--- it has spread by each link that joins a register, in the order of the registers, up to register k
-pub data IsSpreadBelow (r : RegNo) (old : Known) : ℕ → Known → Type 0 where
-  Unspread : IsSpreadBelow r old 0 old
-  SpreadOne : {k : ℕ} {between new : Known} → IsSpreadBelow r old k between → MaySpread (joining r k (link_at between.links k)) k between new → IsSpreadBelow r old (k + 1) new
+-- it has spread by each link that has its turn in a test, in the order of the registers, up to register k
+pub data IsSpreadBelow (test : Test) (turn : Turn) (old : Known) : ℕ → Known → Type 0 where
+  Unspread : IsSpreadBelow test turn old 0 old
+  SpreadOne : {k : ℕ} {between new : Known} → IsSpreadBelow test turn old k between
+      → MaySpread (with_turn turn test.left test.right k (link_at between.links k)) k between new → IsSpreadBelow test turn old (k + 1) new
 
-abbrev pub IsSpreadToAll : RegNo → Known → Known → Type 0
-IsSpreadToAll r old new = IsSpreadBelow r old 11 new
-
-abbrev pub IsSpreadFrom : Operand → Known → Known → Type 0
-IsSpreadFrom (Reg r) old new = IsSpreadToAll r old new
-IsSpreadFrom (Imm imm) old new = new ≡ old
+abbrev pub IsSpreadInTurn : Test → Turn → Known → Known → Type 0
+IsSpreadInTurn test turn old new = IsSpreadBelow test turn old 11 new
 
 -- ---- the whole
 
--- it has spread by the links of the left number, and then by those of the right one
-pub record IsSpreadFromBoth (test : Test) (old new : Known) : Type 0 where
-  pub between : Known
-  pub left : IsSpreadToAll test.left old between
-  pub right : IsSpreadFrom test.right between new
+-- it has spread by the links that join the left number, then by those that join the right one, and then by all others
+pub record IsSpreadToAll (test : Test) (old new : Known) : Type 0 where
+  pub first : Known
+  pub second : Known
+  pub left : IsSpreadInTurn test Left old first
+  pub right : IsSpreadInTurn test Right first second
+  pub others : IsSpreadInTurn test Others second new
 
 -- a test teaches of its two numbers, and then of those that are linked to them
 pub record Teaches (test : Test) (answer : Bool) (old new : Known) : Type 0 where
   pub between : Known
   pub two : IsCompared test answer old between
-  pub linked : IsSpreadFromBoth test between new
+  pub linked : IsSpreadToAll test between new
 
 -- all states that are known and of which the test has the answer are known, and every shape
 pub record KeepsAnswered (test : Test) (answer : Bool) (old new : Known) : Type 0 where

@@ -1,6 +1,6 @@
 -- Registers whose number is another's plus a constant or a constant less another's, and what instructions leave of that.
-use Rattle.std.specs.Prelude.{◌≡◌, ◌⊎◌, ℕ, ◌+◌, ◌*◌, ◌^◌, ◌<◌, ◌==◌, ◌||◌, ℤ, pos, List, slice_index_or, Bool, true, false, if◌then◌else◌, Option, Some, None}
-use Rattle.verifier.specs.Names.{RegNo, BinOp, Add, Sub, Lsh, Rsh, Mov, Arsh, Width, W32, W64, Reg, Imm, Action, Operate, Value, Number, reg_number, ◌>>=◌, value_of, int_width, wrapped, Kind, Bits}
+use Rattle.std.specs.Prelude.{◌≡◌, ◌⊎◌, ℕ, ◌+◌, ◌*◌, ◌^◌, ◌<◌, ◌==◌, ◌||◌, ◌&&◌, not, ℤ, pos, List, slice_index_or, Bool, true, false, if◌then◌else◌, Option, Some, None}
+use Rattle.verifier.specs.Names.{RegNo, BinOp, Add, Sub, Lsh, Rsh, Mov, Arsh, Width, W32, W64, Operand, Reg, Imm, Action, Operate, Value, Number, reg_number, ◌>>=◌, value_of, int_width, wrapped, Kind, Bits}
 use Rattle.verifier.specs.Names.{Lowest, Shifted, Relation, Sum, Difference}
 use Rattle.std.specs.Int.{w64, cast_unsigned}
 use Rattle.std.specs.Ordering.{int_eq}
@@ -8,6 +8,8 @@ use Rattle.scalar.specs.Bounds.{least_word, greatest_word}
 use Rattle.reg_kind.specs.declared.reg.Reg.TheVariants as kind
 use Rattle.verifier.specs.declared.link.Link.{Link}
 use Rattle.verifier.specs.declared.link.Links.{Links}
+use Rattle.verifier.specs.declared.link.Turn.{Turn}
+use Rattle.verifier.specs.declared.link.Turn.TheVariants.{Left, Right, Others}
 
 -- In the bits of a width b is a plus the constant, or with a it comes to the constant; or it is so of b and of the other two
 -- shifted by half a word.
@@ -45,10 +47,22 @@ abbrev pub link_left : RegNo → ℕ → Option Link → Option Link
 link_left written k None = None
 link_left written k (Some link) = if reg_number written == k || reg_number written == reg_number link.of then None else Some link
 
--- a link of register k, where that or the other of its two is a register
-abbrev pub joining : RegNo → ℕ → Option Link → Option Link
-joining r k None = None
-joining r k (Some link) = if reg_number r == k || reg_number r == reg_number link.of then Some link else None
+-- whether a link of register k joins a register: it is one of its two
+abbrev pub joins : RegNo → ℕ → Option Link → Bool
+joins r k None = false
+joins r k (Some link) = reg_number r == k || reg_number r == reg_number link.of
+
+-- whether it has its turn in a test of two numbers: it joins the left one, or the right one, or neither
+abbrev pub has_turn : Turn → RegNo → Operand → ℕ → Option Link → Bool
+has_turn Left left right k link = joins left k link
+has_turn Right left (Reg r) k link = joins r k link
+has_turn Right left (Imm imm) k link = false
+has_turn Others left (Reg r) k link = not (joins left k link) && not (joins r k link)
+has_turn Others left (Imm imm) k link = not (joins left k link)
+
+-- it, where it has its turn
+abbrev pub with_turn : Turn → RegNo → Operand → ℕ → Option Link → Option Link
+with_turn turn left right k link = if has_turn turn left right k link then link else None
 
 abbrev pub AreLeft : RegNo → Links → Links → Type 0
 AreLeft written old new = (k : ℕ) → k < 11 → link_at new k ≡ link_left written k (link_at old k)

@@ -2,7 +2,7 @@
 
 ghost use Rattle.std.specs.Prelude.{◌≡◌, ◌<◌, ℕ, None, Some, if◌then◌else◌, IfSome, length, slice_index_or, true};
 ghost use Rattle.insn.specs.Instruction.{reg_number};
-ghost use Rattle.verifier.specs.Links.{AreLeft, AreLinksJoined, AreMade, IsLinkJoin, bits_after, copied, difference_made, joining as spec_joining, less, lesser, link_after, link_at, link_kept, link_left, link_made, link_of as spec_link_of};
+ghost use Rattle.verifier.specs.Links.{AreLeft, AreLinksJoined, AreMade, IsLinkJoin, bits_after, copied, difference_made, has_turn as spec_has_turn, joins as spec_joins, less, lesser, link_after, link_at, link_kept, link_left, link_made, link_of as spec_link_of, with_turn as spec_with_turn};
 ghost use Rattle.verifier.specs.LinksParts.{AreNumbersRefined, IsEqualKept, IsLinkRefined};
 ghost use Rattle.verifier.specs.Learnt.{AreLinkNarrowed, IsDerived, IsLinkNarrowed, IsNarrowedTo, IsTraced};
 
@@ -80,6 +80,17 @@ fn lesser_width(a: Width, b: Width) -> Width
     }
 }
 
+/// By which links what a test teaches spreads first, then, and last.
+#[derive(Clone, Copy)]
+pub enum Turn {
+    /// By those that join its left number.
+    Left,
+    /// By those that join its right one, where that is a register.
+    Right,
+    /// By those that join neither.
+    Others,
+}
+
 /// In some bits a register's number is another's plus a constant, or a constant less another's.
 #[derive(Clone, Copy, PartialEq, Eq)]
 pub struct Link {
@@ -150,12 +161,26 @@ impl Link {
     /// Whether a link of a register joins another one, or this is its own: then it is lost when that is written.
     fn joins(link: Option<Link>, other: RegNo, number: usize) -> bool
         ensures left { link_left other number link ≡ (if result then None else link) }
-        ensures joined { spec_joining other number link ≡ (if result then link else None) }
+        ensures joins { result ≡ spec_joins other number link }
     {
         let other = other.number();
         match link {
             Some(link) => other == number || other == link.of.number(),
             None => false,
+        }
+    }
+
+    /// Whether a link of a register has its turn in a test of two numbers.
+    fn has_turn(link: Option<Link>, turn: Turn, left: RegNo, right: Operand, number: usize) -> bool
+        ensures { result ≡ spec_has_turn turn left right number link }
+    {
+        let joins = Link::joins(link, left, number);
+        match (turn, right) {
+            (Turn::Left, _) => joins,
+            (Turn::Right, Operand::Reg(right)) => Link::joins(link, right, number),
+            (Turn::Right, Operand::Imm(_)) => false,
+            (Turn::Others, Operand::Reg(right)) => !joins && !Link::joins(link, right, number),
+            (Turn::Others, Operand::Imm(_)) => !joins,
         }
     }
 
@@ -228,14 +253,27 @@ impl Links {
         if self.any { self.each[number] } else { None }
     }
 
-    /// The same, where the link joins this register.
-    pub(crate) fn joining(&self, register: RegNo, number: usize) -> Option<Link>
+    /// Whether there may be some.
+    pub(crate) fn any(&self) -> bool
+        ensures { result ≡ self.now.any }
+    {
+        self.any
+    }
+
+    /// The link of the register of a number, where it has its turn in a test of two numbers.
+    pub(crate) fn with_turn(
+        &self,
+        turn: Turn,
+        left: RegNo,
+        right: Operand,
+        number: usize,
+    ) -> Option<Link>
         requires { number < 11 }
         ensures own { IfSome result (λ link. link_at self.now number ≡ Some link) }
-        ensures joining { result ≡ spec_joining register number (link_at self.now number) }
+        ensures turn { result ≡ spec_with_turn turn left right number (link_at self.now number) }
     {
         let link = self.at(number);
-        if Link::joins(link, register, number) {
+        if Link::has_turn(link, turn, left, right, number) {
             link
         } else {
             None

@@ -10,13 +10,13 @@ returns-then-not-refine_by-clause-narrowed c =
 
 pub loop-i-preserved : goal.loop-i-preserved
 loop-i-preserved c =
-    elim c.match-joining.branch [
+    elim c.match-with_turn.branch [
       | in-Some+else-not-refine_by w ↦
           rw w.self-is (
             narrowed_then c.args.self.now c.loop-i.self w.refine_by.new.self true c.loop-i.invariant.0 (rw w.if-not-refine_by.false at w.refine_by.ensures.narrowed),
-            spread_one c.args.register c.args.self.now c.loop-i.self w.refine_by.new.self c.loop-i.i w.in-Some.link c.loop-i.invariant.1 (sym c.joining.ensures.joining ∙ w.in-Some.is) (w.refine_by.ensures.spread w.if-not-refine_by.false),
+            spread_one c.args.test c.args.turn c.args.self.now c.loop-i.self w.refine_by.new.self c.loop-i.i w.in-Some.link c.loop-i.invariant.1 (sym c.with_turn.ensures.turn ∙ w.in-Some.is) (w.refine_by.ensures.spread w.if-not-refine_by.false),
           )
-      | in_default w ↦ rw w.self-is (c.loop-i.invariant.0, spread_none c.args.register c.args.self.now c.loop-i.self c.loop-i.i c.loop-i.invariant.1 (sym c.joining.ensures.joining ∙ w.in_default.is))
+      | in_default w ↦ rw w.self-is (c.loop-i.invariant.0, spread_none c.args.test c.args.turn c.args.self.now c.loop-i.self c.loop-i.i c.loop-i.invariant.1 (sym c.with_turn.ensures.turn ∙ w.in_default.is))
     ]
 
 pub loop-i-init : goal.loop-i-init

@@ -2,4 +2,4 @@ use Rattle.verifier.proofs.Names.{IsSpreadBelow, IsNarrowed}
 use Rattle.verifier.proofs.known.Known.refine_linked.Given as goal
 
 abbrev pub invariant-loop-i : goal.invariant-loop-i
-invariant-loop-i l = IsNarrowed l.initial.self l.self × IsSpreadBelow l.register l.initial.self l.i l.self
+invariant-loop-i l = IsNarrowed l.initial.self l.self × IsSpreadBelow l.test l.turn l.initial.self l.i l.self
