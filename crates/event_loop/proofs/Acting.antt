@@ -1,7 +1,7 @@
 -- A call at one place.
 use Rattle.std.proofs.Common.{◌≡◌, ◌≢◌, inl, inr, ℕ, Some, refl, sym, ap, subst, ◌∙◌, arith, true, false, slice_get, slice_set}
 use Rattle.event_loop.proofs.Names.{Place, IsOccupied, MayRead, MayWrite, read_limit, AreWithin, same_Some, connection_at, Progress, known, led, Promises, LoopState, IsAllKept, with_call, with_place}
-use Rattle.event_loop.proofs.Names.{Ended, Broken, CallKind, IsDone, Transfer, Reading, Writing, Served, goes, Running, Standing, Past, Duty, DoneAfter, ActsAt, IsReadyFor, state_of, to_read}
+use Rattle.event_loop.proofs.Names.{Ended, Broken, CallKind, IsDone, Transfer, Reading, Writing, Served, goes, Running, Standing, Past, Duty, DoneAfter, ActsAt, ReadsAt, IsReadyFor, state_of, to_read}
 use Rattle.event_loop.proofs.Names.{to_write, ReadsPlace, WritesPlace, offered, Read, Write, Refused}
 use Rattle.event_loop.specs.Calls as call
 use Rattle.event_loop.specs.Reading as reading
@@ -90,11 +90,14 @@ module _ {N C J K H : Type 0} (p : Promises N C J K H) (k : ℕ) (place : Place)
     }
 
     -- so it is where it is read
-    pub read_acts : (after : Running N C J K H) (next : Past H) → after.service.due ≡ before.now.service.due → place.readable ≡ true → ¬ (IsDone (Reading k) before.past.calls) →
+    pub read_done : (after : Running N C J K H) (next : Past H) → after.service.due ≡ before.now.service.due → place.readable ≡ true → ¬ (IsDone (Reading k) before.past.calls) →
         MayRead place (connection_at before.past.journey.world.connections k) → Served p first (state_of before.now before.found before.past) →
-        ReadsPlace p k place (state_of before.now before.found before.past) (state_of after before.found next) → ActsAt p first (to_read k) before after
-    read_acts after next due readable undone may served reading =
-        acts_once (to_read k) after next due (reads_once _ here (subst IsOccupied (sym may.is_open) tt) _ reading) (goes served (step.reads k place _ here readable undone may reading))
+        ReadsPlace p k place (state_of before.now before.found before.past) (state_of after before.found next) → ReadsAt p first k before after
+    unfolding acts_once
+    read_done after next due readable undone may served reading =
+        let once = reads_once _ here (subst IsOccupied (sym may.is_open) tt) _ reading in
+        let acts = acts_once (to_read k) after next due once (goes served (step.reads k place _ here readable undone may reading)) in
+        record { goes = acts.goes; due = due; done = once.acts }
 
     -- or written to
     pub write_acts : (after : Running N C J K H) (next : Past H) → after.service.due ≡ before.now.service.due → place.writable ≡ true → ¬ (IsDone (Writing k) before.past.calls) → IsAllKept before.past.journey.world →

@@ -1,6 +1,6 @@
 -- Calls that were done after others.
 use Rattle.std.proofs.Common.{suc, ◌≡◌, ◌≢◌, ◌⊎◌, inl, inr, ◌<◌, ℕ, List, Some, refl, sym, ◌∙◌, arith, [], ◌∷◌}
-use Rattle.event_loop.proofs.Names.{Place, Closes, leaves, same_Some, Promises, LoopState, Call, CallKind, Keeping, Shortening, IsDone, done_since, Served, DoneMore, DoneAfter, LeadsOn, Running, Standing, standing}
+use Rattle.event_loop.proofs.Names.{Place, Closes, leaves, same_Some, Promises, LoopState, Call, CallKind, Keeping, Looking, Shortening, IsDone, done_since, Served, DoneMore, DoneAfter, LeadsOn, Running, Standing, standing}
 use Rattle.event_loop.proofs.Names.{state_of}
 use Rattle.event_loop.specs.Calls.{waits}
 use Rattle.event_loop.specs.Calls as call
@@ -30,13 +30,15 @@ pub not_another : (kind other : CallKind) (calls : List Call) → other ≢ kind
 not_another kind other calls differs not (inl is) = differs (sym (same_Some kind other is))
 not_another kind other calls differs not (inr is) = not is
 
--- where a call was made of a kind that is no keeping, something was done
-pub done_some : (kind : CallKind) (calls : List Call) → Keeping ≢ kind → IsDone kind calls → 0 < done_since calls
-done_some kind [] differs t = absurd t
-done_some kind (call.Waited limit room found ∷ earlier) differs t = absurd t
-done_some kind (call.Kept ∷ earlier) differs (inl is) = absurd (differs (same_Some Keeping kind is))
-done_some kind (call.Kept ∷ earlier) differs (inr t) = done_some kind earlier differs t
-done_some kind calls differs t = omega arith
+-- where a call was made of a kind that is no keeping and no look, something was done
+pub done_some : (kind : CallKind) (calls : List Call) → Keeping ≢ kind → ((n : ℕ) → Looking n ≢ kind) → IsDone kind calls → 0 < done_since calls
+done_some kind [] differs no_look t = absurd t
+done_some kind (call.Waited limit room found ∷ earlier) differs no_look t = absurd t
+done_some kind (call.Looked n room came ∷ earlier) differs no_look (inl is) = absurd (no_look n (same_Some (Looking n) kind is))
+done_some kind (call.Looked n room came ∷ earlier) differs no_look (inr t) = done_some kind earlier differs no_look t
+done_some kind (call.Kept ∷ earlier) differs no_look (inl is) = absurd (differs (same_Some Keeping kind is))
+done_some kind (call.Kept ∷ earlier) differs no_look (inr t) = done_some kind earlier differs no_look t
+done_some kind calls differs no_look t = omega arith
 
 module _ {N C J K H : Type 0} (p : Promises N C J K H) where
   -- a close is one more

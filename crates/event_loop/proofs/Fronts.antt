@@ -4,7 +4,7 @@ use Rattle.event_loop.proofs.Names.{Event, IsFrontOf, Holds, Keeps, KeepsBasis, 
 use Rattle.event_loop.proofs.Names.{TakesOutput, TakesNothing, AnsweredPiece, Piece, piece_of, Journey, Progress, IsReached, led, GivesPieces, nothing, gives, Message, Outset, Promises, LoopState}
 use Rattle.event_loop.proofs.Names.{IsAllKept, IsUnkept, with_call, Ready, Call, Transfer, Wrote, waits_done, opens, denies, finds_nobody, asks, LoopStep, Served, Shuts, TellsLast, tells_nothing}
 use Rattle.event_loop.proofs.Names.{comes, reads, writes, closes, keeps, shortens, no_slice, begins, goes, stops, shuts, reports_last, LoopFault, Carries, Onward, stays, onward, KeeperHolds, StandsBetween}
-use Rattle.event_loop.proofs.Names.{IsWriteKept, MomentIsHeld, CannotGoOn, no_wait, no_time, too_far, no_moment, not_kept, not_shortened, no_more, Queue, LastTold, Noted, ReadsPlace, WritesPlace, Hosting}
+use Rattle.event_loop.proofs.Names.{IsWriteKept, MomentIsHeld, CannotGoOn, no_wait, looks_again, fails_to_look, no_time, too_far, no_moment, not_kept, not_shortened, no_more, Queue, LastTold, Noted, ReadsPlace, WritesPlace, Hosting}
 use Rattle.event_loop.specs.Coming.{fails}
 use Rattle.event_loop.specs.Served.{waits}
 use Rattle.event_loop.specs.Done as deed
@@ -174,6 +174,16 @@ module _ {N C J K H : Type 0} (p : Promises N C J K H) where
     moves = keeps_still (λ last is. subst (λ (h : List Event). Keeps p.keeping.crashes h h s.keeper keeper) (sym (all last is)) kept) refl (keeps_within p.keeping.crashes 0 10 s.keeper keeper (omega arith) basis) (inl (refl, refl));
     did = λ first before. deed.shortened before;
     kept = λ k room took is. absurd (cc);
+  }
+  step_does s s' (looks_again nth room found n may done) = record {
+    moves = goes_on (refl, (refl, refl), refl) (grows_not s.times.moment _ _ refl);
+    did = λ first before. deed.looked nth room found n before done;
+    kept = λ k r took is. absurd (cc);
+  }
+  step_does s s' (fails_to_look nth room n may done) = record {
+    moves = goes_on (refl, (refl, refl), refl) (grows_not s.times.moment _ _ refl);
+    did = λ first before. deed.failed_to_look nth room n before done;
+    kept = λ k r took is. absurd (cc);
   }
   step_does s s' (no_slice keeper journal all long ago kept basis told) = record {
     moves = keeps_still (λ last is. subst (λ (h : List Event). Keeps p.keeping.crashes h h s.keeper keeper) (sym (all last is)) kept) refl (keeps_within p.keeping.crashes 0 10 s.keeper keeper (omega arith) basis) (inl (refl, refl));

@@ -64,8 +64,8 @@ module _ {N C J K H : Type 0} (p : Promises N C J K H) where
       ]
 
       tended_some : IsDone (Reading k) y.goes.on.next.calls ⊎ IsDone (Writing k) y.goes.on.next.calls → 0 < done_since y.goes.on.next.calls
-      tended_some (inl read) = done_some (Reading k) y.goes.on.next.calls (λ e. absurd (cc)) read
-      tended_some (inr done) = done_some (Writing k) y.goes.on.next.calls (λ e. absurd (cc)) done
+      tended_some (inl read) = done_some (Reading k) y.goes.on.next.calls (λ e. absurd (cc)) (λ n e. absurd (cc)) read
+      tended_some (inr done) = done_some (Writing k) y.goes.on.next.calls (λ e. absurd (cc)) (λ n e. absurd (cc)) done
 
       written : HoldsAt k c y.goes.on.next.journey.world NeedsNoWrite ⊎ IsDone (Writing k) y.goes.on.next.calls
       written = elim y.acts [
@@ -91,13 +91,13 @@ module _ {N C J K H : Type 0} (p : Promises N C J K H) where
   }
     where
       y : GoesKept p first (standing (running b u) found read.on.next) v
-      y = keep first found b read.on.next read.not_kept read.on.served (served_answered p first _ read.on.served).reached
+      y = keep first found b read.on.next read.hearing.not_kept read.on.served (served_answered p first _ read.on.served).reached
 
       z : GoesWriting p first 64 (standing (running b v) found y.next) (running c w)
       z = write first found y.next
           (λ j less. rested_other (suc j) j b read.on.next.journey.world b y.next.journey.world (others_kept j b read.on.next.journey.world y.next.journey.world y.connections) (λ is. absurd (omega (arith, is))) (read.rested j less))
           (λ j less. heard_other (suc j) j b read.on.next b y.next (others_kept j b read.on.next.journey.world y.next.journey.world y.connections) y.done (λ is. absurd (omega (arith, is))) (read.heard j less))
-          (λ j. y.alone (Writing j) (λ e. absurd (cc)) (read.unwritten j)) y.kept y.served
+          (λ j. y.alone (Writing j) (λ e. absurd (cc)) (read.hearing.unwritten j)) y.kept y.served
 
   -- at all places, one after another
   pub to_then : (f g h : List Ready) (a b c : Service) (t u v : Tools N C J K H) → LeadsToSettled p f (running a t) g (running b u) → LeadsToSettled p g (running b u) h (running c v) → LeadsToSettled p f (running a t) h (running c v)
@@ -147,8 +147,5 @@ rested_next k service world service' world' others due rested j less =
     ]
 
 -- each has its own kind
-pub reading_other : (j k : ℕ) → k + 1 ≤ j → Reading j ≡ Reading k → ⊥
-reading_other j k from e = (let same : j ≡ k = cc in absurd (omega (arith, from, same)))
-
 pub writing_other : (j k : ℕ) → k + 1 ≤ j → Writing j ≡ Writing k → ⊥
 writing_other j k from e = (let same : j ≡ k = cc in absurd (omega (arith, from, same)))

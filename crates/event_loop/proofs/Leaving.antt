@@ -46,8 +46,8 @@ is_patient : {N C J K H : Type 0} (p : Promises N C J K H) (service : Service) (
     (told ≡ Some Long → IsDone Shortening past.calls) → (told ≢ Some Long → IsKeptShort p (state_of (running service tools) [] past)) → (told ≡ Some Short → ¬ (p.keeping.is_long tools.keeper)) →
     IsLimit service told limit → IsPatient p (state_of (running service tools) [] past) limit
 is_patient p service tools past told limit size ready sliced rests short (limited.looks (inl due)) = served.looks ((ready.settled due.k due.within).active due.here)
-is_patient p service tools past told limit size ready sliced rests short (limited.looks (inr queue)) = served.looks (elim ready.queue [ inl not ↦ absurd (not queue) | inr tried ↦ done_some Accepting past.calls (λ e. absurd (cc)) tried ])
-is_patient p service tools past told limit size ready sliced rests short (limited.shortens long) = served.looks (done_some Shortening past.calls (λ e. absurd (cc)) (sliced long))
+is_patient p service tools past told limit size ready sliced rests short (limited.looks (inr queue)) = served.looks (elim ready.queue [ inl not ↦ absurd (not queue) | inr tried ↦ done_some Accepting past.calls (λ e. absurd (cc)) (λ n e. absurd (cc)) tried ])
+is_patient p service tools past told limit size ready sliced rests short (limited.shortens long) = served.looks (done_some Shortening past.calls (λ e. absurd (cc)) (λ n e. absurd (cc)) (sliced long))
 is_patient p service tools past told limit size ready sliced rests short (limited.rests rest not_long) = served.rests (is_idle p service tools past size ready.settled rest (rests not_long))
 is_patient p service tools past told limit size ready sliced rests short (limited.sleeps rest sleeps is) =
     served.sleeps (is_idle p service tools past size ready.settled rest (λ all long. absurd (short is long))) sleeps.free sleeps.unbarred sleeps.unwanted (short is)
@@ -93,7 +93,7 @@ may_wait p a b s t told limit room before same is_limit roomy shorter first past
       may = record {
         patient = is_patient p b t next told limit size ready now.sliced now.rests now.short is_limit;
         fair = record { places = λ k place here. (let within = slice_get_within b.places k place here in (ready.settled k (omega (arith, size, within))).turned place here); queue = ready.queue };
-        prompt = record { idle = ready.calm.idle; crowded = ready.calm.crowded; brief = ready.room; tried = ready.calm.tried; reported = ready.reported };
+        prompt = record { idle = ready.calm.idle; crowded = ready.calm.crowded; room = ready.room; tried = ready.calm.tried; reported = ready.reported };
         heard = refl;
         roomy = roomy;
         short = sliced_or_short told now.sliced now.rests;

@@ -15,3 +15,4 @@ pub mod Slicing
 pub mod Moments
 pub mod Names
 pub mod Rooming
+pub mod Hearing

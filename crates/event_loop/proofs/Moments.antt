@@ -69,6 +69,8 @@ module _ {N C J K H : Type 0} (p : Promises N C J K H) where
   -- so nothing is answered
   untouched_on : (s s' : LoopState N C J K H) → IsUntouched s → LoopStep p s s' → (s'.progress.journey.world.greatest ≡ s.progress.journey.world.greatest) × (waits s'.calls ≡ 0 → IsUntouched s')
   untouched_on s s' u (step.waits limit room found n times c keeper may done told near kept further) = (refl, λ none. absurd (omega (arith, none)))
+  untouched_on s s' u (step.looks_again nth room found n may done) = (refl, λ none. absurd (let some = may.behind in omega (arith, none, some)))
+  untouched_on s s' u (step.fails_to_look nth room n may done) = (refl, λ none. absurd (let some = may.behind in omega (arith, none, some)))
   untouched_on s s' u (step.hears_of_listener more is) = absurd (let not = sym u.found ∙ is in cc)
   untouched_on s s' u (step.hears_of j readable writable hung more place place' is here told) = absurd (let not = sym u.found ∙ is in cc)
   untouched_on s s' u (step.hears_of_none j readable writable hung more is none) = absurd (let not = sym u.found ∙ is in cc)
@@ -77,6 +79,7 @@ module _ {N C J K H : Type 0} (p : Promises N C J K H) where
   untouched_on s s' u (step.reads j place s'' here readable unread may reading) = absurd (let not = sym (u.free j place here) ∙ may.is_open in cc)
   untouched_on s s' u (step.writes j place s'' here writable unwritten kept may writing) = absurd (subst IsInService (u.free j place here) may.served)
   untouched_on s s' u (step.closes j place s'' here taken cause closing) = absurd (subst IsOccupied (u.free j place here) taken)
+  untouched_on s s' u (step.hears_out j place here waiting late eldest none) = absurd (let not = sym (u.free j place here) ∙ eldest.holds.is_open in cc)
   untouched_on s s' u (step.keeps keeper e unkept on undone kept moments further) =
       (ap (λ (w : World). w.greatest) on.happens.kept, λ none. record { free = u.free; found = u.found; queue = u.queue })
   untouched_on s s' u next = (refl, λ none. record { free = u.free; found = u.found; queue = u.queue })

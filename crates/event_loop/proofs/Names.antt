@@ -5,8 +5,8 @@ pub use Rattle.event_loop.specs.Names.{HasEnded, InEach}
 pub use Rattle.change_codec.specs.Keeping.{Crashes, Basis, LeavesEither}
 pub use Rattle.change_codec.specs.Keepers.{keeping}
 pub use Rattle.endpoints.specs.Server.{Outset, AreUnkept}
-pub use Rattle.event_loop.specs.Calls.{CallKind, IsDone, Transfer, Reading, Writing, Call, Keeping, Shortening, done_since, Wrote, waits as waits_done, Accepting}
-pub use Rattle.event_loop.specs.Closing.{AreWithin, Closes, leaves, Cause, gives_way, makes_room, freed_queue, is_silent, IsBehindReply}
+pub use Rattle.event_loop.specs.Calls.{CallKind, IsDone, Transfer, Reading, Looking, Writing, Call, Keeping, Shortening, done_since, Wrote, waits as waits_done, Accepting}
+pub use Rattle.event_loop.specs.Closing.{AreWithin, Closes, leaves, Cause, gives_way, makes_room, freed_queue, is_silent, IsBehindReply, IsOwed}
 pub use Rattle.event_loop.specs.Coming.{opens, denies, fresh_place, finds_nobody, asks}
 pub use Rattle.event_loop.specs.Durable.{Carries, Onward, stays, onward, KeeperHolds, StandsBetween, IsWriteKept, MomentIsHeld, MomentStays}
 pub use Rattle.event_loop.specs.Ends.{CannotGoOn, no_wait, no_time, too_far, no_moment, not_kept, not_shortened, no_more}
@@ -15,7 +15,7 @@ pub use Rattle.event_loop.specs.GivingParts.{GivesOn, progress_of}
 pub use Rattle.event_loop.specs.Goes.{Running, Standing, Past, Duty, DoneMore, DoneAfter, ActsAt, IsReadyFor, state_of, to_read, to_write, LeadsOn, standing, LeavesOthers, HoldsAt, LeadsToActs, LeadsToTidy}
 pub use Rattle.event_loop.specs.Goes.{LeadsToSettled, LeadsToAccepts, GoesReading, GoesKept, GoesWriting, LeadsToKept, LeadsWriting, StaysIdle, SettlesAt, TidiesAt, IsHeardAt, IsRestedAt, IsRested}
 pub use Rattle.event_loop.specs.Goes.{IsSettledAt, GoesSettled, running, IsCalm, NobodyIsSilent, OnlyTells, IsLimit, IsReadyToWait, LeadsAway, GoesShorter, LeadsToShort, SettlesAll}
-pub use Rattle.event_loop.specs.Goes.{AreAllSettled, IsRoomMadeIn, WhereKnown}
+pub use Rattle.event_loop.specs.Goes.{AreAllSettled, IsHearing, IsHeardAs, ReadsAt, ReadsOn, GoesFurther, LeadsFurther, AreGuestsBrief, IsGuest, IsRoomMadeIn, WhereKnown}
 pub use Rattle.event_loop.specs.Goes.{MayRest, IsToldAs, IsWorkLeft, a_read, a_write, IsLeftAt, noted_in, LeadsToHearing, LeadsShut, LeadsReading, LeadsRound, GoesRound, IsInTime}
 pub use Rattle.event_loop.specs.LoopStates.{Promises, LoopState, IsAllKept, with_call, with_place, IsUnkept, promises}
 pub use Rattle.event_loop.specs.Noting.{Noted, notes_it, passes}
@@ -24,7 +24,7 @@ pub use Rattle.event_loop.specs.Progress.{Progress, known, led, IsReached}
 pub use Rattle.event_loop.specs.Reading.{ReadsPlace, hears, refuses, ends, ends_nothing, finds_nothing, read_place}
 pub use Rattle.event_loop.specs.Reporting.{TellsRefusal, is_long_ago, full, reported}
 pub use Rattle.event_loop.specs.Served.{Served, goes, LoopStep, hears_of, comes, reads, writes, closes, keeps, begins, Shuts, TellsLast, tells_nothing, shortens, is_short, IsKeptShort, stops, shuts, reports_last, IsIdle}
-pub use Rattle.event_loop.specs.Served.{IsPatient, MayWait, HadTurn, IsFirst, told_place, hears_of_listener, hears_of_none, no_slice, reports}
+pub use Rattle.event_loop.specs.Served.{IsPatient, MayWait, HadTurn, IsFirst, told_place, hears_of_listener, hears_of_none, hears_out, looks_again, fails_to_look, MayLook, no_slice, reports}
 pub use Rattle.event_loop.specs.Writing.{WritesPlace, offered, sends, finds_no_room}
 pub use Rattle.event_loop.specs.declared.clocks.Times.{Times}
 pub use Rattle.event_loop.specs.declared.fault.ConnectionFault.TheVariants.{Read}

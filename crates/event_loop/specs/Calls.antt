@@ -16,10 +16,12 @@ pub data Transfer : Type 0 where
 
 -- One call of the sockets, and what came of it. A wait has its limit in milliseconds, how much it had room for, and what
 -- it found ready; the others have the place of their connection, a read how many bytes it had room for, and a write how many
--- it offered. Or what was unkept was given to the keeper, and is kept; or the keeper went on by a slice to shorten what it keeps.
+-- it offered. Or it was looked again without waiting what is ready, the how-manieth time since the last wait, from 0 on, and found
+-- that, or failed; or what was unkept was given to the keeper, and is kept; or the keeper went on by a slice to shorten what it keeps.
 pub data Call : Type 0 where
   Waited : (limit : Option ℕ) → (room : ℕ) → (found : List Ready) → Call
   WaitFailed : (limit : Option ℕ) → (room : ℕ) → Call
+  Looked : (nth room : ℕ) → (came : Option (List Ready)) → Call
   Asked : Call
   Tried : (k : ℕ) → (came : Accepted) → Call
   Read : (k room : ℕ) → (came : Transfer) → Call
@@ -65,13 +67,15 @@ waits (call ∷ earlier) = waits earlier
 abbrev pub done_since : List Call → ℕ
 done_since [] = 0
 done_since (Waited limit room found ∷ earlier) = 0
+done_since (Looked nth room came ∷ earlier) = done_since earlier
 done_since (Kept ∷ earlier) = done_since earlier
 done_since (call ∷ earlier) = suc (done_since earlier)
 
--- what is called for again and again: a place is read, what is unkept is kept, a place is written to, connections are accepted, and
+-- what is called for again and again: a place is read, it is looked again the how-manieth time, what is unkept is kept, a place is written to, connections are accepted, and
 -- what is kept is shortened by a slice
 pub data CallKind : Type 0 where
   Reading : (k : ℕ) → CallKind
+  Looking : (nth : ℕ) → CallKind
   Keeping : CallKind
   Writing : (k : ℕ) → CallKind
   Accepting : CallKind
@@ -82,6 +86,7 @@ abbrev pub kind_of : Call → Option CallKind
 kind_of Asked = Some Accepting
 kind_of (Tried k came) = Some Accepting
 kind_of (Read k room came) = Some (Reading k)
+kind_of (Looked nth room came) = Some (Looking nth)
 kind_of (Wrote k room took) = Some (Writing k)
 kind_of Kept = Some Keeping
 kind_of Shortened = Some Shortening

@@ -1,12 +1,12 @@
 -- How connections are closed.
-use Rattle.std.specs.Prelude.{◌≡◌, ◌≤◌, ◌<◌, ◌-◌, ℕ, List, [], Option, Some, slice_get}
-use Rattle.event_loop.specs.Names.{Connection, connection_at, untaken, Forgotten, SeenEdge, GoesOn, Free, Queue, Told, Empty, Barred, Asked, Waits}
+use Rattle.std.specs.Prelude.{◌≡◌, ◌⊎◌, ◌≤◌, ◌<◌, ◌-◌, ℕ, List, [], Option, Some, slice_get, length}
+use Rattle.event_loop.specs.Names.{Connection, connection_at, untaken, Forgotten, SeenEdge, GoesOn, Free, Open, Queue, Told, Empty, Barred, Asked, Waits}
 use Rattle.event_loop.specs.declared.clocks.Times.{Times}
 use Rattle.event_loop.specs.declared.place.Place.{Place}
 use Rattle.event_loop.specs.Calls as call
 use Rattle.event_loop.specs.Progress.{known, led}
 use Rattle.event_loop.specs.Noting.{Noted, NotesEnd}
-use Rattle.event_loop.specs.Places.{IsOccupied, IsOver}
+use Rattle.event_loop.specs.Places.{IsOccupied, IsOneEnding, IsOver}
 use Rattle.event_loop.specs.LoopStates.{Promises, LoopState, with_call, with_place}
 
 -- none at the places took no byte for longer
@@ -23,6 +23,11 @@ pub record IsBehindReply (turn : ℕ) (place : Place) (connection : Option Conne
   pub lately : place.turn ≡ turn
   pub nothing_owed : untaken connection ≡ []
 
+-- it is read still, and owed replies
+pub record IsOwed (place : Place) (connection : Option Connection) : Type 0 where
+  pub is_open : place.stage ≡ Open
+  pub some_left : 0 < length (untaken connection)
+
 -- it holds of the connection at the place, and of none that came before
 pub record IsEldest (P : Place → Option Connection → Type 0) (places : List Place) (connections : List Connection)
     (k : ℕ) (place : Place) : Type 0 where
@@ -34,6 +39,12 @@ pub record IsEldest (P : Place → Option Connection → Type 0) (places : List 
 abbrev pub AreBrief : (Place → Option Connection → Type 0) → ℕ → Times → List Place → List Connection → Type 0
 AreBrief P limit times places connections = (k : ℕ) (place : Place) → slice_get places k ≡ Some place →
     P place (connection_at connections k) → times.steady - place.came ≤ limit
+
+-- where another connection waits, nobody is there for longer than the limit who is right behind a reply, nor who is owed some and is
+-- read still, but where one is read no more
+pub record IsRoomMade (turn limit : ℕ) (times : Times) (places : List Place) (connections : List Connection) : Type 0 where
+  pub behind : AreBrief (IsBehindReply turn) limit times places connections
+  pub owed : AreBrief IsOwed limit times places connections ⊎ IsOneEnding places
 
 -- Why the connection at a place is closed: it is over; it took no byte of a reply for longer than the limit; or all places
 -- are taken, another connection waits, and it is silent longest, for longer than the other limit, or it is there for longer

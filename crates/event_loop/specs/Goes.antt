@@ -1,25 +1,32 @@
 -- How each part of the loop leads on. Only the contracts of its parts and their proofs cite this: no public clause does.
 use Rattle.std.specs.Prelude.{◌≡◌, ◌≢◌, ◌⊎◌, ◌≤◌, ◌<◌, ◌+◌, ◌-◌, ℕ, Bool, true, false, List, [], ◌∷◌, Option, Some, length, slice_get, slice_set, None, ⊤}
-use Rattle.event_loop.specs.Names.{Hosting, World, Connection, connection_at, untaken, SeenEdge, InEach, Journey, Reached, is_closing, LoopFault, Free, Told, Barred, Waits, Ready}
+use Rattle.event_loop.specs.Names.{Hosting, World, Connection, connection_at, untaken, SeenEdge, Journey, Reached, LoopFault, Barred, Ready}
 use Rattle.event_loop.specs.declared.due.Due.{Due}
 use Rattle.event_loop.specs.declared.due.Due.TheVariants.{Close, Work, Rest}
 use Rattle.event_loop.specs.declared.place.Place.{Place}
+use Rattle.event_loop.specs.declared.room.Guest.{Guest}
+use Rattle.event_loop.specs.declared.room.Guest.TheVariants.{Owed}
 use Rattle.event_loop.specs.declared.report.Report.{Report}
 use Rattle.event_loop.specs.declared.service.Service.{Service}
 use Rattle.event_loop.specs.declared.tools.Tools.{Tools}
-use Rattle.event_loop.specs.Calls.{Call, CallKind, Reading, Keeping, Writing, Accepting, Shortening, IsDone, waits, done_since}
+use Rattle.event_loop.specs.Calls.{Call, CallKind, Reading, Looking, Keeping, Writing, Accepting, Shortening, IsDone, waits, done_since}
 use Rattle.change_codec.specs.declared.keeper.Length.{Length}
 use Rattle.change_codec.specs.declared.keeper.Length.TheVariants.{Short, Long}
 use Rattle.event_loop.specs.Noting.{Noted}
-use Rattle.event_loop.specs.Places.{IsOccupied, MayRead, MayWrite, NeedsNoRead, NeedsNoWrite, IsOver, IsPlaceAtRest, AllFree}
-use Rattle.event_loop.specs.LoopStates.{Promises, LoopState, IsAllKept}
-use Rattle.event_loop.specs.Closing.{AreBrief, IsBehindReply, IsEldest, IsSilentLongest, AreWithin, Closes, freed_queue}
+use Rattle.event_loop.specs.Places.{MayWrite, NeedsNoRead, NeedsNoWrite, IsOver, IsPlaceAtRest}
+use Rattle.event_loop.specs.LoopStates.{Promises, LoopState}
+use Rattle.event_loop.specs.Closing.{AreBrief, IsEldest, IsRoomMade, IsSilentLongest, Closes, freed_queue}
 use Rattle.event_loop.specs.Reporting.{Tells}
 use Rattle.event_loop.specs.Served.{HadTurn, IsKeptShort, Served, Shuts, TellsLast}
 use Rattle.event_loop.specs.Ends.{CannotGoOn}
--- what each clause of a part names
+-- what clauses of parts name
 pub use Rattle.change_codec.specs.Keepers.{keeping}
-pub use Rattle.event_loop.specs.LoopStates.{promises}
+pub use Rattle.event_loop.specs.Names.{InEach, is_closing, piece_of, Free, Open, Empty, Told, Waits}
+pub use Rattle.event_loop.specs.declared.room.Guest.TheVariants.{Answered}
+pub use Rattle.event_loop.specs.Places.{IsOccupied, IsInService, IsOneEnding, IsFreeAt, AllFree, AllTaken, MayRead, is_taken, open_count}
+pub use Rattle.event_loop.specs.Closing.{AreWithin, IsBehindReply, IsOwed}
+pub use Rattle.event_loop.specs.Reporting.{TellsRefusal, is_long_ago}
+pub use Rattle.event_loop.specs.LoopStates.{IsAllKept, IsUnkept, promises}
 
 -- it holds of the connection, wherever the edge was reached
 abbrev pub WhereKnown : {H : Type 0} → Hosting H → SeenEdge H → ℕ → (Option Connection → Type 0) → Type 0
@@ -130,17 +137,26 @@ pub record IsLongestAt (places : List Place) (found : ℕ × Place) : Type 0 whe
   pub taken : IsOccupied found.1.stage
   pub longest : IsSilentLongest places found.1
 
--- where another connection waits, nobody is there for longer than the limit who is right behind a reply
-abbrev pub IsRoomMadeIn : Service → World → Type 0
-IsRoomMadeIn service world =
-    service.queue ≡ Waits → AreBrief (IsBehindReply service.turn) service.limits.crowded service.times service.places world.connections
+-- which connections make room: those right behind a reply, or those that are owed some
+abbrev pub IsGuest : Guest → ℕ → Place → Option Connection → Type 0
+IsGuest Answered turn = IsBehindReply turn
+IsGuest Owed turn = IsOwed
 
--- the connection at the place is right behind a reply, and there for longer than the limit, and none that is so came before it
-pub record IsEldestAt {H : Type 0} (hosting : Hosting H) (edge : SeenEdge H) (service : Service) (found : ℕ × Place) : Type 0 where
+-- none of those is there for longer than the limit
+abbrev pub AreGuestsBrief : Guest → Service → World → Type 0
+AreGuestsBrief guest service world = AreBrief (IsGuest guest service.turn) service.limits.crowded service.times service.places world.connections
+
+-- where another connection waits, there is room for it, as far as there may be
+abbrev pub IsRoomMadeIn : Service → World → Type 0
+IsRoomMadeIn service world = service.queue ≡ Waits → IsRoomMade service.turn service.limits.crowded service.times service.places world.connections
+
+-- the connection at the place is one of them, and there for longer than the limit, and none of them came before it
+pub record IsEldestAt {H : Type 0} (hosting : Hosting H) (edge : SeenEdge H) (guest : Guest) (service : Service) (found : ℕ × Place) : Type 0 where
   pub within : found.0 < 64
   pub here : slice_get service.places found.0 ≡ Some found.1
+  pub taken : IsOccupied found.1.stage
   pub late : service.limits.crowded < service.times.steady - found.1.came
-  pub eldest : InEach hosting edge (λ world. IsEldest (IsBehindReply service.turn) service.places world.connections found.0 found.1)
+  pub eldest : InEach hosting edge (λ world. IsEldest (IsGuest guest service.turn) service.places world.connections found.0 found.1)
 
 -- the other places are as they were, and so are their connections
 pub record LeavesOthers (k : ℕ) (service : Service) (world : World) (service' : Service) (world' : World) : Type 0 where
@@ -203,6 +219,17 @@ IsRestedAt k service world = slice_get service.due k ≡ Some false → HoldsAt 
 -- no read is to be done at the place, or one was done since the last wait
 abbrev pub IsHeardAt : {H : Type 0} → ℕ → Service → Past H → Type 0
 IsHeardAt k service past = HoldsAt k service past.journey.world NeedsNoRead ⊎ IsDone (Reading k) past.calls
+
+-- whether the place was read since the last wait is noted
+pub record IsHeardAs {H : Type 0} (j : ℕ) (service : Service) (past : Past H) : Type 0 where
+  pub unread : slice_get service.heard j ≡ Some false → ¬ (IsDone (Reading j) past.calls)
+  pub read : slice_get service.heard j ≡ Some true → IsDone (Reading j) past.calls
+
+-- so it is at each place, none was written to since then, and nothing was kept
+pub record IsHearing {H : Type 0} (service : Service) (past : Past H) : Type 0 where
+  pub heard_are : (j : ℕ) → j < 64 → IsHeardAs j service past
+  pub unwritten : (j : ℕ) → ¬ (IsDone (Writing j) past.calls)
+  pub not_kept : ¬ (IsDone Keeping past.calls)
 
 -- the place had its turn, and where nothing is noted to be due, nothing is to be done there, and else something was done
 pub record IsSettledAt {H : Type 0} (k : ℕ) (service : Service) (past : Past H) : Type 0 where
@@ -345,19 +372,45 @@ module _ {N C J K H : Type 0} (p : Promises N C J K H) where
   abbrev pub HearsOf : Ready → Running N C J K H → Running N C J K H → Type 0
   HearsOf ready before after = (more : List Ready) → LeadsToHearing (ready ∷ more) before more after
 
-  -- each place below i was read, where it may be; those from i on were not, none was written to, and nothing was kept
+  -- a place is read
+  pub record ReadsAt (first : LoopState N C J K H) (k : ℕ) (before : Standing N C J K H) (after : Running N C J K H) : Type 0 where
+    pub goes : GoesAt first (to_read k) before after
+    pub due : after.service.due ≡ before.now.service.due
+    pub done : IsDone (Reading k) goes.on.next.calls
+
+  -- so it is where it was not read since the last wait
+  abbrev pub LeadsToRead : ℕ → Running N C J K H → Running N C J K H → Type 0
+  LeadsToRead k before after =
+      (first : LoopState N C J K H) (found : List Ready) (past : Past H) → ¬ (IsDone (Reading k) past.calls) →
+      Served p first (state_of before found past) → Reached p.hosting before.tools.edge past.journey → ReadsAt first k (standing before found past) after
+
+  -- each place below i was read, where it may be, none was written to, and nothing was kept
   pub record GoesReading (first : LoopState N C J K H) (i : ℕ) (before : Standing N C J K H) (after : Running N C J K H) : Type 0 where
     pub on : LeadsOn first before after
     pub rested : IsRested after.service on.next.journey.world
     pub heard : (j : ℕ) → j < i → IsHeardAt j after.service on.next
-    pub unread : (j : ℕ) → i ≤ j → ¬ (IsDone (Reading j) on.next.calls)
-    pub unwritten : (j : ℕ) → ¬ (IsDone (Writing j) on.next.calls)
-    pub not_kept : ¬ (IsDone Keeping on.next.calls)
+    pub hearing : IsHearing after.service on.next
+
+  -- so it is, and it was looked no more
+  pub record ReadsOn (first : LoopState N C J K H) (i : ℕ) (before : Standing N C J K H) (after : Running N C J K H) : Type 0 where
+    pub goes : GoesReading first i before after
+    pub unlooked : (m : ℕ) → ¬ (IsDone (Looking m) before.past.calls) → ¬ (IsDone (Looking m) goes.on.next.calls)
 
   abbrev pub LeadsReading : ℕ → Running N C J K H → Running N C J K H → Type 0
   LeadsReading i before after =
-      (first : LoopState N C J K H) (found : List Ready) (past : Past H) → ((kind : CallKind) → ¬ (IsDone kind past.calls)) → IsRested before.service past.journey.world →
-      Served p first (state_of before found past) → GoesReading first i (standing before found past) after
+      (first : LoopState N C J K H) (found : List Ready) (past : Past H) → IsHearing before.service past → IsRested before.service past.journey.world →
+      Served p first (state_of before found past) → ReadsOn first i (standing before found past) after
+
+  -- behind a wait it was looked again as often as i, and all was read
+  pub record GoesFurther (first : LoopState N C J K H) (i : ℕ) (start : Standing N C J K H) (after : Running N C J K H) : Type 0 where
+    pub reading : GoesReading first 64 start after
+    pub unlooked : (m : ℕ) → i ≤ m → ¬ (IsDone (Looking m) reading.on.next.calls)
+
+  -- so it is where a wait was, and it was not looked again yet
+  abbrev pub LeadsFurther : ℕ → Running N C J K H → Running N C J K H → Type 0
+  LeadsFurther i before after =
+      (first : LoopState N C J K H) (start : Running N C J K H) (since : Past H) → 0 < waits since.calls → ((m : ℕ) → ¬ (IsDone (Looking m) since.calls)) →
+      ReadsOn first 64 (standing start [] since) before → GoesFurther first i (standing start [] since) after
 
   -- nothing is unkept, and all else is as it was
   pub record GoesKept (first : LoopState N C J K H) (before : Standing N C J K H) (tools' : Tools N C J K H) : Type 0 where

@@ -11,6 +11,10 @@ places_limit = 64
 abbrev pub ready_limit : ℕ
 ready_limit = 65
 
+-- so often it is looked again between two waits
+abbrev pub looks_limit : ℕ
+looks_limit = 3
+
 -- so many bytes are read at once
 abbrev pub read_limit : ℕ
 read_limit = 16384
@@ -46,8 +50,15 @@ pub record MayWrite (p : Place) (connection : Option Connection) : Type 0 where
   pub served : IsInService p.stage
   pub some_left : 0 < length (untaken connection)
 
--- nothing is left to be done for it: a fault ended it, or all output is written and it sends no more or had the 400 of a
--- faulty head
+-- a connection that sends no more, or is read no more, is there
+pub record IsOneEnding (places : List Place) : Type 0 where
+  pub k : ℕ
+  pub place : Place
+  pub here : slice_get places k ≡ Some place
+  pub ended : place.stage ≡ Ended
+
+-- nothing is left to be done for it: a fault ended it, or all output is written and it sends no more, is read no more or had the
+-- 400 of a faulty head
 pub data IsOver (p : Place) (connection : Option Connection) : Type 0 where
   broken : (fault : ConnectionFault) → p.stage ≡ Broken fault → IsOver p connection
   ended : p.stage ≡ Ended → untaken connection ≡ [] → IsOver p connection

@@ -1,19 +1,19 @@
 -- All that the loop does, step by step.
 use Rattle.std.specs.Prelude.{◌≡◌, ◌≢◌, ◌⊎◌, ◌<◌, ◌≤◌, ◌-◌, max, ℕ, Bool, true, false, ◌||◌, List, [], ◌∷◌, Option, Some, None, IsSome, slice_get, length}
-use Rattle.event_loop.specs.Names.{Told, Empty, Barred, Waits, Ready, Keeps, KeepsBasis, IsNoFurther, SeenEdge, GoesOn, Connection, Notice, Reported}
+use Rattle.event_loop.specs.Names.{Told, Empty, Barred, Waits, Ended, Ready, Keeps, KeepsBasis, IsNoFurther, SeenEdge, GoesOn, Connection, Notice, Reported}
 use Rattle.event_loop.specs.declared.clocks.Times.{Times}
 use Rattle.event_loop.specs.declared.place.Place.{Place}
 use Rattle.event_loop.specs.declared.sockets.Ready.TheVariants as ready
 use Rattle.event_loop.specs.Calls as call
-use Rattle.event_loop.specs.Calls.{Call, Reading, Keeping, Writing, Accepting, Shortening, IsDone, done_since}
+use Rattle.event_loop.specs.Calls.{Call, Reading, Looking, Keeping, Writing, Accepting, Shortening, IsDone, done_since}
 use Rattle.event_loop.specs.Progress.{known, led, IsReached}
 use Rattle.http_edge.specs.Schedule.{Kept}
-use Rattle.event_loop.specs.Places.{IsOccupied, MayRead, MayWrite, NeedsNoRead, NeedsNoWrite, IsOver, IsPlaceAtRest, AllFree, places_limit, ready_limit}
+use Rattle.event_loop.specs.Places.{IsOccupied, IsOneEnding, MayRead, MayWrite, NeedsNoRead, NeedsNoWrite, IsOver, IsPlaceAtRest, AllFree, places_limit, ready_limit, looks_limit}
 use Rattle.event_loop.specs.LoopStates.{Promises, LoopState, IsAllKept, IsUnkept, with_call, with_place}
 use Rattle.event_loop.specs.Coming.{AcceptsOne, one_more, told_queue}
 use Rattle.event_loop.specs.Reading.{ReadsPlace}
 use Rattle.event_loop.specs.Writing.{WritesPlace}
-use Rattle.event_loop.specs.Closing.{AreBrief, AreWithin, Cause, Closes, IsBehindReply}
+use Rattle.event_loop.specs.Closing.{AreWithin, Cause, Closes, IsEldest, IsOwed, IsRoomMade}
 use Rattle.event_loop.specs.Reporting.{IsDue, Tells, TellsRefusal, is_long_ago}
 use Rattle.event_loop.specs.Moments.{KeepsTimes, seconds_too_far}
 use Rattle.event_loop.specs.declared.report.LastTold.{LastTold}
@@ -42,12 +42,12 @@ pub record IsFair {N C J K H : Type 0} (s : LoopState N C J K H) : Type 0 where
   pub queue : s.queue ≢ Told ⊎ IsDone Accepting s.calls
 
 -- As the clocks told last, nobody is silent for longer than the limit, nor, where another connection waits for a place, for
--- longer than the other limit, nor is anybody there for longer who is right behind a reply; where an accept failed and was not tried again, it failed in this second; and where reports
+-- longer than the other limit, and there is room for it, as far as there may be; where an accept failed and was not tried again, it failed in this second; and where reports
 -- are wanted, one was told in this second, or less than so many seconds ago.
 pub record IsPrompt {N C J K H : Type 0} (s : LoopState N C J K H) : Type 0 where
   pub idle : AreWithin s.limits.idle s.times s.places
   pub crowded : s.queue ≡ Waits → AreWithin s.limits.crowded s.times s.places
-  pub brief : s.queue ≡ Waits → AreBrief (IsBehindReply s.turn) s.limits.crowded s.times s.places s.progress.journey.world.connections
+  pub room : s.queue ≡ Waits → IsRoomMade s.turn s.limits.crowded s.times s.places s.progress.journey.world.connections
   pub tried : (since : ℕ) → s.queue ≡ Barred since → since ≡ s.times.steady
   pub reported : (every : ℕ) → s.limits.report ≡ Some every → s.told.report ≡ s.times.steady ⊎ s.times.steady - s.told.report < every
 
@@ -69,6 +69,17 @@ pub record MayWait {N C J K H : Type 0} (p : Promises N C J K H) (s : LoopState 
   pub roomy : ready_limit ≤ room
   pub short : IsDone Shortening s.calls ⊎ IsKeptShort p s
 
+-- It may look again what is ready, without waiting: while something is unkept and was not given to the keeper yet, each time but once
+-- between two waits, and where all that was found was looked at.
+pub record MayLook {N C J K H : Type 0} (s : LoopState N C J K H) (nth room : ℕ) : Type 0 where
+  pub unkept : IsUnkept s.progress.journey.world
+  pub not_kept : ¬ (IsDone Keeping s.calls)
+  pub behind : 0 < call.waits s.calls
+  pub unlooked : ¬ (IsDone (Looking nth) s.calls)
+  pub few : nth < looks_limit
+  pub heard : s.found ≡ []
+  pub roomy : ready_limit ≤ room
+
 -- the place, when its connection was found ready
 abbrev pub told_place : Place → Bool → Bool → Bool → Place
 told_place place readable writable hung =
@@ -86,6 +97,11 @@ pub data LoopStep {N C J K H : Type 0} (p : Promises N C J K H) (s : LoopState N
       seconds_too_far s.limits.ahead (Some times) s.held ≡ None → KeepsTimes p.keeping.crashes times s.keeper keeper →
       IsNoFurther p.keeping.to_go p.keeping.size s.keeper keeper → LoopStep p s (record (with_call s (call.Waited limit room found) n)
       { clocks = c; keeper = keeper; found = found; times = times; held = max s.held times.moment; turn = one_more s.turn })
+  -- what was done since the last wait stays done
+  looks_again : (nth room : ℕ) (found : List Ready) (n : N) → MayLook s nth room → p.sockets.does s.sockets (call.Waited (Some 0) room found) n →
+      LoopStep p s (record (with_call s (call.Looked nth room (Some found)) n) { found = found })
+  fails_to_look : (nth room : ℕ) (n : N) → MayLook s nth room → p.sockets.does s.sockets (call.WaitFailed (Some 0) room) n →
+      LoopStep p s (with_call s (call.Looked nth room None) n)
   hears_of_listener : (more : List Ready) → s.found ≡ ready.Listener ∷ more → LoopStep p s (record s { found = more; queue = told_queue s.queue })
   hears_of : (k : ℕ) (readable writable hung : Bool) (more : List Ready) (place place' : Place) → s.found ≡ ready.Connection k readable writable hung ∷ more →
       slice_get s.places k ≡ Some place → place' ≡ told_place place readable writable hung → LoopStep p s (record (with_place s k place') { found = more })
@@ -100,6 +116,11 @@ pub data LoopStep {N C J K H : Type 0} (p : Promises N C J K H) (s : LoopState N
       IsAllKept s.progress.journey.world → MayWrite place (known s.progress k) → WritesPlace p k place s s' → LoopStep p s s'
   closes : (k : ℕ) (place : Place) (s' : LoopState N C J K H) → slice_get s.places k ≡ Some place → IsOccupied place.stage → Cause s k place →
       Closes p k place s s' → LoopStep p s s'
+  -- where another connection waits, the one that came first of those that are owed replies, and is there for longer than the limit, is
+  -- read no more, if none is yet: so it goes once they are taken
+  hears_out : (k : ℕ) (place : Place) → slice_get s.places k ≡ Some place → s.queue ≡ Waits → s.limits.crowded < s.times.steady - place.came →
+      IsEldest IsOwed s.places s.progress.journey.world.connections k place → ¬ (IsOneEnding s.places) →
+      LoopStep p s (with_place s k (record place { stage = Ended }))
   -- the journal alone is another
   reports : (notice : Notice) (told : LastTold) (journal : J) → IsDue p s notice told → p.journal.reports s.noted.journal notice journal →
       LoopStep p s (record s { noted = record s.noted { journal = journal }; told = told })

@@ -1,9 +1,6 @@
 //! Accepting connections.
 ghost use Rattle.std.specs.Prelude.{◌≡◌, ◌≢◌, ◌<◌, ⊤, Some, IfSome, IfNone};
-ghost use Rattle.event_loop.specs.declared.queue.Queue.TheVariants.{Told, Waits};
-ghost use Rattle.http_edge.specs.Reached.{InEach};
-ghost use Rattle.event_loop.specs.Places.{IsFreeAt, AllTaken};
-ghost use Rattle.event_loop.specs.Goes.{IsCalm, IsRoomMadeIn, LeadsToAccepts, running, keeping, promises};
+ghost use Rattle.event_loop.specs.Goes.{Told, Waits, InEach, IsFreeAt, AllTaken, IsCalm, IsRoomMadeIn, LeadsToAccepts, running, keeping, promises};
 
 use crate::fault::ConnectionFault;
 use crate::limits::PLACES;
@@ -40,6 +37,7 @@ impl<N: Sockets, C: Clocks, J: Journal, K: Keeper, H: HookHost> Tools<N, C, J, K
         ensures calm { IsCalm service.old → IsCalm service.new }
         ensures taken { service.new.queue ≢ Waits }
     {
+        let now = service.times.steady;
         match self.sockets.accept(k) {
             Accepted::Taken => match self.edge.event(Event::Open(ConnectionNo::new(k))) {
                 Ok(()) => {
@@ -48,8 +46,8 @@ impl<N: Sockets, C: Clocks, J: Journal, K: Keeper, H: HookHost> Tools<N, C, J, K
                         readable: false,
                         writable: true,
                         hung: false,
-                        since: service.times.steady,
-                        came: service.times.steady,
+                        since: now,
+                        came: now,
                         turn: 0,
                     };
                     service.accepted = service.accepted.saturating_add(1);
@@ -57,24 +55,14 @@ impl<N: Sockets, C: Clocks, J: Journal, K: Keeper, H: HookHost> Tools<N, C, J, K
                 Err(fault) => {
                     self.sockets.close(k);
                     let cause = ConnectionFault::Refused(fault);
-                    note(
-                        &mut service.noted,
-                        &mut self.journal,
-                        cause,
-                        service.times.steady,
-                    );
+                    note(&mut service.noted, &mut self.journal, cause, now);
                 }
             },
             Accepted::Later => service.queue = Queue::Empty,
             Accepted::Failed => {
-                service.queue = Queue::Barred(service.times.steady);
+                service.queue = Queue::Barred(now);
                 let cause = ConnectionFault::Accept;
-                note(
-                    &mut service.noted,
-                    &mut self.journal,
-                    cause,
-                    service.times.steady,
-                );
+                note(&mut service.noted, &mut self.journal, cause, now);
             }
         }
     }

@@ -2,9 +2,7 @@
 ghost use Rattle.std.specs.Prelude.{OnOk, OnSome, IfErr, IfSome, IfNone, IsSome};
 ghost use Rattle.consent.specs.History.{Happened};
 ghost use Rattle.http_edge.specs.Edges.{unkept_of};
-ghost use Rattle.http_edge.specs.Reached.{InEach};
-ghost use Rattle.event_loop.specs.LoopStates.{IsAllKept, IsUnkept};
-ghost use Rattle.event_loop.specs.Goes.{LeadsToKept, LeadsToLoss, keeping, promises};
+ghost use Rattle.event_loop.specs.Goes.{InEach, IsAllKept, IsUnkept, LeadsToKept, LeadsToLoss, keeping, promises};
 
 use crate::fault::LoopFault;
 use crate::tools::{Clocks, HookHost, Journal, Keeper, Sockets, Tools};

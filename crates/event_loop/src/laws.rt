@@ -10,11 +10,7 @@ ghost use Rattle.event_loop.specs.Progress.{known};
 ghost use Rattle.event_loop.specs.Served.{Served};
 ghost use Rattle.event_loop.specs.Slices.{IsNoLonger, LongOnward};
 
-use crate::clocks::Clocks;
-use crate::journal::Journal;
-use crate::sockets::Sockets;
-use change_codec::Keeper;
-use hook_host::HookHost;
+use crate::tools::{Clocks, HookHost, Journal, Keeper, Sockets};
 
 /// A shortening ends: on a way on which none ended and none was refused, no more slices are gone over than were to be gone over
 /// where it began, and eight for each byte that came to what is kept.

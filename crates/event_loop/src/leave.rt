@@ -1,9 +1,6 @@
 //! Closing connections.
 ghost use Rattle.std.specs.Prelude.{◌≡◌, ◌≢◌, ◌<◌, ℕ, true, IfSome, IfNone, slice_get};
-ghost use Rattle.event_loop.specs.declared.place.Stage.TheVariants.{Free};
-ghost use Rattle.event_loop.specs.Places.{AllFree};
-ghost use Rattle.event_loop.specs.Closing.{AreWithin};
-ghost use Rattle.event_loop.specs.Goes.{IsCalm, NobodyIsSilent, IsLongestAt, IsTried, LeadsAway, LeadsShut, LeadsToTidy, running, SettlesAll, FreesPlace, keeping, promises};
+ghost use Rattle.event_loop.specs.Goes.{AllFree, AreWithin, IsCalm, NobodyIsSilent, IsLongestAt, IsTried, LeadsAway, LeadsShut, LeadsToTidy, running, SettlesAll, FreesPlace, keeping, promises};
 
 use crate::clocks::Clocks;
 use crate::due::Due;
@@ -44,12 +41,8 @@ impl<N: Sockets, C: Clocks, J: Journal, K: Keeper, H: HookHost> Tools<N, C, J, K
     {
         self.sockets.close(k);
         self.edge.forget(ConnectionNo::new(k));
-        note_end(
-            &mut service.noted,
-            &mut self.journal,
-            place.stage,
-            service.times.steady,
-        );
+        let now = service.times.steady;
+        note_end(&mut service.noted, &mut self.journal, place.stage, now);
         let stage = Stage::Free;
         service.places[k as usize] = Place { stage, ..place };
         service.queue = service.queue.freed();

@@ -12,6 +12,7 @@ mod keep;
 mod laws;
 mod leave;
 mod limits;
+mod look;
 mod noting;
 mod place;
 mod queue;

@@ -1,12 +1,9 @@
 //! Reading connections.
-ghost use Rattle.std.specs.Prelude.{◌≡◌, ◌<◌, true, false, OnOk, IfErr};
+ghost use Rattle.std.specs.Prelude.{◌≡◌, ◌<◌, true, false, Some, OnOk, IfErr, slice_get, slice_set};
 ghost use Rattle.http_edge.specs.Pieces.{supplied};
-ghost use Rattle.http_edge.specs.Reached.{is_closing};
-ghost use Rattle.http_edge.specs.Schedule.{piece_of};
 ghost use Rattle.event_loop.specs.Giving.{AreBytesHeard, IsUnheard};
 ghost use Rattle.event_loop.specs.GivingParts.{LeadsToGiving};
-ghost use Rattle.event_loop.specs.Places.{MayRead};
-ghost use Rattle.event_loop.specs.Goes.{WhereKnown, LeadsToActs, running, to_read, keeping, promises};
+ghost use Rattle.event_loop.specs.Goes.{is_closing, piece_of, MayRead, WhereKnown, LeadsToRead, running, keeping, promises};
 
 use crate::fault::ConnectionFault;
 use crate::limits::{BACKLOG_LIMIT, CUT_LIMIT};
@@ -81,24 +78,22 @@ fn give_all<H: HookHost>(
     let EdgeFault::TooManyRequests = fault else {
         return Err(fault);
     };
-    if let Err(last) = give_cuts(edge, generator, k, bytes, moment) {
-        return Err(last);
-    }
-    Ok(())
+    give_cuts(edge, generator, k, bytes, moment)
 }
 
 impl<N: Sockets, C: Clocks, J: Journal, K: Keeper, H: HookHost> Tools<N, C, J, K, H> {
-    /// Reads a connection once, where it may be read, and gives what came to the edge.
-    pub(crate) fn read(&mut self, service: &mut Service, k: u32)
+    /// Reads a connection once, and gives what came to the edge.
+    pub(crate) fn read(&mut self, service: &mut Service, k: u32, place: Place)
         requires bound { k < 64 }
-        ensures acts { LeadsToActs (promises N.Sockets C.Clocks J.Journal (keeping K.Keeper) H.HookHost) (to_read k) (running service.old self.old) (running service.new self.new) }
+        requires here { slice_get service.old.places k ≡ Some place }
+        requires readable { place.readable ≡ true }
+        requires may { WhereKnown H.HookHost self.old.edge k (MayRead place) }
+        ensures reads { LeadsToRead (promises N.Sockets C.Clocks J.Journal (keeping K.Keeper) H.HookHost) k (running service.old self.old) (running service.new self.new) }
         ensures due { service.new.due ≡ service.old.due }
+        ensures heard { service.new.heard ≡ slice_set service.old.heard k true }
     {
-        let place = service.place_at(k);
-        if !may_read(&self.edge, place, k) {
-            return;
-        }
         let i = k as usize;
+        service.heard[i] = true;
         let connection = ConnectionNo::new(k);
         match self.sockets.read(k, &mut service.buffer) {
             Received::Bytes(count) => {

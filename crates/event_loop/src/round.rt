@@ -1,7 +1,6 @@
 //! Rounds.
 ghost use Rattle.std.specs.Prelude.{◌≡◌, ◌≤◌, length, true, false, OnOk, IfErr};
-ghost use Rattle.event_loop.specs.Places.{AllFree};
-ghost use Rattle.event_loop.specs.Goes.{IsBusy, IsLimit, MayRest, MaySleep, LeadsRound, LeadsWrong, running, keeping, promises};
+ghost use Rattle.event_loop.specs.Goes.{AllFree, IsBusy, IsLimit, MayRest, MaySleep, LeadsRound, LeadsWrong, running, keeping, promises};
 
 use crate::clocks::{Clocks, Times, later};
 use crate::fault::LoopFault;
@@ -74,7 +73,7 @@ impl Service {
 
 impl<N: Sockets, C: Clocks, J: Journal, K: Keeper, H: HookHost> Tools<N, C, J, K, H> {
     /// Shortens what is kept by a slice, where it is long. Then waits once, looks at the clocks, whose moment is
-    /// kept where it is not too far ahead, notes what was found, reads each place, keeps what changed, writes to each, closes and accepts, and then tells
+    /// kept where it is not too far ahead, notes what was found, reads each place, looks whether more came, keeps what changed, writes to each, closes and accepts, and then tells
     /// the journal what is due.
     pub(crate) fn round(
         &mut self,
@@ -107,8 +106,10 @@ impl<N: Sockets, C: Clocks, J: Journal, K: Keeper, H: HookHost> Tools<N, C, J, K
         service.times = Times { moment, steady };
         service.held = later(service.held, moment);
         service.turn = service.turn.saturating_add(1);
+        service.heard = [false; 64];
         self.hear_all(service, &found[..count]);
         self.read_all(service);
+        self.read_more(service, found);
         if let Err(fault) = self.keep_all() {
             return Err(fault);
         }
@@ -116,6 +117,7 @@ impl<N: Sockets, C: Clocks, J: Journal, K: Keeper, H: HookHost> Tools<N, C, J, K
         self.tidy(service, is_same_second);
         self.make_room(service);
         self.retire_eldest(service);
+        self.hear_out(service);
         self.admit_all(service);
         self.tell(service);
         Ok(())

@@ -1,8 +1,6 @@
 //! What the loop knows.
 ghost use Rattle.std.specs.Prelude.{◌≡◌, ◌<◌, None, Some, length, slice_get};
-ghost use Rattle.event_loop.specs.declared.queue.Queue.TheVariants.{Empty};
-ghost use Rattle.event_loop.specs.Places.{AllFree};
-ghost use Rattle.event_loop.specs.Goes.{IsDueNowhere};
+ghost use Rattle.event_loop.specs.Goes.{Empty, AllFree, IsDueNowhere};
 ghost use Rattle.event_loop.specs.Moments.{seconds_too_far};
 
 use crate::clocks::{Times, too_far};
@@ -19,6 +17,8 @@ pub struct Service {
     pub(crate) places: [Place; 64],
     // Where something may be due.
     pub(crate) due: DuePlaces,
+    // Which places were read since the last wait.
+    pub(crate) heard: [bool; 64],
     // Where bytes are read to.
     pub(crate) buffer: [u8; READ_LIMIT],
     pub(crate) limits: Limits,
@@ -64,6 +64,7 @@ impl Service {
         Service {
             places: [FREE_PLACE; 64],
             due: DuePlaces::nowhere(),
+            heard: [false; 64],
             buffer: [0; READ_LIMIT],
             limits,
             times,
@@ -87,6 +88,14 @@ impl Service {
         ensures { result ≡ seconds_too_far self.now.limits.ahead (Some times) self.now.held }
     {
         too_far(self.limits.ahead, Some(times), self.held)
+    }
+
+    /// Whether a place was read since the last wait.
+    pub(crate) fn is_heard(&self, k: u32) -> bool
+        requires bound { k < 64 }
+        ensures { slice_get self.now.heard k ≡ Some result }
+    {
+        self.heard[k as usize]
     }
 
     /// What is known of a place.

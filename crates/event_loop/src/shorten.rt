@@ -1,8 +1,7 @@
 //! What is kept is shortened, a slice at a time.
 ghost use Rattle.std.specs.Prelude.{◌≡◌, None, Some, IfOk, IfErr, OnOk};
 ghost use Rattle.change_codec.specs.declared.keeper.Length.TheVariants.{Short, Long};
-ghost use Rattle.event_loop.specs.Reporting.{TellsRefusal};
-ghost use Rattle.event_loop.specs.Goes.{LeadsToShort, LeadsToUnshortened, running, keeping, promises};
+ghost use Rattle.event_loop.specs.Goes.{TellsRefusal, LeadsToShort, LeadsToUnshortened, running, keeping, promises};
 
 use crate::fault::LoopFault;
 use crate::keep::unkept;

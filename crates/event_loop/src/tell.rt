@@ -1,8 +1,6 @@
 //! Telling what the server does.
 ghost use Rattle.std.specs.Prelude.{◌≡◌, Some, IsSome};
-ghost use Rattle.event_loop.specs.Goes.{IsReported, LeadsLast, OnlyTells, running, SettlesAll, TellsNow, keeping, promises};
-ghost use Rattle.event_loop.specs.Places.{open_count};
-ghost use Rattle.event_loop.specs.Reporting.{is_long_ago};
+ghost use Rattle.event_loop.specs.Goes.{open_count, is_long_ago, IsReported, LeadsLast, OnlyTells, running, SettlesAll, TellsNow, keeping, promises};
 
 use crate::limits::{MINUTE, PLACES};
 use crate::report::{Notice, Report};

@@ -1,8 +1,9 @@
 //! Turns.
-ghost use Rattle.std.specs.Prelude.{[]};
+ghost use Rattle.std.specs.Prelude.{◌≡◌, []};
 ghost use Rattle.event_loop.specs.Goes.{NobodyIsSilent, HearsOf, LeadsToHearing, LeadsReading, LeadsWriting, running, keeping, promises};
 
 use crate::limits::PLACES;
+use crate::read::may_read;
 use crate::service::Service;
 use crate::sockets::{Ready, Sockets};
 use crate::tools::{Clocks, HookHost, Journal, Keeper, Tools};
@@ -12,6 +13,7 @@ impl<N: Sockets, C: Clocks, J: Journal, K: Keeper, H: HookHost> Tools<N, C, J, K
     fn hear(&self, service: &mut Service, ready: Ready)
         ensures hears { HearsOf (promises N.Sockets C.Clocks J.Journal (keeping K.Keeper) H.HookHost) ready (running service.old self.now) (running service.new self.now) }
         ensures within { NobodyIsSilent service.old → NobodyIsSilent service.new }
+        ensures heard { service.new.heard ≡ service.old.heard }
     {
         match ready {
             Ready::Listener => service.queue = service.queue.told(),
@@ -35,13 +37,14 @@ impl<N: Sockets, C: Clocks, J: Journal, K: Keeper, H: HookHost> Tools<N, C, J, K
     pub(crate) fn hear_all(&self, service: &mut Service, found: &[Ready])
         ensures hears { LeadsToHearing (promises N.Sockets C.Clocks J.Journal (keeping K.Keeper) H.HookHost) found.now (running service.old self.now) [] (running service.new self.now) }
         ensures within { NobodyIsSilent service.old → NobodyIsSilent service.new }
+        ensures heard { service.new.heard ≡ service.old.heard }
     {
         for index in 0..found.len() {
             self.hear(service, found[index]);
         }
     }
 
-    /// Each connection where something may be due is read once, where it may be.
+    /// Each connection where something may be due is read, where it may be and was not read since the last wait.
     pub(crate) fn read_all(&mut self, service: &mut Service)
         ensures { LeadsReading (promises N.Sockets C.Clocks J.Journal (keeping K.Keeper) H.HookHost) 64 (running service.old self.old) (running service.new self.new) }
     {
@@ -49,7 +52,14 @@ impl<N: Sockets, C: Clocks, J: Journal, K: Keeper, H: HookHost> Tools<N, C, J, K
             if !service.due.is_at(k) {
                 continue;
             }
-            self.read(service, k);
+            if service.is_heard(k) {
+                continue;
+            }
+            let place = service.place_at(k);
+            if !may_read(&self.edge, place, k) {
+                continue;
+            }
+            self.read(service, k, place);
         }
     }
 

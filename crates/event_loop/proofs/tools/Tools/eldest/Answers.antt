@@ -1,6 +1,6 @@
 use Rattle.std.proofs.Common.{rules, ◌≡◌, ◌<◌, ◌≤◌, ◌-◌, ℕ, length, arith, refl}
 use Rattle.std.proofs.lemmas.Option.{IfSome_then}
-use Rattle.event_loop.proofs.Names.{IsBehindReply, slice_get_within}
+use Rattle.event_loop.proofs.Names.{IsGuest, slice_get_within}
 use Rattle.event_loop.proofs.Putting.{none_then}
 use Rattle.event_loop.proofs.Rooming.{there_more}
 use Rattle.event_loop.proofs.tools.Tools.eldest.Goals as goal
@@ -13,17 +13,17 @@ loop-k-preserved-then-stay-most g c = record {
   found = c.loop-k.invariant.found;
   nobody = c.loop-k.invariant.nobody;
   bound = c.loop-k.invariant.bound;
-  within = there_more _ _ c.args.service.now (IsBehindReply c.args.service.now.turn) c.loop-k.k c.loop-k.most c.loop-k.most c.place_at-place.result c.place_at-place.ensures (omega arith) c.loop-k.invariant.within
+  within = there_more _ _ c.args.service.now (IsGuest c.args.guest c.args.service.now.turn) c.loop-k.k c.loop-k.most c.loop-k.most c.place_at-place.result c.place_at-place.ensures (omega arith) c.loop-k.invariant.within
       (λ journey reached behind. omega (arith, c.saturating_sub-stay.ensures, c.if-stay-most.true));
 }
 
-pub loop-k-preserved-then-not-is_behind_reply : goal.loop-k-preserved-then-not-is_behind_reply
-loop-k-preserved-then-not-is_behind_reply g c = record {
+pub loop-k-preserved-then-not-is_guest : goal.loop-k-preserved-then-not-is_guest
+loop-k-preserved-then-not-is_guest g c = record {
   found = c.loop-k.invariant.found;
   nobody = c.loop-k.invariant.nobody;
   bound = c.loop-k.invariant.bound;
-  within = there_more _ _ c.args.service.now (IsBehindReply c.args.service.now.turn) c.loop-k.k c.loop-k.most c.loop-k.most c.place_at-place.result c.place_at-place.ensures (omega arith) c.loop-k.invariant.within
-      (λ journey reached behind. absurd (c.is_behind_reply.ensures.not_behind c.if-not-is_behind_reply.true journey reached behind));
+  within = there_more _ _ c.args.service.now (IsGuest c.args.guest c.args.service.now.turn) c.loop-k.k c.loop-k.most c.loop-k.most c.place_at-place.result c.place_at-place.ensures (omega arith) c.loop-k.invariant.within
+      (λ journey reached behind. absurd (c.is_guest.ensures.not_guest c.if-not-is_guest.true journey reached behind));
 }
 
 pub loop-k-preserved : goal.loop-k-preserved
@@ -33,13 +33,14 @@ loop-k-preserved g c =
       found = record {
         within = omega (arith, c.loop-k-test.true);
         here = c.place_at-place.ensures;
-        holds = c.is_behind_reply.ensures.behind c.if-not-is_behind_reply.false;
+        taken = c.is_guest.ensures.taken c.if-not-is_guest.false;
+        holds = c.is_guest.ensures.guest c.if-not-is_guest.false;
         stay_is = omega (arith, c.saturating_sub-stay.ensures);
         late = omega (arith, less, c.loop-k.invariant.bound);
       };
       nobody = tt;
       bound = omega (arith, less, c.loop-k.invariant.bound);
-      within = there_more _ _ c.args.service.now (IsBehindReply c.args.service.now.turn) c.loop-k.k c.loop-k.most c.saturating_sub-stay.result c.place_at-place.result c.place_at-place.ensures (omega (arith, less)) c.loop-k.invariant.within
+      within = there_more _ _ c.args.service.now (IsGuest c.args.guest c.args.service.now.turn) c.loop-k.k c.loop-k.most c.saturating_sub-stay.result c.place_at-place.result c.place_at-place.ensures (omega (arith, less)) c.loop-k.invariant.within
           (λ journey reached behind. omega (arith, c.saturating_sub-stay.ensures));
     }
 
@@ -50,6 +51,7 @@ returns-clause-eldest g c =
     (λ x found. record {
       within = found.within;
       here = found.here;
+      taken = found.taken;
       late = (let late = found.late in let stay = found.stay_is in omega (arith, late, stay));
       eldest = λ journey reached. record {
         holds = found.holds journey reached;
@@ -65,7 +67,7 @@ pub returns-clause-none : goal.returns-clause-none
 returns-clause-none g c =
     let size : length c.args.service.now.places ≡ 64 = search rules in
     none_then c.loop-k.eldest
-    (λ none journey reached waits j place here behind.
+    (λ none journey reached j place here behind.
     let bound = slice_get_within c.args.service.now.places j place here in
     let within = c.loop-k.invariant.within journey reached j (omega (arith, size, bound, c.loop-k-test.false)) place here behind in
     omega (arith, none, within))

@@ -1,9 +1,9 @@
-use Rattle.std.proofs.Common.{◌+◌, arith, subst, drop, add-one, drop-cons, ◌∷◌, ◌≡◌, List}
+use Rattle.std.proofs.Common.{◌+◌, arith, refl, subst, ◌∙◌, drop, add-one, drop-cons, ◌∷◌, ◌≡◌, List}
 use Rattle.event_loop.proofs.Names.{drop_all, promises, Ready, LeadsToHearing, running, keeping}
 use Rattle.event_loop.proofs.tools.Tools.hear_all.Goals as goal
 
 pub loop-index-init : goal.loop-index-init
-loop-index-init g c = record { hears = λ first past h rested. (h, rested); within = λ all. all }
+loop-index-init g c = record { hears = λ first past h rested. (h, rested); within = λ all. all; heard = refl }
 
 pub loop-index-preserved : goal.loop-index-preserved
 loop-index-preserved g c =
@@ -17,6 +17,7 @@ loop-index-preserved g c =
           let told = before first past h rested in
           c.hear.ensures.hears (drop (i + 1) all) first past told.0 told.1;
       within = λ was. c.hear.ensures.within (c.loop-index.invariant.within was);
+      heard = c.hear.ensures.heard ∙ c.loop-index.invariant.heard;
     }
 
 pub returns-clause-hears : goal.returns-clause-hears

@@ -1,6 +1,5 @@
 use Rattle.std.proofs.Common.{◌≡◌, ap, sym, subst, ◌∙◌}
 use Rattle.event_loop.proofs.Names.{IsCalm, makes_room, freed_queue, promises, Free, Service, Told, keeping}
-use Rattle.event_loop.proofs.Answering.{served_answered}
 use Rattle.event_loop.proofs.Leaving.{leaves_to}
 use Rattle.event_loop.proofs.Putting.{put_within}
 use Rattle.event_loop.proofs.tools.Tools.retire_eldest.Goals as goal
@@ -10,7 +9,7 @@ returns-clause-leads g c = λ found first past served settled.
     let p = promises g.N.Sockets g.C.Clocks g.J.Journal (keeping g.K.Keeper) g.H.HookHost in
     let eldest = c.in-Some.ensures.eldest in
     leaves_to p c.in-Some.k c.in-Some.place c.args.service.now c.args.self.now c.leave.new.service c.leave.new.self eldest.here
-    (eldest.eldest past.journey (served_answered p first _ served).reached).holds.taken
+    eldest.taken
     (λ now later reached. makes_room c.in-Waits.is eldest.late (eldest.eldest later.journey reached))
     c.leave.ensures.away (ap (λ (s : Service). s.places) c.leave.ensures.rest) (ap (λ (s : Service). s.due) c.leave.ensures.rest) found first past served settled
 
@@ -23,14 +22,14 @@ returns-clause-calm g c = λ calm.
       tried = λ since barred. (let not = sym freed ∙ barred in absurd (cc));
     })
 
-pub returns-in_default-clause-room : goal.returns-in_default-clause-room
-returns-in_default-clause-room g c = λ journey reached waits. elim (c.in_default.not-Waits waits) [ ]
+pub returns-in_default-clause-behind : goal.returns-in_default-clause-behind
+returns-in_default-clause-behind g c = λ waits. elim (c.in_default.not-Waits waits) [ ]
 
-pub returns-in_default-eldest-clause-room : goal.returns-in_default-eldest-clause-room
-returns-in_default-eldest-clause-room g c = c.in_default-eldest.ensures.none
+pub returns-in_default-eldest-clause-behind : goal.returns-in_default-eldest-clause-behind
+returns-in_default-eldest-clause-behind g c = λ waits. c.in_default-eldest.ensures.none
 
-pub returns-clause-room : goal.returns-clause-room
-returns-clause-room g c = λ journey reached waits.
+pub returns-clause-behind : goal.returns-clause-behind
+returns-clause-behind g c = λ waits.
     let freed : freed_queue c.args.service.now.queue ≡ Told = ap freed_queue c.in-Waits.is in
     let queue = ap (λ (s : Service). s.queue) c.leave.ensures.rest in
     let not = sym freed ∙ (sym queue ∙ waits) in

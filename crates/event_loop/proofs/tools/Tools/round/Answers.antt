@@ -4,6 +4,7 @@ use Rattle.event_loop.specs.Served.{waits}
 use Rattle.event_loop.specs.Calls as call
 use Rattle.event_loop.specs.Moments.{seconds_too_far}
 use Rattle.event_loop.proofs.Answering.{served_answered}
+use Rattle.event_loop.proofs.Hearing.{hearing_first}
 use Rattle.event_loop.proofs.Leading.{to_then, kept_then}
 use Rattle.event_loop.proofs.Leaving.{ComesToWait, may_wait, round_done, one_wait, waited_on, calm_told, room_told, told_or_not}
 use Rattle.event_loop.proofs.tools.Tools.round.Goals as goal
@@ -76,13 +77,14 @@ returns-in-Err-keep_all-clause-wrong g c = λ first past begun was_ready unshort
     let waited = waited_on (promises g.N.Sockets g.C.Clocks g.J.Journal (keeping g.K.Keeper) g.H.HookHost) first c.shorten_some.new.service c.in-Some-read.times
     (record c.shorten_some.new.self { sockets = c.wait.new.self; clocks = c.read.new.self; keeper = c.keep_moment.new.self }) heard since _ _ _ _ c.later-service.ensures c.saturating_add-service.ensures stepped in
     let told = c.hear_all.ensures.hears first since waited (λ k less. (may.ready.settled k less).rested) in
-    let read = c.read_all.ensures first [] since (λ kind is. is) told.1 told.0 in
+    let read = c.read_all.ensures first [] since (hearing_first _ since c.hear_all.ensures.heard (λ kind is. is)) told.1 told.0 in
+    let more = (c.read_more.ensures first _ since (omega arith) (λ m is. is) read).reading in
     record {
-      last = state_of (running c.read_all.new.service c.read_all.new.self) [] read.on.next;
-      served = read.on.served;
+      last = state_of (running c.read_more.new.service c.read_more.new.self) [] more.on.next;
+      served = more.on.served;
       found = [];
-      next = read.on.next;
-      fails = c.in-Err-keep_all.ensures.lost first [] c.read_all.new.service read.on.next read.not_kept read.on.served (served_answered _ first _ read.on.served).reached;
+      next = more.on.next;
+      fails = c.in-Err-keep_all.ensures.lost first [] c.read_more.new.service more.on.next more.hearing.not_kept more.on.served (served_answered _ first _ more.on.served).reached;
     }
 
 pub returns-clause-goes : goal.returns-clause-goes
@@ -104,9 +106,10 @@ returns-clause-goes g c = λ first past begun was_ready unshortened.
         let waited = waited_on p first c.shorten_some.new.service c.in-Some-read.times
         (record c.shorten_some.new.self { sockets = c.wait.new.self; clocks = c.read.new.self; keeper = c.keep_moment.new.self }) heard since _ _ _ _ c.later-service.ensures c.saturating_add-service.ensures stepped in
         let told = c.hear_all.ensures.hears first since waited (λ k less. (may.ready.settled k less).rested) in
-        let read = c.read_all.ensures first [] since (λ kind is. is) told.1 told.0 in
-        let written = kept_then p first [] since _ c.read_all.new.service c.write_all.new.service _ c.read_all.new.self c.keep_all.new.self c.write_all.new.self read c.in_default-keep_all.ensures.kept c.write_all.ensures in
-        let on = to_then p [] [] [] _ _ _ _ _ _ (to_then p [] [] [] _ _ _ _ _ _ (c.tidy.ensures.leads []) (c.make_room.ensures.leads [])) (c.retire_eldest.ensures.leads []) first written.on.next written.on.served written.below in
+        let read = c.read_all.ensures first [] since (hearing_first _ since c.hear_all.ensures.heard (λ kind is. is)) told.1 told.0 in
+        let more = (c.read_more.ensures first _ since (omega arith) (λ m is. is) read).reading in
+        let written = kept_then p first [] since _ c.read_more.new.service c.write_all.new.service _ c.read_more.new.self c.keep_all.new.self c.write_all.new.self more c.in_default-keep_all.ensures.kept c.write_all.ensures in
+        let on = to_then p [] [] [] _ _ _ _ _ _ (to_then p [] [] [] _ _ _ _ _ _ (to_then p [] [] [] _ _ _ _ _ _ (c.tidy.ensures.leads []) (c.make_room.ensures.leads [])) (c.retire_eldest.ensures.leads [])) (c.hear_out.ensures.leads []) first written.on.next written.on.served written.below in
         let admitted = c.admit_all.ensures.leads [] first on.next on.served on.settled in
         let last = c.tell.ensures.leads [] first admitted.goes.next admitted.goes.served admitted.goes.settled in
         let queue : c.tell.new.service.queue ≡ c.admit_all.new.service.queue = ap (λ (s : Service). s.queue) c.tell.ensures.rest in
@@ -118,9 +121,9 @@ returns-clause-goes g c = λ first past begun was_ready unshortened.
           ready = record {
             settled = last.settled;
             queue = told_or_not {P = IsDone Accepting last.next.calls} c.tell.new.service.queue (λ told. last.done.more.keeps Accepting (admitted.tried (sym queue ∙ told)));
-            calm = calm_told c.admit_all.new.service c.tell.new.service c.tell.ensures.rest (c.admit_all.ensures.calm (c.retire_eldest.ensures.calm (c.make_room.ensures.calm idle c.tidy.ensures.tried)));
+            calm = calm_told c.admit_all.new.service c.tell.new.service c.tell.ensures.rest (c.admit_all.ensures.calm (c.hear_out.ensures.calm (c.retire_eldest.ensures.calm (c.make_room.ensures.calm idle c.tidy.ensures.tried))));
             room = room_told c.admit_all.new.service c.tell.new.service last.next.journey.world c.tell.ensures.rest
-                (c.admit_all.ensures.room c.retire_eldest.ensures.room last.next.journey (subst (λ e. Reached g.H.HookHost e last.next.journey) c.tell.ensures.edge (served_answered p first _ last.served).reached));
+                (c.admit_all.ensures.room c.hear_out.ensures.room last.next.journey (subst (λ e. Reached g.H.HookHost e last.next.journey) c.tell.ensures.edge (served_answered p first _ last.served).reached));
             reported = c.tell.ensures.reported;
           };
           unshortened = done.alone;
@@ -130,3 +133,9 @@ returns-clause-goes g c = λ first past begun was_ready unshortened.
 pub returns-in-Err-clause-wrong : goal.returns-in-Err-clause-wrong
 returns-in-Err-clause-wrong g c = λ first past h ready unshortened.
     record { last = state_of (running c.args.service.now c.args.self.now) [] past; served = h; found = []; next = past; fails = c.in-Err.ensures.failed first [] past unshortened h (served_answered _ first _ h).reached }
+
+pub hear_out-requires : goal.hear_out-requires
+hear_out-requires g c = record { behind = c.retire_eldest.ensures.behind }
+
+pub read_more-requires : goal.read_more-requires
+read_more-requires g c = record { room = search (rules, arith, c.requires.room) }
