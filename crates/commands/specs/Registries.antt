@@ -16,7 +16,7 @@ use Rattle.commands.specs.declared.registry.RegistryTold.{RegistryTold}
 
 -- so many bytes of memory has what is kept at most: a code or token, and a consent
 abbrev pub memory_of : Limits → ℕ
-memory_of limits = limits.records * 240 + limits.consents * 64
+memory_of limits = limits.records * 200 + limits.consents * 64
 
 -- what is told of a registry: what it says, and what in its text, in it and in who may read it may be a mistake
 pub record IsToldOf (file : NamedFile) (rules : RegistryRecord) (told : RegistryTold) : Type 0 where

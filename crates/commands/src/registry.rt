@@ -16,7 +16,7 @@ use std::alloc::{AllocError, Global};
 use std::fmt::{self, Display, Formatter, Write};
 
 // What a code or token takes, and a consent.
-const RECORD_BYTES: u64 = 240;
+const RECORD_BYTES: u64 = 200;
 
 const CONSENT_BYTES: u64 = 64;
 
