@@ -9,6 +9,7 @@ mod exchanges;
 mod hooks;
 mod hosts;
 mod keeping;
+mod looks;
 mod memory;
 mod programs;
 mod room;

@@ -33,8 +33,9 @@ struct Crowd {
     rounds: u32,
     // The round in which the first one came that had to wait, 0 before it.
     first_room: u32,
-    // How many were closed while they took a reply, or had asked for one.
+    // How many were closed while they took a reply, and how many while they had asked for one.
     cut: u32,
+    unheard: u32,
 }
 
 impl Sockets for Crowd {
@@ -120,8 +121,11 @@ impl Sockets for Crowd {
         let Some(guest) = self.guests.get_mut(place as usize) else {
             return;
         };
-        if self.rounds < 60 && (guest.asks || guest.taken % REPLY != 0) {
+        if self.rounds < 60 && guest.taken % REPLY != 0 {
             self.cut = self.cut.saturating_add(1);
+        }
+        if self.rounds < 60 && guest.asks {
+            self.unheard = self.unheard.saturating_add(1);
         }
         *guest = Guest::default();
     }
@@ -137,6 +141,7 @@ fn serve_crowd(alloc: Global, most: usize) -> Result<(Crowd, LoopFault), ConfigF
         rounds: 0,
         first_room: 0,
         cut: 0,
+        unheard: 0,
     };
     let mut tools = Tools {
         sockets,
@@ -166,7 +171,18 @@ fn those_that_ask_without_end_make_room(rt: HostRuntime) -> Result<(), Fail> {
     assert_eq!(rt; fault, LoopFault::Wait);
     assert_eq!(rt; crowd.waiting, 0);
     assert_eq!(rt; crowd.cut, 0);
+    assert_eq!(rt; crowd.unheard, 0);
     // They came in round 1, in the second 2 of the clock, so more than five seconds are over in its second 8.
     assert_eq!(rt; crowd.first_room, 7);
+    Ok(())
+}
+
+#[test]
+fn those_that_are_owed_without_end_make_room_too(rt: HostRuntime) -> Result<(), Fail> {
+    let (crowd, fault) = serve_crowd(rt.alloc(), 20)?;
+    assert_eq!(rt; fault, LoopFault::Wait);
+    assert_eq!(rt; crowd.cut, 0);
+    // One is read no more from round 7 on, and takes the rest of its 270 bytes.
+    assert_eq!(rt; crowd.first_room, 15);
     Ok(())
 }
