@@ -110,7 +110,7 @@ ends 'a hook that is not there' 2 '' 'oauthd: cannot read nowhere\n' start 127.0
 ends 'a hook that is refused' 2 '' 'oauthd: hook b: Verify JumpBack(0)\n' start 127.0.0.1:0 "$registry" --hook a=hook.hex --hook b=back.hex
 ends 'two hooks of one name' 2 '' 'oauthd: hook a: NameTaken\n' start 127.0.0.1:0 "$registry" --hook a=hook.hex --hook2 a=hook.hex
 install -m 640 "$registry" own.json
-said='access_life 300\nrefresh_life 86400\nowners 2\nclients 2\nrecords 65536\nconsents 4096\nmemory 16 MB\nscopes read write admin\n'
+said='access_life 300\nrefresh_life 86400\nowners 2\nclients 2\nrecords 65536\nconsents 4096\nmemory 14 MB\nscopes read write admin\n'
 ends 'a registry' 0 "$said" '' registry own.json
 chmod 644 own.json
 ends 'a registry that everybody may read' 0 "${said}warning: everybody may read the file\n" '' registry own.json
@@ -125,7 +125,7 @@ filled() {
 }
 # has TITLE OWNERS: the registry is one with so many owners; lacks TITLE FAULT: it is none
 has() {
-    ends "$1" 0 "access_life 300\nrefresh_life 86400\nowners $2\nclients 0\nrecords 65536\nconsents 4096\nmemory 16 MB\nscopes read\n" '' registry own.json
+    ends "$1" 0 "access_life 300\nrefresh_life 86400\nowners $2\nclients 0\nrecords 65536\nconsents 4096\nmemory 14 MB\nscopes read\n" '' registry own.json
 }
 lacks() {
     ends "$1" 2 '' "oauthd: Config $2\n" registry own.json
