@@ -20,6 +20,7 @@ disk=$(mktemp -d "$folder/size.XXXXXX") || exit 2
 trap '[ ${#started[@]} = 0 ] || kill "${started[@]}" 2>/dev/null; wait; rm -rf "$room" "$disk"' EXIT
 gcc -O2 -o "$room/paced" benches/paced.c || exit 2
 pace=20000
+most=16777216
 
 # kilobytes NAME PID: a line of its status
 kilobytes() {
@@ -56,7 +57,7 @@ print(f'{most / 1000:8.2f}{longest / 1000:8.2f}')"
 expiring() {
     local began life
     life=$((10 + $1 / 40000))
-    records=$(($1 * 2 + 200000)) start "expiring$1" $life
+    records=$(($1 * 2 + 200000 < most ? $1 * 2 + 200000 : most)) start "expiring$1" $life
     began=$(date +%s)
     fill "$at" "$1"
     while [ $(($(date +%s) - began)) -lt "$life" ]; do sleep 0.2; done

@@ -3,16 +3,27 @@
 use crate::draw::digest;
 use crate::report::{self, Least, Rounds};
 use consent::{
-    Change, Changes, ClientNo, CodeFacts, Digest, Moment, NewToken, OwnerNo, ScopeSet, TokenKind,
+    Change, Changes, ClientNo, CodeFacts, Digest, Home, Moment, NewToken, OwnerNo, ScopeSet,
+    TokenKind,
 };
 use std::alloc::{AllocError, Global};
 use std::io;
 use std::time::Instant;
-use token_store::Store;
+use token_store::{Quota, Store};
+
+/// How much may be kept.
+fn quota() -> Quota {
+    Quota {
+        records: 65536,
+        client: ClientNo::new(1),
+        of_client: None,
+    }
+}
 
 /// A code of an owner's own with two tokens.
 #[derive(Clone, Copy)]
 struct Trio {
+    family: u64,
     owner: OwnerNo,
     code: Digest,
     access: Digest,
@@ -57,6 +68,7 @@ impl Trio {
     fn new(number: u32) -> Trio {
         let first = number.wrapping_mul(3);
         Trio {
+            family: u64::from(number) + 1,
             owner: OwnerNo::new(number.saturating_add(1)),
             code: digest(first),
             access: digest(first.wrapping_add(1)),
@@ -64,10 +76,19 @@ impl Trio {
         }
     }
 
+    /// Where its tokens are issued.
+    fn home(&self) -> Home {
+        Home {
+            family: self.family,
+            client: ClientNo::new(1),
+            owner: Some(self.owner),
+        }
+    }
+
     /// Gives the code.
     fn give(&self, store: &mut Store, moment: Moment) -> bool {
         let digest = self.code;
-        if store.refusal(&[digest], moment).is_some() {
+        if store.refusal(&[digest], &quota(), moment).is_some() {
             return false;
         }
         let facts = CodeFacts {
@@ -79,7 +100,11 @@ impl Trio {
         };
         make(
             store,
-            &Changes::One(Change::CodeGiven { facts, digest }),
+            &Changes::One(Change::CodeGiven {
+                family: self.family,
+                facts,
+                digest,
+            }),
             moment,
         )
     }
@@ -91,7 +116,7 @@ impl Trio {
             return false;
         }
         if store
-            .refusal(&[self.access, self.refresh], moment)
+            .refusal(&[self.access, self.refresh], &quota(), moment)
             .is_some()
         {
             return false;
@@ -112,6 +137,7 @@ impl Trio {
             store,
             &Changes::Used {
                 of,
+                home: self.home(),
                 access,
                 refresh: Some(refresh),
             },
@@ -127,9 +153,9 @@ impl Trio {
 
     /// Ends the family of the access token.
     fn end(&self, store: &mut Store, moment: Moment) -> bool {
-        let of = self.access;
-        store.at(&of, moment).is_some()
-            && make(store, &Changes::One(Change::FamilyEnded { of }), moment)
+        let family = self.family;
+        store.at(&self.access, moment).is_some()
+            && make(store, &Changes::One(Change::FamilyEnded { family }), moment)
     }
 
     /// The owner consents to less than the code has.
@@ -244,7 +270,7 @@ pub fn report_all(rt: &HostRuntime, rounds: Rounds) -> io::Result<()> {
     let mut least = Least::new();
     let mut kept = 0;
     for _ in 0..stores {
-        let mut store = Store::new(rt.alloc());
+        let mut store = Store::new(rt.alloc(), 65536);
         work_through(rt, &mut store, &mut rows, &trios)?;
         kept = store.kept();
         let start = Instant::now(rt)?;
