@@ -6,27 +6,27 @@ use Rattle.std.proofs.lemmas.Bool.{cases_lt}
 use Rattle.std.specs.Int.{w32, from_be_bytes}
 use Rattle.std.proofs.lemmas.Nat.{from_be_bytes-to_be_bytes_4}
 use Rattle.batch_file.specs.declared.walk.Walk.{Walk}
-use Rattle.batch_file.specs.Frames.{header, digest, sealed, size_at, recovered, frames_size, limit, IsFrame, IsNoFrame, IsNoEnd, AreFrames, IsFileOf, IsDamaged, IsRightFront, IsVersion}
-use Rattle.batch_file.specs.FramesLaws.{behind_latch, length-sealed, length-frames, file_is, readable_is}
-use Rattle.batch_file.specs.Reads.{Begins, IsOpenEnd, IsRead}
+use Rattle.batch_file.specs.Frames.{header, digest, sealed, size_at, recovered, without_zeros, frames_size, most_room, IsFrame, IsNoFrame, IsTorn, AreFrames, IsFileOf, IsDamaged, IsRightFront, IsVersion}
+use Rattle.batch_file.specs.FramesLaws.{length-sealed, length-frames, file_is, readable_is}
+use Rattle.batch_file.specs.Reads.{Begins, IsRead}
 use Rattle.batch_file.specs.declared.reader.FrameReader.{FrameReader}
 use Rattle.batch_file.specs.Readers.{ahead, HasRead, HasWalked}
 use Rattle.batch_file.specs.ReadersParts.{IsEnd}
-use Rattle.batch_file.proofs.Walking.{AreFrames-snoc, alone}
+use Rattle.batch_file.proofs.Walking.{AreFrames-snoc}
 
 -- one frame more
 pub gone_over : (batches : List (List ℕ)) (told batch given : List ℕ) (old new : Walk) → HasWalked batches told old
     → IsFrame old.last batch (drop (21 + length batch) (ahead old)) (ahead old) → new.bytes.items ≡ old.bytes.items → new.at ≡ old.at + (21 + length batch)
     → new.end ≡ old.end + (21 + length batch) → new.number ≡ old.number + 1 → new.last ≡ digest old.last batch → given ≡ batch → HasWalked (batches ++ given ∷ []) told new
 gone_over batches told batch given old new h f bytes_is at_is end_is number_is last_is same =
-    let one = f.latch ∷ sealed old.last batch in
+    let one = 255 ∷ sealed old.last batch in
     let behind : drop (21 + length batch) (ahead old) ≡ ahead new =
     drop-drop (21 + length batch) old.at old.bytes.items ∙ ap (λ (k : ℕ). drop k old.bytes.items) (sym at_is) ∙ ap (λ (l : List ℕ). drop new.at l) (sym bytes_is) in
     let tail : ahead old ≡ one ++ ahead new = f.is ∙ ap (λ (l : List ℕ). one ++ l) behind in
     subst (λ (l : List ℕ). HasWalked (batches ++ l ∷ []) told new) (sym same) (record {
       frames = h.frames ++ one;
       is = h.is ∙ ap (λ (l : List ℕ). header ++ (h.frames ++ l)) tail ∙ ap (λ (l : List ℕ). header ++ l) (sym (append_assoc h.frames one (ahead new)));
-      are = subst (λ (l : List ℕ). AreFrames header (batches ++ batch ∷ []) l (h.frames ++ one)) (sym last_is) (AreFrames-snoc batches header old.last h.frames batch one h.are (alone old.last batch _ _ f));
+      are = subst (λ (l : List ℕ). AreFrames header (batches ++ batch ∷ []) l (h.frames ++ one)) (sym last_is) (AreFrames-snoc batches header old.last h.frames batch h.are f.short);
       end = omega (arith, end_is, h.end, length-append h.frames one, length-sealed old.last batch);
       number = omega (arith, number_is, h.number, length-append batches (batch ∷ []));
     })
@@ -56,21 +56,20 @@ size_is : (bytes more : List ℕ) → 5 ≤ length bytes → size_at (drop 1 (by
 size_is (a ∷ bytes) more long = ap (from_be_bytes w32) (take-append-le 4 bytes more (omega arith))
 size_is [] more long = absurd (omega arith)
 
-pub closed_decides : (last bytes more : List ℕ) → 1 ≤ length bytes → get_or bytes 0 0 ≡ 0 → IsNoFrame last (bytes ++ more)
-closed_decides last bytes more some closed = λ batch rest f. absurd (omega (arith, f.counts, sym (ap (λ (l : List ℕ). get_or l 0 0) f.is) ∙ first_is bytes more some ∙ closed))
+pub mark_decides : (last bytes more : List ℕ) → 1 ≤ length bytes → get_or bytes 0 0 ≢ 255 → IsNoFrame last (bytes ++ more)
+mark_decides last bytes more some other = λ batch rest f. other (sym (first_is bytes more some) ∙ ap (λ (l : List ℕ). get_or l 0 0) f.is)
 
 pub length_decides : (last bytes more : List ℕ) → 21 ≤ length bytes → size_at (drop 1 bytes) ≤ length bytes - 21 → IsNoFrame last bytes → IsNoFrame last (bytes ++ more)
 length_decides last bytes more long fits none = λ batch rest f.
-    let one = f.latch ∷ sealed last batch in
+    let one = 255 ∷ sealed last batch in
     let whole = bytes ++ more in
-    let s = behind_latch last batch rest whole f in
-    let says : size_at (drop 1 whole) ≡ length batch = ap size_at s.1 ∙ from_be_bytes-to_be_bytes_4 (length batch) s.0 in
+    let says : size_at (drop 1 whole) ≡ length batch = ap (λ (l : List ℕ). size_at (drop 1 l)) f.is ∙ from_be_bytes-to_be_bytes_4 (length batch) f.short in
     let short : 21 + length batch ≤ length bytes = omega (arith, says, size_is bytes more (omega arith)) in
     let size : length one ≡ 21 + length batch = omega (arith, length-sealed last batch) in
     let front : take (21 + length batch) bytes ≡ one =
     sym (take-append-le (21 + length batch) bytes more short) ∙ ap (λ (l : List ℕ). take (21 + length batch) l) f.is ∙ take_at one rest (21 + length batch) size in
     let back = drop (21 + length batch) bytes in
-    none batch back (record { latch = f.latch; counts = f.counts; short = f.short; is = sym (take-append-drop (21 + length batch) bytes) ∙ ap (λ (l : List ℕ). l ++ back) front })
+    none batch back (record { short = f.short; is = sym (take-append-drop (21 + length batch) bytes) ∙ ap (λ (l : List ℕ). l ++ back) front })
 
 -- HOW A FILE BEGINS
 
@@ -125,11 +124,10 @@ pub nothing_more : (old new rest : List ℕ) (size : ℕ) → new ≡ old ++ res
 nothing_more old new [] size is size_is none = is ∙ append-nil old
 nothing_more old new (a ∷ rest) size is size_is none = absurd (omega (arith, size_is, none))
 
--- behind a closed latch
-pub ends_there : (batches : List (List ℕ)) (told torn : List ℕ) (walk : Walk) → HasWalked batches told walk → (open_end : IsOpenEnd walk.last (ahead walk)) → torn ≡ drop 1 (ahead walk) → IsEnd told batches walk.end torn
-ends_there batches told torn walk h open_end torn_is =
-    let file : IsFileOf batches told =
-    (walk.last, record { frames = h.frames; torn = open_end.0; is = h.is ∙ ap (λ (l : List ℕ). header ++ (h.frames ++ l)) open_end.1; are = h.are; ends = open_end.2 }) in
+-- with no more than an append that was not finished behind the frames
+pub ends_there : (batches : List (List ℕ)) (told torn : List ℕ) (walk : Walk) → HasWalked batches told walk → IsTorn walk.last (ahead walk) → torn ≡ without_zeros (ahead walk) → IsEnd told batches walk.end torn
+ends_there batches told torn walk h ends torn_is =
+    let file : IsFileOf batches told = (walk.last, record { frames = h.frames; rest = ahead walk; is = h.is; are = h.are; ends = ends }) in
     let are : recovered told ≡ batches = file_is batches told file in
     let size : length h.frames ≡ frames_size (recovered told) = length-frames batches header walk.last h.frames h.are ∙ ap frames_size (sym are) in
     let whole : told ≡ (header ++ h.frames) ++ ahead walk = h.is ∙ sym (append_assoc header h.frames (ahead walk)) in
@@ -138,12 +136,12 @@ ends_there batches told torn walk h open_end torn_is =
     record {
       are = are;
       readable = readable_is batches told file;
-      torn_is = torn_is ∙ ap (λ (l : List ℕ). drop 1 l) (sym there) ∙ drop-drop 1 (16 + frames_size (recovered told)) told ∙ ap (λ (k : ℕ). drop k told) (omega arith);
+      torn_is = torn_is ∙ ap (λ (l : List ℕ). without_zeros l) (sym there);
       end_is = omega (arith, h.end, size);
     }
 
 -- where it is no end, the file is damaged
-pub is_damaged : (batches : List (List ℕ)) (told more : List ℕ) (walk : Walk) (number : ℕ) → HasWalked batches told walk → number ≡ walk.number → IsNoFrame walk.last (ahead walk ++ more) → IsNoEnd walk.last (ahead walk ++ more)
+pub is_damaged : (batches : List (List ℕ)) (told more : List ℕ) (walk : Walk) (number : ℕ) → HasWalked batches told walk → number ≡ walk.number → IsNoFrame walk.last (ahead walk ++ more) → (IsTorn walk.last (ahead walk ++ more) → ⊥)
     → IsDamaged number (told ++ more)
 is_damaged batches told more walk number h number_is no_frame no_end =
     let front : IsRightFront batches (told ++ more) = record {
@@ -159,14 +157,14 @@ is_damaged batches told more walk number h number_is no_frame no_end =
     } in
     record { batches = batches; front = front; count = sym h.number ∙ sym number_is; no_end = no_end }
 
-pub is_damaged_there : (batches : List (List ℕ)) (told : List ℕ) (walk : Walk) → HasWalked batches told walk → IsNoFrame walk.last (ahead walk ++ []) → IsNoEnd walk.last (ahead walk) → IsDamaged walk.number told
+pub is_damaged_there : (batches : List (List ℕ)) (told : List ℕ) (walk : Walk) → HasWalked batches told walk → IsNoFrame walk.last (ahead walk ++ []) → (IsTorn walk.last (ahead walk) → ⊥) → IsDamaged walk.number told
 is_damaged_there batches told walk h no_frame no_end =
     subst (λ (l : List ℕ). IsDamaged walk.number l) (append-nil told)
-    (is_damaged batches told [] walk walk.number h refl no_frame (subst (λ (l : List ℕ). IsNoEnd walk.last l) (sym (append-nil (ahead walk))) no_end))
+    (is_damaged batches told [] walk walk.number h refl no_frame (subst (λ (l : List ℕ). IsTorn walk.last l → ⊥) (sym (append-nil (ahead walk))) no_end))
 
 -- so much is none
-pub too_long : (last bytes more : List ℕ) → limit + 22 ≤ length bytes → IsNoEnd last (bytes ++ more)
-too_long last bytes more long = λ torn is ends. absurd (omega (arith, ap length is, length-append bytes more, ends.brief))
+pub too_long : (last bytes more : List ℕ) → most_room + 1 ≤ length bytes → IsTorn last (bytes ++ more) → ⊥
+too_long last bytes more long ends = absurd (omega (arith, length-append bytes more, ends.brief))
 
 -- what is told of what is known
 pub none_told : {A P : Type 0} (o : Option A) → o ≡ None → IfNone o P → P

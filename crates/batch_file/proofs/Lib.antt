@@ -1,9 +1,11 @@
 pub mod Following
 pub mod Going
+mod Chance
 mod Picking
 mod Reading
 pub mod Steps
-mod Tearing
+pub mod Staying
+pub mod Tearing
 pub mod Walking
 mod Wholes
-mod Writing
+mod Zeros

@@ -1,13 +1,13 @@
 -- The steps of the calls of a file of batches, from one content of the file to the next.
-use Rattle.std.proofs.Common.{◌≡◌, ◌⊎◌, inl, inr, ⊎_elim, ℕ, ◌+◌, ◌<◌, ◌≤◌, List, [], ◌∷◌, ◌++◌, length, get_or, drop, refl, sym, ◌∙◌, ap, subst, arith, append_assoc, length-append}
-use Rattle.std.specs.Int.{w32, to_be_bytes}
-use Rattle.std.proofs.lemmas.Bool.{cases_eq}
-use Rattle.batch_file.specs.Crashes.{ComesOfStep, Elapses, IsWrittenAt, LeavesOnly, Swapped, Torn}
-use Rattle.batch_file.specs.Frames.{header, body, digest, sealed, limit, recovered, IsTorn, IsFileOf, IsReadable, IsAtRest, IsWhole, IsAsBefore, IsBeforeOrAfter, IsOldOrNew, IsReadableOrChance}
-use Rattle.batch_file.specs.FramesLaws.{length-seal, length-sealed, file_is, framed_is, readable_is, hides_or_not, two_sealed}
+use Rattle.std.proofs.Common.{◌≡◌, ◌⊎◌, inl, inr, ⊎_elim, ℕ, ◌+◌, ◌-◌, ◌^◌, ◌<◌, ◌≤◌, List, [], ◌∷◌, ◌++◌, length, sym, ◌∙◌, ap, subst, arith}
+use Rattle.batch_file.specs.declared.appending.BatchFile.{BatchFile}
+use Rattle.batch_file.specs.Crashes.{ComesOfStep, Elapses, IsWrittenAt, LeavesOnly, Only, Swapped}
+use Rattle.batch_file.specs.Frames.{digest, sealed, recovered, IsFileOf, IsReadable, IsAtRest, IsOnDisk, IsWhole, IsAsBefore, IsBeforeOrAfter, IsOldOrNew}
+use Rattle.batch_file.specs.FramesLaws.{length-sealed, file_is, readable_is}
 use Rattle.batch_file.specs.CrashesLaws.{started, goes_on, then, weaker}
-use Rattle.batch_file.proofs.Tearing.{torn_behind, length-torn, written_behind, torn_latch, written_latch}
-use Rattle.batch_file.proofs.Wholes.{front_of, front_is, length-front, one_more, head_is}
+use Rattle.batch_file.specs.Tears.{Torn}
+use Rattle.batch_file.proofs.Wholes.{length-at_rest}
+use Rattle.batch_file.proofs.Tearing.{appended, at_rest_file, length-frame, torn_is, torn_none}
 
 -- it is a file of these batches, or of those
 abbrev pub Either : List (List ℕ) → List (List ℕ) → List ℕ → Type 0
@@ -21,112 +21,82 @@ pub is_readable : (old new : List (List ℕ)) (c : List ℕ) → Either old new 
 is_readable old new c (inl a) = readable_is old c a
 is_readable old new c (inr b) = readable_is new c b
 
--- with nothing behind the latch
-nothing_torn : (last : List ℕ) → IsTorn last []
-nothing_torn last = record {
-  brief = omega arith;
-  plain = λ h. absurd (omega (arith, ap length h.is.1, length-append (sealed last h.batch) h.rest, length-sealed last h.batch));
-}
-
-pub at_rest_file : (end : ℕ) (last file : List ℕ) → IsAtRest end last file → IsFileOf (recovered file) file
-at_rest_file end last file r = (last, record { frames = r.frames; torn = []; is = r.is; are = r.are; ends = nothing_torn last })
-
 -- AN APPEND
 
-module _ (end : ℕ) (last file batch head : List ℕ) (r : IsAtRest end last file) (small : length batch < limit) (is : head ≡ to_be_bytes w32 (length batch) ++ digest last batch) where
-  length-head : length head ≡ 20
-  length-head = omega (arith, ap length is, length-append (to_be_bytes w32 (length batch)) (digest last batch), length-seal (last ++ body batch))
+-- the file was perhaps made longer, and then a frame was written behind the others
+pub appending : {D : Type 0} {moment : D → ℕ} {left_since : D → ℕ → List ℕ → Type 0} {old mid new : D} (end room : ℕ) (last file batch frame : List ℕ) (batches : List (List ℕ)) → IsAtRest end room last file → length batch < 2 ^ 32
+    → frame ≡ 255 ∷ sealed last batch → length frame + 16 ≤ room → recovered file ≡ batches → LeavesOnly moment left_since old mid (IsFileOf batches) → LeavesOnly moment left_since mid new (Torn end frame file)
+    → LeavesOnly moment left_since old new (Either batches (batches ++ batch ∷ []))
+appending end room last file batch frame batches r short is wide stands first second =
+    then first second (λ c was. inl was)
+    (λ c torn. subst (λ (bs : List (List ℕ)). Either bs (bs ++ batch ∷ []) c) stands (torn_is end room last file r batch short (omega (arith, ap length is, length-sealed last batch)) frame is wide c torn))
 
-  spelled : (torn c : List ℕ) → c ≡ front_of r ++ 0 ∷ torn → c ≡ header ++ (r.frames ++ 0 ∷ torn)
-  spelled torn c c_is = c_is ∙ append_assoc header r.frames (0 ∷ torn)
+-- it stands there
+pub added_frame : (end room : ℕ) (last file batch frame made c : List ℕ) (n : ℕ) → IsAtRest end room last file → length batch < 2 ^ 32 → frame ≡ 255 ∷ sealed last batch → length frame + 16 ≤ room → n ≡ length frame
+    → made ≡ digest last batch → IsWrittenAt file end frame c → IsAtRest (end + n) (room - n) made c × (recovered c ≡ recovered file ++ batch ∷ [])
+added_frame end room last file batch frame made c n r short is wide n_is made_is written =
+    let fits : 21 + length batch ≤ room = omega (arith, ap length is, length-sealed last batch) in
+    let one = appended end room last file r batch short fits frame is wide c written in
+    let long : n ≡ 21 + length batch = n_is ∙ length-frame end room last file r batch short fits frame is wide in (
+      subst (λ (k : ℕ). IsAtRest (end + k) (room - k) made c) (sym long) (subst (λ (l : List ℕ). IsAtRest (end + (21 + length batch)) (room - (21 + length batch)) l c) (sym made_is) one.0),
+      one.1,
+    )
 
-  -- the batch is being written behind the closed latch
-  torn_at : (c : List ℕ) → Torn (end + 1) (length head + length batch + 1) file c → Torn (end + 1) (length head + length batch + 1) (front_of r ++ 0 ∷ []) c
-  torn_at c torn = subst (λ (f : List ℕ). Torn (end + 1) (length head + length batch + 1) f c) (front_is end last file r) torn
+-- so much for a crash meanwhile
+pub both_ways : {D : Type 0} {moment : D → ℕ} {left_since : D → ℕ → List ℕ → Type 0} {old new : D} (batches : List (List ℕ)) (batch : List ℕ) → LeavesOnly moment left_since old new (Either batches (batches ++ batch ∷ []))
+    → LeavesOnly moment left_since old new (IsBeforeOrAfter batches batch) × LeavesOnly moment left_since old new IsReadable
+both_ways batches batch leaves = (weaker leaves (stands_for batches (batches ++ batch ∷ [])), weaker leaves (is_readable batches (batches ++ batch ∷ [])))
 
-  behind : (c : List ℕ) → Torn (end + 1) (length head + length batch + 1) file c → c ≡ front_of r ++ 0 ∷ drop (end + 1) c
-  behind c torn = torn_behind (front_of r) end (length-front end last file r) _ c (torn_at c torn)
+pub as_before : {D : Type 0} {moment : D → ℕ} {left_since : D → ℕ → List ℕ → Type 0} {old new : D} (batches : List (List ℕ)) (batch : List ℕ) → LeavesOnly moment left_since old new (IsFileOf batches)
+    → LeavesOnly moment left_since old new (IsBeforeOrAfter batches batch) × LeavesOnly moment left_since old new IsReadable
+as_before batches batch leaves = (weaker leaves (λ c was. inl (file_is batches c was)), weaker leaves (λ c was. readable_is batches c was))
 
-  short : (c : List ℕ) → Torn (end + 1) (length head + length batch + 1) file c → length (drop (end + 1) c) ≤ 21 + length batch
-  short c torn = omega (arith, length-torn (front_of r) end (length-front end last file r) _ c (torn_at c torn), length-head)
+-- the file is as it was
+pub as_it_was : (end room : ℕ) (last file : List ℕ) → IsAtRest end room last file → (c : List ℕ) → c ≡ file → IsFileOf (recovered file) c
+as_it_was end room last file r c is = subst (λ (l : List ℕ). IsFileOf (recovered file) l) (sym is) (at_rest_file end room last file r)
 
-  staged_stands : (c : List ℕ) → Torn (end + 1) (length head + length batch + 1) file c → IsBeforeOrAfter (recovered file) batch c
-  staged_stands c torn = inl (framed_is (recovered file) last r.frames (drop (end + 1) c) c r.are (spelled (drop (end + 1) c) c (behind c torn)))
+-- nothing was done
+pub unmoved : {D : Type 0} {moment : D → ℕ} {left_since : D → ℕ → List ℕ → Type 0} (may_leave : D → List ℕ → Type 0) {old : D} (end room : ℕ) (last file : List ℕ) → IsAtRest end room last file
+    → ((c : List ℕ) → left_since old (moment old) c → may_leave old c) → Only file (may_leave old) → LeavesOnly moment left_since old old (IsFileOf (recovered file))
+unmoved may_leave end room last file r only_now only = started (λ c left. as_it_was end room last file r c (only c (only_now c left)))
 
-  staged_readable : (c : List ℕ) → Torn (end + 1) (length head + length batch + 1) file c → IsReadableOrChance file last batch c
-  staged_readable c torn =
-      let rest = drop (end + 1) c in
-      let brief = short c torn in
-      elim (hides_or_not last rest) [
-        | inl h ↦ inr (record {
-          torn = rest;
-          is = behind c torn ∙ sym (append_assoc (front_of r) (0 ∷ []) rest) ∙ ap (λ (l : List ℕ). l ++ rest) (sym (front_is end last file r));
-          hides = h;
-          shorter = omega (arith, brief, ap length h.is.1, length-append (sealed last h.batch) h.rest, length-sealed last h.batch, h.more);
-        })
-        | inr plain ↦ inl (readable_is (recovered file) c (last, record { frames = r.frames; torn = rest; is = spelled rest c (behind c torn); are = r.are; ends = record { brief = omega (arith, brief); plain = plain } }))
-      ]
+-- ONE CALL, AND A SYNC
 
-  text : List ℕ
-  text = sealed last batch ++ 0 ∷ []
+module _ {D : Type 0} (moment : D → ℕ) (left_since : D → ℕ → List ℕ → Type 0) (may_leave : D → List ℕ → Type 0) (file : List ℕ) (P : List ℕ → Type 0) (step : List ℕ → List ℕ → Type 0) where
+  -- a call on a file that is on the disk, by which a crash leaves what has P
+  pub called : (old mid : D) → ((c : List ℕ) → c ≡ file → P c) → ((c : List ℕ) → step file c → P c) → ((c : List ℕ) → left_since old (moment old) c → may_leave old c) → Only file (may_leave old)
+      → ComesOfStep step (may_leave old) (may_leave mid) → Elapses (moment old) (moment mid) (left_since old) (left_since mid) (may_leave mid)
+      → LeavesOnly moment left_since old mid P × ((c : List ℕ) → may_leave mid c → P c)
+  called old mid was now only_now only crash time =
+      let leaves : (c : List ℕ) → may_leave mid c → P c = λ c left.
+      let from = crash c left in
+      now c (subst (λ (f : List ℕ). step f c) (only from.0 from.1) from.2) in
+      (goes_on (started (λ c left. was c (only c (only_now c left)))) time leaves, leaves)
 
-  -- what stands there once it is written
-  staged_is : (staged : List ℕ) → IsWrittenAt file (end + 1) (head ++ batch ++ 0 ∷ []) staged → staged ≡ front_of r ++ 0 ∷ text
-  unfolding text
-  staged_is staged holds =
-      written_behind (front_of r) end (length-front end last file r) (head ++ batch ++ 0 ∷ []) staged (subst (λ (f : List ℕ). IsWrittenAt f (end + 1) (head ++ batch ++ 0 ∷ []) staged) (front_is end last file r) holds)
-      ∙ ap (λ (l : List ℕ). front_of r ++ 0 ∷ l) (head_is last batch head is)
+  -- and then it is synced
+  pub synced : (old mid new : D) → LeavesOnly moment left_since old mid P × ((c : List ℕ) → may_leave mid c → P c) → ((c : List ℕ) → may_leave new c → may_leave mid c)
+      → Elapses (moment mid) (moment new) (left_since mid) (left_since new) (may_leave new) → LeavesOnly moment left_since old new P
+  synced old mid new so_far fewer time = goes_on so_far.0 time (λ c left. so_far.1 c (fewer c left))
 
-  text_ends : IsTorn last text
-  unfolding text
-  text_ends = record {
-    brief = omega (arith, length-append (sealed last batch) (0 ∷ []), length-sealed last batch);
-    plain = λ h.
-        let two = two_sealed last batch h.batch (0 ∷ []) h.rest (sealed last batch ++ 0 ∷ []) (omega arith, refl) h.is in
-        let more = h.more in
-        absurd (omega (arith, ap length two.1));
-  }
-
-  -- its latch is being opened
-  opens : (staged c : List ℕ) → IsWrittenAt file (end + 1) (head ++ batch ++ 0 ∷ []) staged → Torn end 1 staged c → Either (recovered file) (recovered file ++ batch ∷ []) c
-  unfolding text
-  opens staged c holds torn =
-      let latch = get_or c end 0 in
-      let c_is : c ≡ front_of r ++ latch ∷ text = torn_latch (front_of r) end (length-front end last file r) text c (subst (λ (f : List ℕ). Torn end 1 f c) (staged_is staged holds) torn) in
-      elim (cases_eq latch 0) [
-        | inl shut ↦ inl (last, record { frames = r.frames; torn = text; is = spelled text c (c_is ∙ ap (λ (g : ℕ). front_of r ++ g ∷ text) shut); are = r.are; ends = text_ends })
-        | inr is_open ↦
-            let more = one_more end latch last file batch c r (omega arith) (omega arith) c_is in
-            inr (subst (λ (bs : List (List ℕ)). IsFileOf bs c) more.1 (at_rest_file (end + (21 + length batch)) (digest last batch) c more.0))
-      ]
-
-  opens_stands : (staged c : List ℕ) → IsWrittenAt file (end + 1) (head ++ batch ++ 0 ∷ []) staged → Torn end 1 staged c → IsBeforeOrAfter (recovered file) batch c
-  opens_stands staged c holds torn = stands_for (recovered file) (recovered file ++ batch ∷ []) c (opens staged c holds torn)
-
-  opens_readable : (staged c : List ℕ) → IsWrittenAt file (end + 1) (head ++ batch ++ 0 ∷ []) staged → Torn end 1 staged c → IsReadableOrChance file last batch c
-  opens_readable staged c holds torn = inl (is_readable (recovered file) (recovered file ++ batch ∷ []) c (opens staged c holds torn))
-
-  -- so much for a crash while it is being written, or its latch opened
-  abbrev Leaves : {D : Type 0} (moment : D → ℕ) (left_since : D → ℕ → List ℕ → Type 0) (old new : D) → Type 0
-  Leaves moment left_since old new = LeavesOnly moment left_since old new (IsBeforeOrAfter (recovered file) batch) × LeavesOnly moment left_since old new (IsReadableOrChance file last batch)
-
-  pub staging : {D : Type 0} {moment : D → ℕ} {left_since : D → ℕ → List ℕ → Type 0} {old mid : D} → LeavesOnly moment left_since old mid (Torn (end + 1) (length head + length batch + 1) file) → Leaves moment left_since old mid
-  staging first = (weaker first staged_stands, weaker first staged_readable)
-
-  pub opening : {D : Type 0} {moment : D → ℕ} {left_since : D → ℕ → List ℕ → Type 0} {old mid new : D} (staged : List ℕ) → LeavesOnly moment left_since old mid (Torn (end + 1) (length head + length batch + 1) file)
-      → IsWrittenAt file (end + 1) (head ++ batch ++ 0 ∷ []) staged → LeavesOnly moment left_since mid new (Torn end 1 staged) → Leaves moment left_since old new
-  opening staged first holds second = (then first second staged_stands (λ c. opens_stands staged c holds), then first second staged_readable (λ c. opens_readable staged c holds))
-
-  -- and is open
-  pub opened : (staged c : List ℕ) → IsWrittenAt file (end + 1) (head ++ batch ++ 0 ∷ []) staged → IsWrittenAt staged end (255 ∷ []) c → IsAtRest (end + (21 + length batch)) (digest last batch) c × (recovered c ≡ recovered file ++ batch ∷ [])
-  unfolding text
-  opened staged c holds holds_latch =
-      one_more end 255 last file batch c r (omega arith) (omega arith) (written_latch (front_of r) end (length-front end last file r) 255 text c (subst (λ (f : List ℕ). IsWrittenAt f end (255 ∷ []) c) (staged_is staged holds) holds_latch))
+pub not_torn : (at : ℕ) (bytes file c : List ℕ) → c ≡ file → Torn at bytes file c
+not_torn at bytes file c is = subst (λ (l : List ℕ). Torn at bytes file l) (sym is) (torn_none at bytes file)
 
 -- A REPLACEMENT
 
 pub whole_file : (last next : List ℕ) (batches : List (List ℕ)) → IsWhole last next → recovered next ≡ batches → IsFileOf batches next
-whole_file last next batches w is = subst (λ (bs : List (List ℕ)). IsFileOf bs next) is (at_rest_file w.0 last next w.1)
+whole_file last next batches w is = subst (λ (bs : List (List ℕ)). IsFileOf bs next) is (at_rest_file w.0 1 last next w.1)
+
+-- it stands on the disk
+pub stands_whole : {D : Type 0} (seen : D → List ℕ) (may_leave : D → List ℕ → Type 0) (faults : D → ℕ) (file : BatchFile D) (last bytes : List ℕ) → IsWhole last bytes → file.end + 1 ≡ length bytes → file.room ≡ 1 → file.last ≡ last
+    → seen file.device ≡ bytes → Only bytes (may_leave file.device) → faults file.device ≡ 0 → IsOnDisk seen may_leave faults file
+stands_whole seen may_leave faults file last bytes w long room_is last_is seen_is only faultless =
+    let end_is : w.0 ≡ file.end = omega (arith, long, length-at_rest w.0 1 last bytes w.1) in
+    record {
+      at_rest = subst (λ (l : List ℕ). IsAtRest file.end file.room file.last l) (sym seen_is) (subst (λ (l : List ℕ). IsAtRest file.end file.room l bytes) (sym last_is)
+          (subst (λ (k : ℕ). IsAtRest file.end k last bytes) (sym room_is) (subst (λ (k : ℕ). IsAtRest k 1 last bytes) end_is w.1)));
+      durable = λ left may. only left may ∙ sym seen_is;
+      faultless = faultless;
+    }
 
 module _ {D : Type 0} (moment : D → ℕ) (left_since : D → ℕ → List ℕ → Type 0) (may_leave : D → List ℕ → Type 0) (last file next : List ℕ) (batches : List (List ℕ)) (w : IsWhole last file) (stands : recovered file ≡ batches) (is : next ≡ file) where
   -- another file is being put in the place of what a device has

@@ -1,39 +1,31 @@
 -- One frame after the other.
-use Rattle.std.proofs.Common.{◌≡◌, ℕ, ◌+◌, List, [], ◌∷◌, ◌++◌, length, take, drop, refl, sym, ◌∙◌, ap, subst, arith, append_assoc, length-append}
+use Rattle.std.proofs.Common.{◌≡◌, ℕ, ◌+◌, ◌^◌, ◌<◌, ◌≤◌, List, [], ◌∷◌, ◌++◌, length, take, drop, refl, sym, ◌∙◌, ap, subst, arith, append_assoc, length-append}
 use Rattle.std.proofs.lemmas.List.{drop-drop, append-nil, take_at}
-use Rattle.batch_file.specs.Frames.{header, digest, sealed, recovered, frames_size, file_size, IsFrame, AreFrames, IsFileOf, IsReadable, IsAtRest, IsWhole, IsRightFront}
-use Rattle.batch_file.specs.FramesLaws.{digest_is, length-frames, length-sealed, further, file_is, framed_is, readable_is}
+use Rattle.batch_file.specs.Frames.{header, digest, sealed, zeros, most_room, recovered, frames_size, IsFrame, AreFrames, IsFileOf, IsReadable, IsAtRest, IsWhole, IsRightFront}
+use Rattle.batch_file.specs.FramesLaws.{digest_is, length-frames, length-sealed, AreFrames-append, file_is, framed_is, readable_is}
 use Rattle.batch_file.specs.Reads.{IsRead, IsFront, IsFound}
+use Rattle.batch_file.proofs.Zeros.{zeros_begin}
 
--- with nothing behind the latch
-pub rests : (batches : List (List ℕ)) (last frames c : List ℕ) (end : ℕ) → AreFrames header batches last frames → c ≡ (header ++ frames) ++ 0 ∷ [] → length (header ++ frames) ≡ end → IsAtRest end last c × (recovered c ≡ batches)
-rests batches last frames c end are is size =
-    let spelled : c ≡ header ++ (frames ++ 0 ∷ []) = is ∙ append_assoc header frames (0 ∷ []) in
-    let stands : recovered c ≡ batches = framed_is batches last frames [] c are spelled in (
-      record {
-        frames = frames;
-        is = spelled;
-        are = subst (λ (bs : List (List ℕ)). AreFrames header bs last frames) (sym stands) are;
-        size = omega (arith, ap length is, length-append (header ++ frames) (0 ∷ []), size);
-      },
-      stands,
-    )
+-- with zeros behind them
+pub rests : (batches : List (List ℕ)) (last frames c : List ℕ) (end room : ℕ) → AreFrames header batches last frames → c ≡ header ++ (frames ++ zeros room) → end ≡ 16 + length frames → 0 < room → room ≤ most_room
+    → IsAtRest end room last c × (recovered c ≡ batches)
+rests batches last frames c end room are is ends some few =
+    let stands : recovered c ≡ batches = framed_is batches last frames (zeros room) c are is (zeros_begin last room) in
+    (record { frames = frames; is = is; are = subst (λ (bs : List (List ℕ)). AreFrames header bs last frames) (sym stands) are; ends = ends; some = some; few = few }, stands)
+
+-- a frame alone
+pub alone : (before batch : List ℕ) → length batch < 2 ^ 32 → AreFrames before (batch ∷ []) (digest before batch) (255 ∷ sealed before batch)
+alone before batch short = ([], record { short = short; is = sym (append-nil (255 ∷ sealed before batch)) }, (refl, refl))
 
 -- a frame behind the frames
-pub AreFrames-snoc : (batches : List (List ℕ)) (before last frames batch one : List ℕ) → AreFrames before batches last frames → IsFrame last batch [] one → AreFrames before (batches ++ batch ∷ []) (digest last batch) (frames ++ one)
-AreFrames-snoc [] before last frames batch one are f =
-    ([], subst (λ (l : List ℕ). IsFrame before batch [] (l ++ one)) (sym are.1) (subst (λ (l : List ℕ). IsFrame l batch [] one) are.0 f), (ap (λ (l : List ℕ). digest l batch) are.0, refl))
-AreFrames-snoc (b ∷ later) before last frames batch one are f =
-    (are.0 ++ one, further before b are.0 frames one are.1, AreFrames-snoc later (digest before b) last are.0 batch one are.2 f)
-
--- without what stands behind it
-pub alone : (before batch rest bytes : List ℕ) (f : IsFrame before batch rest bytes) → IsFrame before batch [] (f.latch ∷ sealed before batch)
-alone before batch rest bytes f = record { latch = f.latch; counts = f.counts; short = f.short; is = sym (append-nil (f.latch ∷ sealed before batch)) }
+pub AreFrames-snoc : (batches : List (List ℕ)) (before last frames batch : List ℕ) → AreFrames before batches last frames → length batch < 2 ^ 32
+    → AreFrames before (batches ++ batch ∷ []) (digest last batch) (frames ++ (255 ∷ sealed last batch))
+AreFrames-snoc batches before last frames batch are short = AreFrames-append batches (batch ∷ []) before last (digest last batch) frames (255 ∷ sealed last batch) are (alone last batch short)
 
 pub goes_on : (batches : List (List ℕ)) (last batch later bytes : List ℕ) (end next : ℕ) → IsRead batches last end bytes → IsFrame last batch (drop (21 + length batch) (drop end bytes)) (drop end bytes)
     → next ≡ end + (21 + length batch) → later ≡ take 16 (drop (end + 5) bytes) → IsRead (batches ++ batch ∷ []) later next bytes
 goes_on batches last batch later bytes end next r f next_is later_is =
-    let one = f.latch ∷ sealed last batch in
+    let one = 255 ∷ sealed last batch in
     let behind : drop (21 + length batch) (drop end bytes) ≡ drop next bytes = drop-drop (21 + length batch) end bytes ∙ ap (λ (k : ℕ). drop k bytes) (sym next_is) in
     let tail : drop end bytes ≡ one ++ drop next bytes = f.is ∙ ap (λ (l : List ℕ). one ++ l) behind in
     let whole : bytes ≡ header ++ ((r.frames ++ one) ++ drop next bytes) =
@@ -42,15 +34,14 @@ goes_on batches last batch later bytes end next r f next_is later_is =
     subst (λ (l : List ℕ). IsRead (batches ++ batch ∷ []) l next bytes) (sym is) (record {
       frames = r.frames ++ one;
       is = whole;
-      are = AreFrames-snoc batches header last r.frames batch one r.are (alone last batch _ _ f);
+      are = AreFrames-snoc batches header last r.frames batch r.are f.short;
       ends = omega (arith, length-append r.frames one, length-sealed last batch, r.ends, next_is);
     })
 
 pub found_file : (batches : List (List ℕ)) (last : List ℕ) (end : ℕ) (bytes : List ℕ) → IsFound batches last end bytes → IsFileOf batches bytes
 found_file batches last end bytes found =
     let r = found.0 in
-    let e = found.1 in
-    (last, record { frames = r.frames; torn = e.0; is = r.is ∙ ap (λ (l : List ℕ). header ++ (r.frames ++ l)) e.1; are = r.are; ends = e.2 })
+    (last, record { frames = r.frames; rest = drop end bytes; is = r.is; are = r.are; ends = found.1 })
 
 pub found_batches : (batches : List (List ℕ)) (last : List ℕ) (end : ℕ) (bytes : List ℕ) → IsFound batches last end bytes → batches ≡ recovered bytes
 found_batches batches last end bytes found = sym (file_is batches bytes (found_file batches last end bytes found))
@@ -58,21 +49,21 @@ found_batches batches last end bytes found = sym (file_is batches bytes (found_f
 pub found_readable : (batches : List (List ℕ)) (last : List ℕ) (end : ℕ) (bytes : List ℕ) → IsFound batches last end bytes → IsReadable bytes
 found_readable batches last end bytes found = readable_is batches bytes (found_file batches last end bytes found)
 
-pub found_size : (batches : List (List ℕ)) (last : List ℕ) (end : ℕ) (bytes : List ℕ) → IsFound batches last end bytes → end + 1 ≡ file_size (recovered bytes)
-found_size batches last end bytes found =
+pub found_end : (batches : List (List ℕ)) (last : List ℕ) (end : ℕ) (bytes : List ℕ) → IsFound batches last end bytes → end ≡ 16 + frames_size (recovered bytes)
+found_end batches last end bytes found =
     let r = found.0 in
     omega (arith, r.ends, length-frames batches header last r.frames r.are, ap frames_size (found_batches batches last end bytes found))
 
--- the front of a file, and a closed latch
+-- the front of a file, and a zero
 pub front_whole : (batches : List (List ℕ)) (last : List ℕ) (end : ℕ) (bytes out : List ℕ) → IsRead batches last end bytes → out ≡ take end bytes ++ 0 ∷ [] → IsWhole last out × (recovered out ≡ batches)
 front_whole batches last end bytes out r is =
     let front : take end bytes ≡ header ++ r.frames =
     ap (λ (l : List ℕ). take end l) (r.is ∙ sym (append_assoc header r.frames (drop end bytes))) ∙ take_at (header ++ r.frames) (drop end bytes) end (omega (arith, r.ends)) in
-    let spelled : out ≡ (header ++ r.frames) ++ 0 ∷ [] = is ∙ ap (λ (l : List ℕ). l ++ 0 ∷ []) front in
-    let whole : IsAtRest end last out × (recovered out ≡ batches) = rests batches last r.frames out end r.are spelled (omega (arith, r.ends)) in
+    let spelled : out ≡ header ++ (r.frames ++ 0 ∷ []) = is ∙ ap (λ (l : List ℕ). l ++ 0 ∷ []) front ∙ append_assoc header r.frames (0 ∷ []) in
+    let whole : IsAtRest end 1 last out × (recovered out ≡ batches) = rests batches last r.frames out end 1 r.are spelled r.ends (omega arith) (omega arith) in
     ((end, whole.0), whole.1)
 
--- a file that was read, without what stands behind the latch
+-- a file that was read, without what stands behind its frames
 pub found_whole : (batches : List (List ℕ)) (last : List ℕ) (end : ℕ) (bytes out : List ℕ) → IsFound batches last end bytes → out ≡ take end bytes ++ 0 ∷ [] → IsWhole last out × (recovered out ≡ recovered bytes)
 found_whole batches last end bytes out found is =
     let whole = front_whole batches last end bytes out found.0 is in

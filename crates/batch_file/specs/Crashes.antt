@@ -1,5 +1,5 @@
 -- What the calls of a device do to its file, and what a crash may do between two syncs.
-use Rattle.std.specs.Prelude.{◌<◌, ◌≡◌, ◌⊎◌, ℕ, ◌+◌, ◌≤◌, max, List, ◌++◌, length, take, drop, Result, OnOk, IfErr}
+use Rattle.std.specs.Prelude.{◌<◌, ◌≡◌, ◌⊎◌, ℕ, ◌+◌, ◌≤◌, List, ◌++◌, length, take, drop, Result, OnOk, IfErr}
 use Rattle.batch_file.specs.declared.device.DeviceFault.{DeviceFault}
 use Rattle.batch_file.specs.declared.device.DeviceFault.TheVariants as device
 use Rattle.batch_file.specs.declared.device.ReplaceFault.{ReplaceFault}
@@ -8,13 +8,6 @@ use Rattle.batch_file.specs.declared.device.ReplaceFault.TheVariants as replacin
 -- new is old with these bytes at this offset
 abbrev pub IsWrittenAt : List ℕ → ℕ → List ℕ → List ℕ → Type 0
 IsWrittenAt old at bytes new = new ≡ take at old ++ bytes ++ drop (at + length bytes) old
-
--- after a write of n bytes that a crash cuts short: any bytes in the range and past the old end, the same elsewhere
-pub record Torn (at n : ℕ) (old new : List ℕ) : Type 0 where
-  pub before : take at new ≡ take at old
-  pub after : drop (at + n) new ≡ drop (at + n) old
-  pub no_shorter : length old ≤ length new
-  pub no_longer : length new ≤ max (length old) (at + n)
 
 -- after a replacement: the old file or the next one, never a part
 abbrev pub Swapped : List ℕ → List ℕ → List ℕ → Type 0

@@ -1,5 +1,5 @@
 -- What a file of frames stands for, and which files are refused.
-use Rattle.std.specs.Prelude.{◌≡◌, ◌≢◌, ◌⊎◌, ◌+◌, ◌^◌, ◌<◌, ◌≤◌, ℕ, zero, suc, List, [], ◌∷◌, ◌++◌, length, take, drop, map, codes, Option, Some}
+use Rattle.std.specs.Prelude.{◌≡◌, ◌≢◌, ◌⊎◌, ◌+◌, ◌^◌, ◌<◌, ◌≤◌, ℕ, zero, suc, List, [], ◌∷◌, ◌++◌, length, take, drop, map, replicate, codes, Option, Some, Bool, ltb, ◌&&◌, if◌then◌else◌, bytes_eq}
 use Rattle.std.specs.Global.{Vec}
 use Rattle.std.specs.Int.{w32, to_be_bytes, from_be_bytes}
 use Rattle.sha2.specs.Sha256.{sha256}
@@ -34,20 +34,14 @@ seal bytes = take 16 (sha256 bytes)
 abbrev pub digest : List ℕ → List ℕ → List ℕ
 digest before batch = seal (before ++ body batch)
 
--- what stands behind the latch of a batch: its length, its digest, and the batch
+-- what stands behind the first byte of a frame: the batch's length, its digest, and the batch
 abbrev pub sealed : List ℕ → List ℕ → List ℕ
 sealed before batch = to_be_bytes w32 (length batch) ++ (digest before batch ++ batch)
 
--- behind a latch the bytes begin with this batch, with its digest
-abbrev pub IsSealed : List ℕ → List ℕ → List ℕ → List ℕ → Type 0
-IsSealed before batch rest bytes = (length batch < 2 ^ 32) × (bytes ≡ sealed before batch ++ rest)
-
--- The bytes begin with the frame of this batch: a latch that counts, and the batch with its digest.
+-- The bytes begin with the frame of this batch: a byte 255, and the batch with its digest.
 pub record IsFrame (before batch rest bytes : List ℕ) : Type 0 where
-  pub latch : ℕ
-  pub counts : 0 < latch
   pub short : length batch < 2 ^ 32
-  pub is : bytes ≡ latch ∷ sealed before batch ++ rest
+  pub is : bytes ≡ 255 ∷ sealed before batch ++ rest
 
 -- the bytes are the frames of these batches, the last of which has this digest
 abbrev pub AreFrames : List ℕ → List (List ℕ) → List ℕ → List ℕ → Type 0
@@ -55,30 +49,63 @@ AreFrames before [] last bytes = (last ≡ before) × (bytes ≡ [])
 AreFrames before (batch ∷ later) last bytes =
     (rest : List ℕ) × IsFrame before batch rest bytes × AreFrames (digest before batch) later last rest
 
+-- behind the frame with this digest there is no other
+abbrev pub IsNoFrame : List ℕ → List ℕ → Type 0
+IsNoFrame last rest = (batch more : List ℕ) → IsFrame last batch more rest → ⊥
+
+abbrev pub zeros : ℕ → List ℕ
+zeros n = replicate n 0
+
+-- what the four bytes behind the first byte of a frame say
+abbrev pub size_at : List ℕ → ℕ
+size_at bytes = from_be_bytes w32 (take 4 bytes)
+
+-- the batch of the frame at the front
+abbrev pub first_at : List ℕ → List ℕ
+first_at bytes = take (size_at (drop 1 bytes)) (drop 21 bytes)
+
 -- a batch that is added has fewer bytes
 abbrev pub limit : ℕ
 limit = 2 ^ 23
 
--- Behind a closed latch stands a batch with its right digest, and more than the latch behind it: no append leaves that, so
--- the latch was open once.
-pub record HidesFrame (last torn : List ℕ) : Type 0 where
+-- behind the frames there are no more zeros
+abbrev pub most_room : ℕ
+most_room = limit + 2 ^ 21
+
+-- Where the next frame would be, a 0 stands, or 16 zeros stand at the end of the file: the file was not cut off.
+abbrev pub IsClosed : List ℕ → Type 0
+IsClosed rest = ((more : List ℕ) × (rest ≡ 0 ∷ more)) ⊎ ((more : List ℕ) × (rest ≡ more ++ zeros 16))
+
+-- Behind these digests a frame is looked for: the one that stands where that of the next frame would, if it is not zeros; or, behind
+-- as many bytes as the length there says, the one that these would have.
+abbrev pub IsBehind : List ℕ → List ℕ → List ℕ → ℕ → Type 0
+IsBehind last rest before at =
+    ((before ≡ take 16 (drop 5 rest)) × (before ≢ zeros 16))
+    ⊎ ((before ≡ digest last (first_at rest)) × (at ≡ 21 + size_at (drop 1 rest)))
+
+-- There is one, so what stands before it was a frame once.
+pub record HidesFrame (last rest : List ℕ) : Type 0 where
+  pub before : List ℕ
+  pub at : ℕ
   pub batch : List ℕ
-  pub rest : List ℕ
-  pub is : IsSealed last batch rest torn
-  pub more : 1 < length rest
+  pub more : List ℕ
+  pub is : IsFrame before batch more (drop at rest)
+  pub behind : IsBehind last rest before at
 
--- Behind the closed latch stands no more than an append that was not finished may have left.
-pub record IsTorn (last torn : List ℕ) : Type 0 where
-  pub brief : length torn ≤ limit + 20
-  pub plain : HidesFrame last torn → ⊥
+-- Behind the last frame, which has this digest, stands no more than zeros and what an append that was not finished may have left.
+pub record IsTorn (last rest : List ℕ) : Type 0 where
+  pub closed : IsClosed rest
+  pub brief : length rest ≤ most_room
+  pub no_frame : IsNoFrame last rest
+  pub plain : HidesFrame last rest → ⊥
 
--- The file is the header, the frames of these batches, and a closed latch, behind which an append was perhaps not finished.
+-- The file is the header and the frames of these batches, behind which an append was perhaps not finished.
 pub record Spells (batches : List (List ℕ)) (last file : List ℕ) : Type 0 where
   pub frames : List ℕ
-  pub torn : List ℕ
-  pub is : file ≡ header ++ (frames ++ 0 ∷ torn)
+  pub rest : List ℕ
+  pub is : file ≡ header ++ (frames ++ rest)
   pub are : AreFrames header batches last frames
-  pub ends : IsTorn last torn
+  pub ends : IsTorn last rest
 
 -- a file that is read as these batches
 abbrev pub IsFileOf : List (List ℕ) → List ℕ → Type 0
@@ -86,21 +113,20 @@ IsFileOf batches file = (last : List ℕ) × Spells batches last file
 
 -- WHICH BATCHES THESE ARE
 
--- what the four bytes behind a latch say
-abbrev pub size_at : List ℕ → ℕ
-size_at bytes = from_be_bytes w32 (take 4 bytes)
+-- whether the bytes begin with a frame behind this digest
+unfoldable pub is_frame : List ℕ → List ℕ → Bool
+is_frame before bytes =
+    ltb (length (first_at bytes)) (2 ^ 32) && bytes_eq (take (21 + length (first_at bytes)) bytes) (255 ∷ sealed before (first_at bytes))
 
--- the batches of at most n frames from here on, up to the first whose latch is closed
-unfoldable pub batches_in : ℕ → List ℕ → List (List ℕ)
-batches_in zero file = []
-batches_in (suc n) [] = []
-batches_in (suc n) (zero ∷ bytes) = []
-batches_in (suc n) (suc latch ∷ bytes) =
-    take (size_at bytes) (drop 20 bytes) ∷ batches_in n (drop (size_at bytes) (drop 20 bytes))
+-- the batches of at most n frames from here on, as long as each has its digest
+unfoldable pub batches_in : ℕ → List ℕ → List ℕ → List (List ℕ)
+batches_in zero before bytes = []
+batches_in (suc n) before bytes =
+    if is_frame before bytes then first_at bytes ∷ batches_in n (digest before (first_at bytes)) (drop (21 + length (first_at bytes)) bytes) else []
 
 -- the batches that a file stands for, whatever a crash made of it
 unfoldable pub recovered : List ℕ → List (List ℕ)
-recovered file = batches_in (length file) (drop 16 file)
+recovered file = batches_in (length file) header (drop 16 file)
 
 -- the file is not refused: what it stands for is spelled, each batch with its digest
 abbrev pub IsReadable : List ℕ → Type 0
@@ -111,13 +137,22 @@ abbrev pub frames_size : List (List ℕ) → ℕ
 frames_size [] = 0
 frames_size (batch ∷ later) = 21 + length batch + frames_size later
 
--- with the header before them and a closed latch behind
+-- with the header before them and one zero behind
 abbrev pub file_size : List (List ℕ) → ℕ
 file_size batches = 17 + frames_size batches
 
--- what stands behind the closed latch
+abbrev pub before_more : ℕ → List ℕ → List ℕ
+before_more zero [] = []
+before_more byte more = byte ∷ more
+
+-- the bytes without the zeros at their end
+unfoldable pub without_zeros : List ℕ → List ℕ
+without_zeros [] = []
+without_zeros (byte ∷ more) = before_more byte (without_zeros more)
+
+-- what an append that was not finished left behind the frames
 abbrev pub torn_of : List ℕ → List ℕ
-torn_of file = drop (file_size (recovered file)) file
+torn_of file = without_zeros (drop (16 + frames_size (recovered file)) file)
 
 -- WHY A FILE IS REFUSED
 
@@ -128,14 +163,6 @@ IsFirstKind file = (rest : List ℕ) × (file ≡ 1 ∷ rest) × (4 + size_at re
 -- the file is of this version, whatever follows
 abbrev pub IsVersion : ℕ → List ℕ → Type 0
 IsVersion version file = ((version < 10) × (take 16 file ≡ header_of version)) ⊎ ((version ≡ 1) × IsFirstKind file)
-
--- no end of a file of which the last frame has this digest: the latch is open, or more stands behind it than may
-abbrev pub IsNoEnd : List ℕ → List ℕ → Type 0
-IsNoEnd last rest = (torn : List ℕ) → rest ≡ 0 ∷ torn → IsTorn last torn → ⊥
-
--- behind the frame with this digest there is no other
-abbrev pub IsNoFrame : List ℕ → List ℕ → Type 0
-IsNoFrame last rest = (batch more : List ℕ) → IsFrame last batch more rest → ⊥
 
 -- The frames of these batches are right, and are all that are: what stands behind them is no frame.
 pub record IsRightFront (batches : List (List ℕ)) (file : List ℕ) : Type 0 where
@@ -151,7 +178,7 @@ pub record IsDamaged (number : ℕ) (file : List ℕ) : Type 0 where
   pub batches : List (List ℕ)
   pub front : IsRightFront batches file
   pub count : length batches ≡ number
-  pub no_end : IsNoEnd front.last front.rest
+  pub no_end : IsTorn front.last front.rest → ⊥
 
 -- the file does not begin as a state file does, or as one of another version
 abbrev pub RefusesHeader : List ℕ → ReadFault → Type 0
@@ -166,26 +193,29 @@ RefusesFile file fault = RefusesHeader file fault
 
 -- FILES THAT ARE WRITTEN
 
--- the file is whole frames up to the end, the last of them with this digest, and a closed latch
-pub record IsAtRest (end : ℕ) (last file : List ℕ) : Type 0 where
+-- the file is whole frames up to the end, the last of them with this digest, and so many zeros
+pub record IsAtRest (end room : ℕ) (last file : List ℕ) : Type 0 where
   pub frames : List ℕ
-  pub is : file ≡ header ++ (frames ++ 0 ∷ [])
+  pub is : file ≡ header ++ (frames ++ zeros room)
   pub are : AreFrames header (recovered file) last frames
-  pub size : length file ≡ end + 1
+  pub ends : end ≡ 16 + length frames
+  pub some : 0 < room
+  pub few : room ≤ most_room
 
--- whatever its length
+-- wherever they end, and with one zero
 abbrev pub IsWhole : List ℕ → List ℕ → Type 0
-IsWhole last file = (end : ℕ) × IsAtRest end last file
+IsWhole last file = (end : ℕ) × IsAtRest end 1 last file
 
 -- and all of it is on the disk, which has not failed
 pub record IsOnDisk {D : Type 0} (seen : D → List ℕ) (may_leave : D → List ℕ → Type 0) (faults : D → ℕ) (file : BatchFile D) : Type 0 where
-  pub at_rest : IsAtRest file.end file.last (seen file.device)
+  pub at_rest : IsAtRest file.end file.room file.last (seen file.device)
   pub durable : Only (seen file.device) (may_leave file.device)
   pub faultless : faults file.device ≡ 0
 
 -- it is as it was, and a crash at any moment since leaves that
 pub record IsUndisturbed {D : Type 0} (seen : D → List ℕ) (moment : D → ℕ) (left_since : D → ℕ → List ℕ → Type 0) (old new : BatchFile D) : Type 0 where
   pub end : new.end ≡ old.end
+  pub room : new.room ≡ old.room
   pub last : new.last ≡ old.last
   pub bytes : seen new.device ≡ seen old.device
   pub any_moment : LeavesOnly moment left_since old.device new.device (λ file. file ≡ seen old.device)
@@ -208,18 +238,6 @@ IsOldOrNew old new file = (recovered file ≡ old) ⊎ (recovered file ≡ new)
 -- what might have been left before, or a file that is read as these batches
 abbrev pub IsAsBefore : (List ℕ → Type 0) → List (List ℕ) → List ℕ → Type 0
 IsAsBefore before batches file = before file ⊎ IsFileOf batches file
-
--- Of an append that a crash cut short the disk has made, by chance, a shorter batch with its right digest behind the closed
--- latch of the old file: bytes that nobody wrote. `chance_is_coincidence` says what that would take.
-pub record IsChance (old last batch file : List ℕ) : Type 0 where
-  pub torn : List ℕ
-  pub is : file ≡ old ++ torn
-  pub hides : HidesFrame last torn
-  pub shorter : length hides.batch < length batch
-
--- the file is read, but for such a chance
-abbrev pub IsReadableOrChance : List ℕ → List ℕ → List ℕ → List ℕ → Type 0
-IsReadableOrChance old last batch file = IsReadable file ⊎ IsChance old last batch file
 
 -- the disk failed
 abbrev pub IsBatchFailure : BatchFault → Type 0

@@ -2,6 +2,8 @@
 pub mod Crashes
 pub mod Faults
 pub mod Frames
+pub mod Tears
+pub mod Coincidences
 pub mod Readers
 -- What only the contracts of this crate's own parts and their proofs cite.
 pub mod Reads

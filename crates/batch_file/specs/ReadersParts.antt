@@ -3,7 +3,7 @@ use Rattle.std.specs.Prelude.{◌≡◌, ◌+◌, ℕ, suc, List, Bool, true, fa
 use Rattle.batch_file.specs.declared.reader.FrameReader.{FrameReader}
 use Rattle.batch_file.specs.Frames.{frames_size, recovered, torn_of, IsReadable}
 
--- a file of these batches was read to its end: the closed latch stands there, and that is behind it
+-- a file of these batches was read to its end: they end there, and that was left behind them
 pub record IsEnd (told : List ℕ) (batches : List (List ℕ)) (end : ℕ) (torn : List ℕ) : Type 0 where
   pub are : recovered told ≡ batches
   pub readable : IsReadable told

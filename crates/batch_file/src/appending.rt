@@ -1,14 +1,17 @@
 //! A file of batches: they are added one by one, or another file is put in the place of all.
 
-ghost use Rattle.std.specs.Prelude.{◌≡◌, ◌<◌, ◌≤◌, ◌^◌, ◌+◌, ◌++◌, [], ◌∷◌, true, false, length, IfOk, IfErr, OnOk, IsErrOf};
-ghost use Rattle.batch_file.specs.Crashes.{HasCause, IsFailure, IsReplaceFailure, IsUnplaced, IsWrittenAt, LeavesOnly, Only, Torn};
+ghost use Rattle.std.specs.Prelude.{◌≡◌, ◌<◌, ◌≤◌, ◌^◌, ◌+◌, ◌++◌, [], ◌∷◌, true, false, length, IfOk, IfErr, IfNone, IfSome, OnOk, IsErrOf, IsTrue, IsFalse};
+ghost use Rattle.batch_file.specs.Crashes.{HasCause, IsFailure, IsReplaceFailure, IsUnplaced, IsWrittenAt, LeavesOnly, Only};
+ghost use Rattle.batch_file.specs.declared.device.DeviceFault.TheVariants.{Memory};
 ghost use Rattle.batch_file.specs.Faults.{of_device, of_replacement};
-ghost use Rattle.batch_file.specs.Frames.{file_size, limit, recovered, IsAsBefore, IsBeforeOrAfter, IsOldOrNew, IsBatchFailure, IsOnDisk, IsReadable, IsReadableOrChance, IsRenewFailure, IsUnrenewed};
+ghost use Rattle.batch_file.specs.Frames.{file_size, limit, most_room, recovered, IsAsBefore, IsBeforeOrAfter, IsFileOf, IsOldOrNew, IsBatchFailure, IsOnDisk, IsReadable, IsRenewFailure, IsUnrenewed};
+ghost use Rattle.batch_file.specs.Tears.{Torn};
 
 use crate::device::{Device, DeviceFault, ReplaceFault};
 use crate::frames::Frames;
 use crate::framing::head_of;
 use crate::system::SystemFault;
+use std::alloc::Global;
 use std::fmt::{self, Display, Formatter, Write};
 
 /// Behind this many bytes nothing is added.
@@ -17,6 +20,15 @@ pub const MAX_END: usize = 1 << 60;
 /// An append of as many bytes or more is refused.
 pub(crate) const LIMIT: usize = 1 << 23;
 
+/// A file is made longer by so many zeros.
+const RESERVE: usize = 1 << 20;
+
+/// It is, where fewer would stay behind a batch.
+pub const LOW: usize = 1 << 19;
+
+/// So many stay behind each batch: a file that was cut off has none.
+const CLOSING: usize = 16;
+
 /// Why a batch was not added to a file.
 #[derive(Clone, Copy, Debug, PartialEq, Eq)]
 pub enum BatchFault {
@@ -24,8 +36,10 @@ pub enum BatchFault {
     Memory,
     /// The disk failed: open the file again.
     Failed(SystemFault),
-    /// The file has no room: it has `2^60` bytes or more.
+    /// The file has `2^60` bytes or more.
     Full,
+    /// The disk has no room for it.
+    NoRoom(SystemFault),
     /// The batch has `2^23` bytes or more.
     TooLong,
     /// The file, or what locks it, was moved or removed.
@@ -36,6 +50,7 @@ impl Display for BatchFault {
     fn fmt<W: Write>(&self, f: &mut Formatter<W>) -> fmt::Result {
         match self {
             BatchFault::Failed(reason) => write!(f, "Failed: {reason}"),
+            BatchFault::NoRoom(reason) => write!(f, "NoRoom: {reason}"),
             _ => write!(f, "{self:?}"),
         }
     }
@@ -77,15 +92,21 @@ impl From<ReplaceFault> for RenewFault {
     }
 }
 
-/// A file of frames, and where the closed latch behind them stands.
+/// A file of frames, and the zeros behind them.
 #[derive(Drop)]
 pub struct BatchFile<D: Device> {
     /// The file.
     pub device: D,
-    /// Where the closed latch stands.
+    /// Where the frames end.
     pub end: usize,
+    /// So many zeros stand behind them.
+    pub room: usize,
     /// The digest of the last frame.
     pub last: [u8; 16],
+    /// The file is made longer, where fewer zeros would stay behind a batch.
+    pub low: usize,
+    /// Why it was not made longer, where that was refused last.
+    pub refused: Option<SystemFault>,
 }
 
 /// Why a file is not put in the place of what a device has, and the device.
@@ -124,24 +145,26 @@ impl<D: Device> BatchFile<D> {
             Ok(()) => Ok(BatchFile {
                 device,
                 end: bytes.len() - 1,
+                room: 1,
                 last,
+                low: LOW,
+                refused: None,
             }),
             Err(fault) => Err(NotPlaced { fault, device }),
         }
     }
 
-    /// Adds a batch. At `Ok` it is acknowledged: from then on each crash leaves a file that has it.
-    /// At `Failed` and `Memory`, open the file again.
-    pub fn append(&mut self, batch: &[u8]) -> Result<(), BatchFault>
+    /// Adds a batch, by one write and one sync. At `Ok` it is acknowledged: from then on each crash leaves a file that has it.
+    /// At `Failed`, open the file again.
+    pub fn append(&mut self, alloc: Global, batch: &[u8]) -> Result<(), BatchFault>
         requires { IsOnDisk D.seen D.may_leave D.faults self.old }
         ensures settled { OnOk result (IsOnDisk D.seen D.may_leave D.faults self.new) }
         ensures added { OnOk result (recovered (D.seen self.new.device) ≡ recovered (D.seen self.old.device) ++ batch.now ∷ []) }
         // A crash at any moment of the call leaves the batches from before it, with the new one or without.
         ensures any_moment { LeavesOnly D.moment D.left_since self.old.device self.new.device
             (IsBeforeOrAfter (recovered (D.seen self.old.device)) batch.now) }
-        // Each of these is a file that is not refused, but for a coincidence of SHA-256.
-        ensures readable { LeavesOnly D.moment D.left_since self.old.device self.new.device
-            (IsReadableOrChance (D.seen self.old.device) self.old.last batch.now) }
+        // Each of these is a file that is not refused.
+        ensures readable { LeavesOnly D.moment D.left_since self.old.device self.new.device IsReadable }
         // What a crash leaves is promised only where earlier reads told what was there.
         ensures truth { D.reads_true self.new.device → D.reads_true self.old.device }
         ensures true_before { LeavesOnly D.moment D.left_since self.old.device self.new.device (λ _. D.reads_true self.old.device) }
@@ -162,12 +185,76 @@ impl<D: Device> BatchFile<D> {
         if !self.device.is_in_place() {
             return Err(BatchFault::Displaced);
         }
+        self.make_room(21 + batch.len() + CLOSING)?;
         let head = head_of(&self.last, batch);
-        write_behind(&mut self.device, self.end + 1, &head.bytes, batch)?;
-        write_down(&mut self.device, self.end, &[255])?;
-        self.end += 21 + batch.len();
+        let frame = frame_of(alloc, &head.bytes, batch)?;
+        let size = frame.len();
+        write_down(&mut self.device, self.end, &frame)?;
+        self.end += size;
+        self.room -= size;
         self.last = head.digest;
         Ok(())
+    }
+
+    /// Sees to it that so many zeros stand behind the frames, and more where the disk has room.
+    fn make_room(&mut self, need: usize) -> Result<(), BatchFault>
+        requires stands { IsOnDisk D.seen D.may_leave D.faults self.old }
+        requires end { self.old.end < 2 ^ 60 }
+        requires few { need < limit + 37 }
+        ensures settled { OnOk result (IsOnDisk D.seen D.may_leave D.faults self.new) }
+        ensures room { OnOk result (need ≤ self.new.room) }
+        ensures same { (self.new.end ≡ self.old.end) × (self.new.last ≡ self.old.last) }
+        ensures batches { OnOk result (recovered (D.seen self.new.device) ≡ recovered (D.seen self.old.device)) }
+        ensures any_moment { LeavesOnly D.moment D.left_since self.old.device self.new.device
+            (IsFileOf (recovered (D.seen self.old.device))) }
+        ensures truth { D.reads_true self.new.device → D.reads_true self.old.device }
+        ensures true_before { LeavesOnly D.moment D.left_since self.old.device self.new.device (λ _. D.reads_true self.old.device) }
+        ensures failed { IfErr result (λ fault. IsBatchFailure fault → D.faults self.old.device < D.faults self.new.device) }
+        ensures other { IsErrOf result BatchFault.Full → ⊥ }
+        ensures too_long { IsErrOf result BatchFault.TooLong → ⊥ }
+        ensures displaced { IsErrOf result BatchFault.Displaced → ⊥ }
+        ensures next { D.next self.new.device ≡ D.next self.old.device }
+    {
+        if is_enough(self.room, need, self.low) {
+            return Ok(());
+        }
+        let refused = self.grow(need.saturating_sub(self.room) + RESERVE)?;
+        self.refused = refused;
+        let Some(reason) = refused else {
+            self.low = LOW;
+            return Ok(());
+        };
+        if self.room < need {
+            return Err(BatchFault::NoRoom(reason));
+        }
+        self.low = (self.room - need) / 2;
+        Ok(())
+    }
+
+    /// Writes so many zeros behind the others, on the disk, or gives why that is refused.
+    fn grow(&mut self, more: usize) -> Result<Option<SystemFault>, DeviceFault>
+        requires stands { IsOnDisk D.seen D.may_leave D.faults self.old }
+        requires end { self.old.end < 2 ^ 60 }
+        requires few { self.old.room + more ≤ most_room }
+        ensures settled { OnOk result (IsOnDisk D.seen D.may_leave D.faults self.new) }
+        ensures longer { IfOk result (λ refused. IfNone refused (self.new.room ≡ self.old.room + more)) }
+        ensures as_long { IfOk result (λ refused. IfSome refused (λ _. self.new.room ≡ self.old.room)) }
+        ensures same { (self.new.end ≡ self.old.end) × (self.new.last ≡ self.old.last) }
+        ensures batches { OnOk result (recovered (D.seen self.new.device) ≡ recovered (D.seen self.old.device)) }
+        ensures any_moment { LeavesOnly D.moment D.left_since self.old.device self.new.device
+            (IsFileOf (recovered (D.seen self.old.device))) }
+        ensures truth { D.reads_true self.new.device → D.reads_true self.old.device }
+        ensures true_before { LeavesOnly D.moment D.left_since self.old.device self.new.device (λ _. D.reads_true self.old.device) }
+        ensures cause { HasCause IsFailure (D.faults self.old.device) (D.faults self.new.device) result }
+        ensures next { D.next self.new.device ≡ D.next self.old.device }
+    {
+        let refused = self.device.grow(self.end + self.room, more)?;
+        self.device.sync()?;
+        let Some(reason) = refused else {
+            self.room += more;
+            return Ok(None);
+        };
+        Ok(Some(reason))
     }
 
     /// Puts another file in the place of all that there is. At `Ok` each crash leaves it and nothing else. At `Memory`,
@@ -195,37 +282,34 @@ impl<D: Device> BatchFile<D> {
         let (bytes, last) = frames.into_parts();
         self.device.replace(&bytes)?;
         self.end = bytes.len() - 1;
+        self.room = 1;
         self.last = last;
         Ok(())
     }
 }
 
-/// Writes a batch, what stands before it and a closed latch behind it, and waits until they are on the disk.
-fn write_behind<D: Device>(
-    device: &mut D,
-    at: usize,
-    head: &[u8],
-    batch: &[u8],
-) -> Result<(), DeviceFault>
-    requires within { at ≤ length (D.seen device.old) }
-    requires short { at + length head.now + length batch.now < 2 ^ 63 }
-    requires durable { Only (D.seen device.old) (D.may_leave device.old) }
-    requires faultless { D.faults device.old ≡ 0 }
-    ensures written { OnOk result (IsWrittenAt (D.seen device.old) at (head.now ++ batch.now ++ 0 ∷ []) (D.seen device.new)) }
-    ensures durable { OnOk result (Only (D.seen device.new) (D.may_leave device.new)) }
-    ensures any_moment { LeavesOnly D.moment D.left_since device.old device.new
-        (Torn at (length head.now + length batch.now + 1) (D.seen device.old)) }
-    ensures truth { D.reads_true device.new → D.reads_true device.old }
-    ensures true_before { LeavesOnly D.moment D.left_since device.old device.new (λ _. D.reads_true device.old) }
-    ensures cause { HasCause IsFailure (D.faults device.old) (D.faults device.new) result }
-    ensures next { D.next device.new ≡ D.next device.old }
+/// Whether so many zeros are enough for a batch, and so many more.
+fn is_enough(room: usize, need: usize, low: usize) -> bool
+    ensures yes { IsTrue result → need ≤ room }
+    ensures no { IsFalse result → room < need + 2 ^ 19 }
 {
-    device.write_at(at, head)?;
-    let at = at + head.len();
-    device.write_at(at, batch)?;
-    device.write_at(at + batch.len(), &[0])?;
-    device.sync()?;
-    Ok(())
+    if room < need {
+        return false;
+    }
+    room - need >= low.min(LOW)
+}
+
+/// The frame of a batch.
+fn frame_of(alloc: Global, head: &[u8; 20], batch: &[u8]) -> Result<Vec<u8>, DeviceFault>
+    requires { length batch.now < limit }
+    ensures made { IfOk result (λ frame. frame.items ≡ 255 ∷ (head.now ++ batch.now)) }
+    ensures refused { IfErr result (λ fault. fault ≡ Memory) }
+{
+    let mut frame = Vec::with_capacity(alloc, 21 + batch.len())?;
+    frame.extend_from_slice(&[255])?;
+    frame.extend_from_slice(head)?;
+    frame.extend_from_slice(batch)?;
+    Ok(frame)
 }
 
 /// Writes, and waits until it is on the disk.
@@ -235,8 +319,7 @@ fn write_down<D: Device>(device: &mut D, at: usize, bytes: &[u8]) -> Result<(), 
     requires faultless { D.faults device.old ≡ 0 }
     ensures written { OnOk result (IsWrittenAt (D.seen device.old) at bytes.now (D.seen device.new)) }
     ensures durable { OnOk result (Only (D.seen device.new) (D.may_leave device.new)) }
-    ensures any_moment { LeavesOnly D.moment D.left_since device.old device.new
-        (Torn at (length bytes.now) (D.seen device.old)) }
+    ensures any_moment { LeavesOnly D.moment D.left_since device.old device.new (Torn at bytes.now (D.seen device.old)) }
     ensures truth { D.reads_true device.new → D.reads_true device.old }
     ensures true_before { LeavesOnly D.moment D.left_since device.old device.new (λ _. D.reads_true device.old) }
     ensures cause { HasCause IsFailure (D.faults device.old) (D.faults device.new) result }

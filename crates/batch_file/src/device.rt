@@ -1,10 +1,12 @@
 //! A file as a `BatchFile` sees it: what a read would return, and what a crash may leave.
 
-ghost use Rattle.std.specs.Prelude.{◌≡◌, ◌≤◌, ◌++◌, [], Bool, List, ℕ, length, take, drop, Option, Some, None, option_map, IfOk, OnOk, IfErr, IfSome};
+ghost use Rattle.std.specs.Prelude.{◌≡◌, ◌≤◌, ◌++◌, [], Bool, List, ℕ, length, take, drop, Option, Some, None, option_map, IfOk, OnOk, IfErr, IfSome, IfNone};
 ghost use Rattle.batch_file.specs.declared.device.DeviceFault.TheVariants.{Memory};
 ghost use Rattle.batch_file.specs.declared.device.ReplaceFault.TheVariants as replacing;
-ghost use Rattle.batch_file.specs.Crashes.{Elapses, ComesOfStep, HasCause, IsBeside, IsFailure, IsUnplaced, IsReplaceFailure, IsWrittenAt, Only, Swapped, Torn};
+ghost use Rattle.batch_file.specs.Crashes.{Elapses, ComesOfStep, HasCause, IsBeside, IsFailure, IsUnplaced, IsReplaceFailure, IsWrittenAt, Only, Swapped};
 ghost use Rattle.batch_file.specs.Faults.{of_reading, of_replacing};
+ghost use Rattle.batch_file.specs.Frames.{zeros};
+ghost use Rattle.batch_file.specs.Tears.{Torn};
 
 use crate::system::SystemFault;
 use std::alloc::{AllocError, Global};
@@ -105,7 +107,19 @@ pub trait Device {
     fn write_at(&mut self, at: usize, bytes: &[u8]) -> Result<(), DeviceFault>
         requires { at ≤ length (seen self.old) }
         ensures written { OnOk result (IsWrittenAt (seen self.old) at bytes.now (seen self.new)) }
-        ensures crash { ComesOfStep (Torn at (length bytes.now)) (may_leave self.old) (may_leave self.new) }
+        ensures crash { ComesOfStep (Torn at bytes.now) (may_leave self.old) (may_leave self.new) }
+        ensures time { Elapses (moment self.old) (moment self.new) (left_since self.old) (left_since self.new) (may_leave self.new) }
+        ensures cause { HasCause IsFailure (faults self.old) (faults self.new) result }
+        ensures next { next self.new ≡ next self.old }
+        ensures truth { reads_true self.new → reads_true self.old };
+
+    /// Writes so many zeros behind the end of the file, which is there, or leaves the file as it was and gives why. Until a sync, a
+    /// crash may leave any bytes there.
+    fn grow(&mut self, end: usize, size: usize) -> Result<Option<SystemFault>, DeviceFault>
+        requires { end ≡ length (seen self.old) }
+        ensures longer { IfOk result (λ refused. IfNone refused (seen self.new ≡ seen self.old ++ zeros size)) }
+        ensures same { IfOk result (λ refused. IfSome refused (λ _. seen self.new ≡ seen self.old)) }
+        ensures crash { ComesOfStep (Torn end (zeros size)) (may_leave self.old) (may_leave self.new) }
         ensures time { Elapses (moment self.old) (moment self.new) (left_since self.old) (left_since self.new) (may_leave self.new) }
         ensures cause { HasCause IsFailure (faults self.old) (faults self.new) result }
         ensures next { next self.new ≡ next self.old }

@@ -28,7 +28,7 @@ impl From<AllocError> for AddFault {
     }
 }
 
-/// A header, whole frames and a closed latch, in memory. Clauses see the batches.
+/// A header, whole frames and a zero, in memory. Clauses see the batches.
 #[derive(Drop)]
 pub struct Frames {
     /// The file.
@@ -73,10 +73,10 @@ impl Frames {
         if batch.len() >= MAX_BATCH {
             return Err(AddFault::TooLong);
         }
-        let latch = self.bytes.len() - 1;
+        let end = self.bytes.len() - 1;
         let head = head_of(&self.last, batch);
         write_behind(&mut self.bytes, &head.bytes, batch)?;
-        self.bytes[latch] = 255;
+        self.bytes[end] = 255;
         self.last = head.digest;
         Ok(())
     }
@@ -115,7 +115,7 @@ impl Frames {
     }
 }
 
-/// Writes a batch, what stands before it and a closed latch behind what is there, or nothing.
+/// Writes a batch, what stands before it and a zero behind what is there, or nothing.
 fn write_behind(bytes: &mut Vec<u8>, head: &[u8], batch: &[u8]) -> Result<(), AllocError>
     requires { length head.now + length batch.now < 2 ^ 63 }
     ensures ok { OnOk result (bytes.new.items ≡ bytes.old.items ++ head.now ++ batch.now ++ 0 ∷ []) }

@@ -1,15 +1,13 @@
-//! A header, and frames: a latch of one byte, the length of a batch in four, its digest in 16, and the batch.
-//!
-//! A latch of 0 is closed, and stands behind the last frame, on the disk before anything is written behind it. Any other
-//! counts: then the frame has to be there, whole, with its digest. The digest is made of the one before it too, so a frame
-//! that is dropped, doubled or moved has not its own.
+//! A header, and frames: a byte 255, the length of a batch in four, its digest in 16, and the batch. Behind the last frame come
+//! zeros. What is no frame with its digest is not read: it was not finished, or is damaged. The digest is made of the one before it
+//! too, so a frame that is dropped, doubled or moved has not its own.
 
-ghost use Rattle.std.specs.Prelude.{◌≡◌, ◌<◌, ◌≤◌, ◌^◌, ◌⊎◌, ◌+◌, ◌++◌, [], ◌∷◌, ℕ, List, length, take, drop, IfOk, IfErr, IfSome, IfNone, IsTrue, IsFalse, ◌↔◌};
+ghost use Rattle.std.specs.Prelude.{◌≡◌, ◌<◌, ◌≤◌, ◌≢◌, ◌^◌, ◌⊎◌, ◌+◌, ◌++◌, [], ◌∷◌, ℕ, List, length, take, drop, IfOk, IfErr, IfSome, IfNone, IsTrue, IsFalse, ◌↔◌};
 ghost use Rattle.std.specs.Int.{w32, to_be_bytes};
 ghost use Rattle.batch_file.specs.declared.framing.ReadFault.TheVariants.{Memory};
 ghost use Rattle.batch_file.specs.Faults.{of_unread};
-ghost use Rattle.batch_file.specs.Frames.{digest, lists, recovered, seal, torn_of, HidesFrame, IsDamaged, IsFirstKind, IsFrame, IsNoEnd, IsNoFrame, IsReadable, IsRightFront, IsSealed, IsVersion, RefusesFile, RefusesHeader};
-ghost use Rattle.batch_file.specs.Reads.{Begins, IsFound, IsFront, IsOpenEnd};
+ghost use Rattle.batch_file.specs.Frames.{digest, first_at, lists, recovered, seal, size_at, torn_of, without_zeros, zeros, HidesFrame, IsClosed, IsDamaged, IsFirstKind, IsFrame, IsNoFrame, IsReadable, IsRightFront, IsTorn, IsVersion, RefusesFile, RefusesHeader};
+ghost use Rattle.batch_file.specs.Reads.{Begins, HasFrame, IsFound, IsFront};
 
 use crate::device::DeviceFault;
 use crate::frames::Frames;
@@ -23,8 +21,8 @@ const TITLE: [u8; 14] = *b"oauthd state v";
 /// What each file begins with.
 pub const HEADER: [u8; 16] = *b"oauthd state v3\n";
 
-/// Behind a closed latch an append that was not finished leaves no more than this.
-pub(crate) const LONGEST_TORN: usize = (1 << 23) + 20;
+/// Behind the frames there are no more bytes.
+pub(crate) const MOST_ROOM: usize = (1 << 23) + (1 << 21);
 
 /// Why a file is not read.
 #[derive(Clone, Copy, Debug, PartialEq, Eq)]
@@ -75,7 +73,7 @@ pub struct Batches {
     pub batches: Vec<Vec<u8>>,
     /// A file of these batches.
     pub frames: Frames,
-    /// What an append that was not finished left behind the closed latch.
+    /// What an append that was not finished left behind them.
     pub torn: Vec<u8>,
 }
 
@@ -92,7 +90,7 @@ pub fn read_batches(alloc: Global, bytes: &[u8]) -> Result<Batches, ReadFault>
     Ok(Batches {
         batches: found.batches,
         frames: Frames::of(whole, found.last),
-        torn: bytes[found.end + 1..].to_vec(alloc)?,
+        torn: trimmed(&bytes[found.end..]).to_vec(alloc)?,
     })
 }
 
@@ -118,13 +116,13 @@ struct Found {
     last: [u8; 16],
 }
 
-/// All frames of a file, up to the closed latch.
+/// All frames of a file.
 fn find_batches(alloc: Global, bytes: &[u8]) -> Result<Found, ReadFault>
     ensures found { IfOk result (λ found. IsFound (lists found.batches.items) found.last found.end bytes.now) }
     ensures refused { IfErr result (λ fault. (fault ≡ Memory) ⊎ RefusesFile bytes.now fault) }
 {
     let front = find_front(alloc, bytes)?;
-    if !is_open_end(&bytes[front.end..], &front.last) {
+    if !is_end(&bytes[front.end..], &front.last) {
         return Err(ReadFault::Damaged(front.batches.len()));
     }
     Ok(front)
@@ -190,25 +188,98 @@ fn told_digit(bytes: &[u8]) -> Option<u8>
     }
 }
 
-/// Whether a closed latch stands here, and no more behind it than an append that was not finished may have left.
-pub(crate) fn is_open_end(bytes: &[u8], last: &[u8; 16]) -> bool
-    ensures yes { IsTrue result → IsOpenEnd last.now bytes.now }
-    ensures no { IsFalse result → IsNoEnd last.now bytes.now }
+/// Whether these bytes, with which no frame begins, are what an append that was not finished may have left, and zeros.
+pub(crate) fn is_end(bytes: &[u8], last: &[u8; 16]) -> bool
+    ensures yes { IsTrue result → IsNoFrame last.now bytes.now → IsTorn last.now bytes.now }
+    ensures no { IsFalse result → IsTorn last.now bytes.now → ⊥ }
 {
-    match bytes {
-        [0, torn @ ..] => torn.len() <= LONGEST_TORN && !hides_frame(torn, last),
-        _ => false,
+    if bytes.len() > MOST_ROOM {
+        return false;
     }
+    if !is_closed(bytes) {
+        return false;
+    }
+    !hides_frame(bytes, last)
 }
 
-/// Whether the latch before these bytes was open once: they are a batch with its digest, and more than a latch.
-fn hides_frame(torn: &[u8], last: &[u8; 16]) -> bool
-    ensures { IsTrue result ↔ HidesFrame last.now torn.now }
+/// Whether the bytes begin with a 0 or end with 16.
+fn is_closed(bytes: &[u8]) -> bool
+    ensures { IsTrue result ↔ IsClosed bytes.now }
 {
-    match sealed_batch(torn, last) {
-        Some(batch) => torn.len() - batch.len() > 21,
-        None => false,
+    if bytes.starts_with(&[0]) {
+        return true;
     }
+    bytes.ends_with(&[0; 16])
+}
+
+/// Whether a frame stands further on, behind the digest that stands where the next one's would, or behind the digest that would be
+/// right there.
+fn hides_frame(bytes: &[u8], last: &[u8; 16]) -> bool
+    ensures { IsTrue result ↔ HidesFrame last.now bytes.now }
+{
+    if bytes.len() < 21 {
+        return false;
+    }
+    if has_frame_behind(bytes) {
+        return true;
+    }
+    has_frame_due(bytes, last)
+}
+
+/// Whether a frame stands anywhere behind the digest that stands where the next one's would.
+fn has_frame_behind(bytes: &[u8]) -> bool
+    requires { 21 ≤ length bytes.now }
+    ensures { IsTrue result ↔ ((take 16 (drop 5 bytes.now) ≢ zeros 16) × HasFrame (take 16 (drop 5 bytes.now)) bytes.now) }
+{
+    let told = digest_at(bytes, 5);
+    if told == [0; 16] {
+        return false;
+    }
+    has_frame(bytes, &told)
+}
+
+/// Whether a frame stands anywhere behind that digest.
+fn has_frame(bytes: &[u8], before: &[u8; 16]) -> bool
+    ensures { IsTrue result ↔ HasFrame before.now bytes.now }
+{
+    for at in 0..bytes.len() {
+        if let Some(_) = first_batch(&bytes[at..], before) {
+            return true;
+        }
+    }
+    false
+}
+
+/// Whether a frame stands behind as many bytes as a length says, and is right behind the digest that these would have.
+fn has_frame_due(bytes: &[u8], last: &[u8; 16]) -> bool
+    requires { 21 ≤ length bytes.now }
+    ensures { IsTrue result ↔ ((batch : List ℕ) × (more : List ℕ)
+        × IsFrame (digest last.now (first_at bytes.now)) batch more (drop (21 + size_at (drop 1 bytes.now)) bytes.now)) }
+{
+    let size = u32::from_be_bytes([bytes[1], bytes[2], bytes[3], bytes[4]]) as usize;
+    if size > bytes.len() - 21 {
+        return false;
+    }
+    let due = head_of(last, &bytes[21..21 + size]).digest;
+    let Some(_) = first_batch(&bytes[21 + size..], &due) else {
+        return false;
+    };
+    true
+}
+
+/// The bytes without the zeros at their end.
+pub(crate) fn trimmed(bytes: &[u8]) -> &[u8]
+    ensures { result.now ≡ without_zeros bytes.now }
+{
+    let mut size = bytes.len();
+    while size > 0 {
+        let byte = bytes[size - 1];
+        if byte != 0 {
+            return &bytes[..size];
+        }
+        size -= 1;
+    }
+    &[]
 }
 
 /// The batch of the frame at the front, if there is one behind that digest.
@@ -217,27 +288,19 @@ pub(crate) fn first_batch<'b>(bytes: &'b [u8], before: &[u8; 16]) -> Option<&'b 
     ensures within { IfSome result (λ batch. 21 + length batch.now ≤ length bytes.now) }
     ensures none { IfNone result (IsNoFrame before.now bytes.now) }
 {
-    if bytes.is_empty() || bytes[0] == 0 {
+    if bytes.len() < 21 {
         return None;
     }
-    sealed_batch(&bytes[1..], before)
-}
-
-/// The batch behind a latch, if all of it is there with its digest.
-fn sealed_batch<'b>(bytes: &'b [u8], before: &[u8; 16]) -> Option<&'b [u8]>
-    ensures some { IfSome result (λ batch. IsSealed before.now batch.now (drop (20 + length batch.now) bytes.now) bytes.now) }
-    ensures within { IfSome result (λ batch. 20 + length batch.now ≤ length bytes.now) }
-    ensures none { IfNone result ((batch rest : List ℕ) → IsSealed before.now batch rest bytes.now → ⊥) }
-{
-    if bytes.len() < 20 {
+    let mark = bytes[0];
+    if mark != 255 {
         return None;
     }
-    let size = u32::from_be_bytes([bytes[0], bytes[1], bytes[2], bytes[3]]) as usize;
-    if bytes.len() - 20 < size {
+    let size = u32::from_be_bytes([bytes[1], bytes[2], bytes[3], bytes[4]]) as usize;
+    if bytes.len() - 21 < size {
         return None;
     }
-    let batch = &bytes[20..20 + size];
-    if !is_sealed(before, &bytes[..4], batch, &bytes[4..20]) {
+    let batch = &bytes[21..21 + size];
+    if !is_sealed(before, &bytes[1..5], batch, &bytes[5..21]) {
         return None;
     }
     Some(batch)
@@ -265,7 +328,7 @@ fn seal(before: &[u8; 16], size: &[u8], batch: &[u8]) -> [u8; 16]
     out
 }
 
-/// What stands between a latch and its batch.
+/// What stands between the first byte of a frame and its batch.
 #[derive(Clone, Copy)]
 pub struct Head {
     /// The length of the batch, and its digest.
@@ -298,7 +361,7 @@ pub(crate) fn digest_at(bytes: &[u8], at: usize) -> [u8; 16]
     last
 }
 
-/// A file up to there, with a closed latch behind.
+/// A file up to there, with a zero behind.
 fn closed_at(alloc: Global, bytes: &[u8], end: usize) -> Result<Vec<u8>, AllocError>
     requires { end ≤ length bytes.now }
     ensures { IfOk result (λ out. out.items ≡ take end bytes.now ++ 0 ∷ []) }

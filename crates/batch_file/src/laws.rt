@@ -1,8 +1,9 @@
 //! What files of batches promise beside what each call does. The functions here do nothing: read their contracts.
 
-ghost use Rattle.std.specs.Prelude.{◌≡◌, ◌≢◌, ◌⊎◌, ◌+◌, ◌++◌, [], ◌∷◌, List, ℕ, length, take, drop};
+ghost use Rattle.std.specs.Prelude.{◌≡◌, ◌⊎◌, ◌+◌, ◌≤◌, ◌++◌, [], ◌∷◌, List, ℕ, length, take, drop};
 ghost use Rattle.batch_file.specs.declared.framing.ReadFault.{ReadFault};
-ghost use Rattle.batch_file.specs.Frames.{digest, recovered, IsChance, IsFileOf, IsFrame, IsReadable, IsRightFront, RefusesFile, Spells};
+ghost use Rattle.batch_file.specs.Coincidences.{AreSameBeside, IsCoincidence};
+ghost use Rattle.batch_file.specs.Frames.{recovered, IsAtRest, IsFileOf, IsFrame, IsReadable, IsRightFront, RefusesFile, Spells};
 ghost use Rattle.batch_file.specs.FramesLaws.{Collision};
 
 /// A file that is readable is never refused, so none is that a crash leaves.
@@ -29,7 +30,7 @@ pub fn one_front()
 
 /// Two frames behind the same bytes, in which the same digest stands, are of the same batch, or two inputs of SHA-256 are known
 /// whose digests begin with the same 16 bytes. So a change of a length or a batch is refused but for these; a change of a
-/// digest is refused, since the batch is the same; a change of a latch changes no batch.
+/// digest is refused, since the batch is the same.
 pub fn digest_vouches()
     ensures { (before batch other rest more bytes changed : List ℕ) → IsFrame before batch rest bytes → IsFrame before other more changed
         → take 16 (drop 5 bytes) ≡ take 16 (drop 5 changed) → (batch ≡ other) ⊎ Collision }
@@ -42,11 +43,12 @@ pub fn last_digest_vouches()
         → length xs ≡ length ys → (xs ≡ ys) ⊎ Collision }
 {}
 
-/// What it would take for a crash of an append to leave a file that is refused: behind the old file and a length stand 16 bytes
-/// that are not those that were written, and they are the digest of a shorter batch that nobody wrote, which stands behind
-/// them; or two inputs of SHA-256 are known whose digests begin with the same 16 bytes.
+/// What else it would take than the premise on chance allows. An append that a crash cuts short leaves the batches from before it, or
+/// the new one with them; or behind them stand 16 bytes that are the digest of another batch, which nobody wrote, and are not those
+/// that were written; or two inputs of SHA-256 are known whose digests begin with the same 16 bytes.
 pub fn chance_is_coincidence()
-    ensures { (old last batch file : List ℕ) (chance : IsChance old last batch file)
-        → (take 16 (drop (length old + 4) file) ≡ digest last chance.hides.batch)
-        × ((digest last chance.hides.batch ≢ digest last batch) ⊎ Collision) }
+    ensures { (end room : ℕ) (last old batch left : List ℕ) → IsAtRest end room last old → 21 + length batch ≤ room
+        → AreSameBeside end (21 + length batch) old left
+        → (recovered left ≡ recovered old) ⊎ (recovered left ≡ recovered old ++ batch ∷ [])
+        ⊎ IsCoincidence last batch (take 16 (drop (end + 5) left)) }
 {}

@@ -141,12 +141,13 @@ impl<D: Device> BatchFile<D> {
         self.device.sync_next()?;
         self.device.place_next()?;
         self.end = next.end;
+        self.room = 1;
         self.last = next.last;
         Ok(())
     }
 }
 
-/// How long a batch is, by what stands before it from the latch on.
+/// How long a batch is, by what stands before it in its frame.
 fn size_told(head: &[u8]) -> usize
     requires { 5 ≤ length head.now }
     ensures { result ≡ size_at (drop 1 head.now) }

@@ -6,7 +6,7 @@ ghost use Rattle.batch_file.specs.Readers.{ahead, HasRead, IsUnread};
 ghost use Rattle.batch_file.specs.ReadersParts.{IsEnd, StaysThere};
 
 use crate::appending::MAX_END;
-use crate::framing::{HEADER, LONGEST_TORN, ReadFault, is_open_end, version_of};
+use crate::framing::{HEADER, MOST_ROOM, ReadFault, is_end, trimmed, version_of};
 use crate::source::{ByteSource, PIECE};
 use crate::system::SystemFault;
 use crate::walk::{Walk, is_decided};
@@ -39,9 +39,9 @@ pub struct NotRead<S> {
 pub struct ReadOver<S> {
     /// What it was read from.
     pub source: S,
-    /// What an append that was not finished left behind the closed latch.
+    /// What an append that was not finished left behind the frames.
     pub torn: Vec<u8>,
-    /// Where the closed latch stands.
+    /// Where the frames end.
     pub end: usize,
 }
 
@@ -132,7 +132,7 @@ impl<S: ByteSource + Drop> FrameReader<S> {
         self.source
     }
 
-    /// Goes over all frames, and gives what stands behind the closed latch.
+    /// Goes over all frames, and gives what an append that was not finished left behind them.
     fn read_end(&mut self, alloc: Global) -> Result<Vec<u8>, ReadFault>
         ensures read { IfOk result (λ torn. (batches : List (List ℕ)) → HasRead S.told S.is_over batches self.old
             → (later : List (List ℕ)) × (IsTrue self.old.spent → later ≡ []) × HasRead S.told S.is_over (batches ++ later) self.new
@@ -143,7 +143,7 @@ impl<S: ByteSource + Drop> FrameReader<S> {
             → S.is_over self.new.source × RefusesFile (S.told self.new.source) fault)) }
     {
         self.go_over(alloc)?;
-        self.fill(alloc, LONGEST_TORN + 2)?;
+        self.fill(alloc, MOST_ROOM + 1)?;
         let more = skip(alloc, &mut self.source, 0)?;
         if !self.over {
             return Err(ReadFault::Damaged(self.walk.number));
@@ -155,10 +155,10 @@ impl<S: ByteSource + Drop> FrameReader<S> {
         let last = self.walk.last;
         let number = self.walk.number;
         let ahead = self.walk.ahead();
-        if !is_open_end(ahead, &last) {
+        if !is_end(ahead, &last) {
             return Err(ReadFault::Damaged(number));
         }
-        Ok(ahead[1..].to_vec(alloc)?)
+        Ok(trimmed(ahead).to_vec(alloc)?)
     }
 
     /// Goes over the frames that are left.

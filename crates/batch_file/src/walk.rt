@@ -115,5 +115,9 @@ pub fn is_decided(bytes: &[u8]) -> bool
         return false;
     }
     let size = u32::from_be_bytes([bytes[1], bytes[2], bytes[3], bytes[4]]) as usize;
-    bytes[0] == 0 || size <= bytes.len() - 21
+    let mark = bytes[0];
+    if mark != 255 {
+        return true;
+    }
+    size <= bytes.len() - 21
 }

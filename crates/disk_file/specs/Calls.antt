@@ -1,10 +1,14 @@
 -- The calls that were made on a file, and what a crash between them may leave.
 use Rattle.std.specs.Prelude.{◌≡◌, ◌+◌, ◌≤◌, ◌⊎◌, ℕ, List, [], ◌∷◌, ◌++◌, length, take, drop, Bool, true, false, if◌then◌else◌, Option, Some, None, option_map, unwrap_or, IfSome}
-use Rattle.batch_file.specs.Crashes.{Torn, Swapped}
+use Rattle.batch_file.specs.Crashes.{Swapped}
+use Rattle.batch_file.specs.Frames.{zeros}
+use Rattle.batch_file.specs.Tears.{Torn}
 
 pub data Call : Type 0 where
   Opened : (bytes : List ℕ) → Call
   Wrote : (at : ℕ) → (bytes : List ℕ) → Call
+  Grew : (at size : ℕ) → Call
+  Shrank : (at size : ℕ) → Call
   Synced : Call
   Replaced : (bytes : List ℕ) → Call
   Read : (at : ℕ) → (bytes : List ℕ) → Call
@@ -30,6 +34,8 @@ next_after true (Added bytes) was = option_map (λ written. written ++ bytes) wa
 next_after true NextSynced was = was
 next_after _ (Opened bytes) was = was
 next_after _ (Wrote at bytes) was = was
+next_after _ (Grew at size) was = was
+next_after _ (Shrank at size) was = was
 next_after _ Synced was = was
 next_after _ (Replaced bytes) was = was
 next_after _ (Read at bytes) was = was
@@ -52,6 +58,7 @@ next_on_disk (e ∷ before) = next_synced e.is_ok e.call (next_content before)
 abbrev pub after_call : Call → List Logged → List ℕ → List ℕ
 after_call (Opened bytes) before old = bytes
 after_call (Wrote at bytes) before old = take at old ++ bytes ++ drop (at + length bytes) old
+after_call (Grew at size) before old = old ++ zeros size
 after_call (Replaced bytes) before old = bytes
 after_call Placed before old = unwrap_or (next_on_disk before) old
 after_call _ before old = old
@@ -71,8 +78,10 @@ abbrev pub ReadsTrue : List Logged → Type 0
 ReadsTrue [] = Unit {0}
 ReadsTrue (e ∷ before) = TellsTrue e.is_ok e.call before × ReadsTrue before
 
--- whether it is one of the file itself, not of the next one before that is put in its place
+-- whether it is one of the file itself, not of the next one before that is put in its place; and not one that made the file longer,
+-- which it is not where that was refused
 abbrev pub is_of_file : Call → Bool
+is_of_file (Grew at size) = false
 is_of_file Began = false
 is_of_file (Added bytes) = false
 is_of_file NextSynced = false
@@ -87,7 +96,9 @@ failures (e ∷ before) = (if e.is_ok then 0 else if is_of_file e.call then 1 el
 -- What a call that a crash cuts short may make of a file: a next file that was not on the disk may be anything.
 abbrev pub CallStep : Call → List Logged → List ℕ → List ℕ → Type 0
 CallStep (Opened bytes) before old new = new ≡ bytes
-CallStep (Wrote at bytes) before old new = Torn at (length bytes) old new
+CallStep (Wrote at bytes) before old new = Torn at bytes old new
+CallStep (Grew at size) before old new = Torn at (zeros size) old new
+CallStep (Shrank at size) before old new = Torn at (zeros size) old new
 CallStep (Replaced bytes) before old new = Swapped bytes old new
 CallStep Placed before old new = IfSome (next_on_disk before) (λ next. Swapped next old new)
 CallStep _ before old new = new ≡ old

@@ -5,12 +5,14 @@ use Rattle.disk_file.specs.declared.call_log.DiskCall.TheVariants as made
 use Rattle.batch_file.specs.declared.device.DeviceFault.{DeviceFault}
 use Rattle.batch_file.specs.declared.system.SystemFault.{SystemFault}
 use Rattle.batch_file.specs.declared.system.SystemFault.TheVariants as system
-use Rattle.disk_file.specs.Calls.{Call, Logged, Opened, Wrote, Synced, Replaced, Read, Began, Added, NextSynced, Placed, Dropped}
+use Rattle.disk_file.specs.Calls.{Call, Logged, Opened, Wrote, Grew, Shrank, Synced, Replaced, Read, Began, Added, NextSynced, Placed, Dropped}
 
 -- the call that a program makes
 abbrev pub call_made : DiskCall → Call
 call_made (made.Opened bytes) = Opened bytes.now
 call_made (made.Wrote at bytes) = Wrote at bytes.now
+call_made (made.Grew at size) = Grew at size
+call_made (made.Shrank at size) = Shrank at size
 call_made made.Synced = Synced
 call_made (made.Replaced bytes) = Replaced bytes.now
 call_made (made.Read at bytes) = Read at bytes.now
@@ -24,9 +26,9 @@ call_made made.Dropped = Dropped
 abbrev pub logged : DiskCall → Result (Unit {0}) DeviceFault → Logged
 logged call answer = record { call = call_made call; is_ok = is_ok answer }
 
--- the call of this kind at this place, with these bytes
-abbrev pub call_of : ℕ → ℕ → List ℕ → Call
-call_of kind place bytes =
+-- the call of this kind at this place, with these bytes, or of so many
+abbrev pub call_of : ℕ → ℕ → ℕ → List ℕ → Call
+call_of kind place size bytes =
     if kind == 0 then Opened bytes
     else if kind == 1 then Wrote place bytes
     else if kind == 2 then Synced
@@ -36,11 +38,13 @@ call_of kind place bytes =
     else if kind == 6 then Added bytes
     else if kind == 7 then NextSynced
     else if kind == 8 then Placed
+    else if kind == 10 then Grew place size
+    else if kind == 11 then Shrank place size
     else Dropped
 
 abbrev pub noted : List ℕ → List ℕ → Logged
 noted numbers bytes =
-    record { call = call_of (slice_index numbers 0) (slice_index numbers 1) bytes; is_ok = slice_index numbers 2 == 1 }
+    record { call = call_of (slice_index numbers 0) (slice_index numbers 1) (slice_index numbers 3) bytes; is_ok = slice_index numbers 2 == 1 }
 
 -- the file that was opened had these bytes, too
 abbrev pub opened_more : List ℕ → Call → Call

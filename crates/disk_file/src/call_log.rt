@@ -18,6 +18,10 @@ pub enum DiskCall<'b> {
     Opened(&'b [u8]),
     /// These bytes were written at this place.
     Wrote { at: u64, bytes: &'b [u8] },
+    /// So many zeros were written behind its end, or what was written of them was cut off again.
+    Grew { at: u64, size: u64 },
+    /// What was written of so many could not be cut off.
+    Shrank { at: u64, size: u64 },
     /// What was done is on the disk (`fdatasync`).
     Synced,
     /// Another file with these bytes was renamed over it, and the folder synced.
@@ -57,7 +61,7 @@ impl CallLog {
         }
     }
 
-    /// Notes a call by numbers: its kind, its place, and 1 where it succeeded.
+    /// Notes a call by numbers: its kind, its place, 1 where it succeeded, and its size, if it has one.
     fn note(&mut self, _numbers: &[u64], _bytes: &[u8])
         ensures { self.new.calls ≡ with_note _numbers.now _bytes.now self.old.calls }
     {}
@@ -83,6 +87,8 @@ impl CallLog {
         match call {
             DiskCall::Opened(bytes) => self.note(&[0, 0, succeeded], bytes),
             DiskCall::Wrote { at, bytes } => self.note(&[1, at, succeeded], bytes),
+            DiskCall::Grew { at, size } => self.note(&[10, at, succeeded, size], &[]),
+            DiskCall::Shrank { at, size } => self.note(&[11, at, succeeded, size], &[]),
             DiskCall::Synced => self.note(&[2, 0, succeeded], &[]),
             DiskCall::Replaced(bytes) => self.note(&[3, 0, succeeded], bytes),
             DiskCall::Read { at, bytes } => self.note(&[4, at, succeeded], bytes),
@@ -90,7 +96,7 @@ impl CallLog {
             DiskCall::Added(bytes) => self.note(&[6, 0, succeeded], bytes),
             DiskCall::NextSynced => self.note(&[7, 0, succeeded], &[]),
             DiskCall::Placed => self.note(&[8, 0, succeeded], &[]),
-            DiskCall::Dropped => self.note(&[10, 0, succeeded], &[]),
+            DiskCall::Dropped => self.note(&[12, 0, succeeded], &[]),
         }
         match answer {
             Ok(()) => Ok(()),

@@ -29,6 +29,9 @@ use std::rt::Files;
 /// The bits by which a file's group and others may write it.
 const OTHERS_WRITE: u32 = 0o022;
 
+/// So many zeros are written at once.
+const PIECE: usize = 1 << 16;
+
 /// No next file was begun, or a call on it was refused since.
 const NOT_BEGUN: DeviceFault = DeviceFault::Failed(SystemFault::NotFound);
 
@@ -83,6 +86,19 @@ fn read_again<F: FileExt>(
     let mut bytes = vec![in alloc; 0; size]?;
     file.read_exact_at(&mut bytes, at)?;
     Ok(bytes)
+}
+
+/// Writes so many zeros to an open file, from that place on.
+fn write_zeros<F: FileExt>(alloc: Global, file: &F, at: u64, size: u64) -> io::Result<()> {
+    let zeros = vec![in alloc; 0; PIECE]?;
+    let mut at = at;
+    let mut left = size;
+    while left > PIECE as u64 {
+        file.write_all_at(&zeros, at)?;
+        at = at.wrapping_add(PIECE as u64);
+        left -= PIECE as u64;
+    }
+    file.write_all_at(&zeros[..left as usize], at)
 }
 
 /// Why a file of which the system tells this is not opened.
@@ -281,6 +297,22 @@ impl<'r, F: SystemFile, R: Files<File = F> + AllocGlobal, B: Before> Device
         let at = at as u64;
         let answer = self.file.write_all_at(bytes, at);
         self.log.told(DiskCall::Wrote { at, bytes }, answer)
+    }
+
+    fn grow(&mut self, end: usize, size: usize) -> Result<Option<SystemFault>, DeviceFault> {
+        let at = end as u64;
+        let size = size as u64;
+        let Err(error) = write_zeros(self.rt.alloc(), &self.file, at, size) else {
+            let _ = self.log.told(DiskCall::Grew { at, size }, Ok(()));
+            return Ok(None);
+        };
+        let reason = SystemFault::of(&error);
+        if let Err(worse) = self.file.set_len(at) {
+            self.log.told(DiskCall::Shrank { at, size }, Err(worse))?;
+            return Ok(None);
+        }
+        let _ = self.log.told(DiskCall::Grew { at, size }, Err(error));
+        Ok(Some(reason))
     }
 
     fn sync(&mut self) -> Result<(), DeviceFault> {

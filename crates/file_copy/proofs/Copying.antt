@@ -12,8 +12,8 @@ use Rattle.batch_file.specs.declared.walk.Walk.{Walk}
 use Rattle.file_copy.specs.Copies.{AreGathered, HasCopied, HasSeen, IsCopied, StaysAside}
 use Rattle.batch_file.specs.Crashes.{ComesOfStep, Elapses, IsBeside, LeavesOnly, Only, Swapped}
 use Rattle.batch_file.specs.CrashesLaws.{started, goes_on, weaker}
-use Rattle.batch_file.specs.Frames.{header, digest, sealed, batches_in, recovered, frames_size, AreFrames, IsAsBefore, IsAtRest, IsFileOf, IsOnDisk, IsReadable}
-use Rattle.batch_file.specs.FramesLaws.{frames_size-append, frames_parsed, length-frames, parsed}
+use Rattle.batch_file.specs.Frames.{header, digest, sealed, recovered, frames_size, AreFrames, IsAsBefore, IsAtRest, IsFileOf, IsOnDisk, IsReadable}
+use Rattle.batch_file.specs.FramesLaws.{frames_size-append, framed_is, length-frames, no_frame_in}
 use Rattle.batch_file.specs.Readers.{ahead, HasWalked}
 use Rattle.batch_file.proofs.Following.{if_known}
 use Rattle.batch_file.proofs.Steps.{whole_file}
@@ -59,7 +59,7 @@ module _ (next : Option (List ℕ)) (front : List (List ℕ)) (old : Gathered) (
       ∙ ap (λ (l : List ℕ). old.out.items ++ 255 ∷ (l ++ (made ++ batch))) size_is
       ∙ ap (λ (l : List ℕ). old.out.items ++ 255 ∷ (to_be_bytes w32 (length batch) ++ (l ++ batch))) made_is in
       let frame : AreFrames header (front ++ batch ∷ []) (digest last batch) (a.frames ++ one) =
-      AreFrames-snoc front header last a.frames batch one a.are (record { latch = 255; counts = omega arith; short = short; is = sym (append-nil one) }) in
+      AreFrames-snoc front header last a.frames batch a.are short in
       record {
         written = a.written;
         next_is = a.next_is;
@@ -85,15 +85,15 @@ module _ (next : Option (List ℕ)) (front : List (List ℕ)) (old : Gathered) (
     end = end_is ∙ a.end;
   }
 
-  -- with a closed latch behind, and is on the disk
+  -- with a zero behind, and is on the disk
   pub all_on_disk : (out : List ℕ) (later known : Option (List ℕ)) → out ≡ old.out.items ++ 0 ∷ [] → later ≡ option_map (λ w. w ++ out) next → known ≡ later
-      → (bytes : List ℕ) × (known ≡ Some bytes) × IsAtRest old.next.end old.next.last bytes × (recovered bytes ≡ front)
+      → (bytes : List ℕ) × (known ≡ Some bytes) × IsAtRest old.next.end 1 old.next.last bytes × (recovered bytes ≡ front)
   all_on_disk out later known out_is added synced =
       let bytes = a.written ++ out in
-      let spelled : bytes ≡ (header ++ a.frames) ++ 0 ∷ [] =
-      ap (λ (l : List ℕ). a.written ++ l) out_is ∙ sym (append_assoc a.written old.out.items (0 ∷ [])) ∙ ap (λ (l : List ℕ). l ++ 0 ∷ []) a.is in
-      let size : length (header ++ a.frames) ≡ old.next.end = omega (arith, length-append header a.frames, length-frames front header old.next.last a.frames a.are, a.end) in
-      let whole = rests front old.next.last a.frames bytes old.next.end a.are spelled size in
+      let spelled : bytes ≡ header ++ (a.frames ++ 0 ∷ []) =
+      ap (λ (l : List ℕ). a.written ++ l) out_is ∙ sym (append_assoc a.written old.out.items (0 ∷ [])) ∙ ap (λ (l : List ℕ). l ++ 0 ∷ []) a.is ∙ append_assoc header a.frames (0 ∷ []) in
+      let size : old.next.end ≡ 16 + length a.frames = omega (arith, length-frames front header old.next.last a.frames a.are, a.end) in
+      let whole = rests front old.next.last a.frames bytes old.next.end 1 a.are spelled size (omega arith) (omega arith) in
       (bytes, synced ∙ added ∙ ap (option_map (λ w. w ++ out)) a.next_is, whole.0, whole.1)
 
 -- WHAT WAS READ OF IT
@@ -129,7 +129,6 @@ seen_next device seen batches batch old new at end file h walked = record { told
 -- frames that are as long as those of a file are these
 pub all_copied : {D : Type 0} (device : Device D) (seen : List ℕ) (batches : List (List ℕ)) (walk : Walk) (at end : ℕ) (file : D) → HasSeen device seen batches walk at end file → walk.end ≡ end
     → device.reads_true file → IsReadable seen → end ≡ 16 + frames_size (recovered seen) → batches ≡ recovered seen
-unfolding batches_in
 all_copied device seen batches walk at end file h end_is told readable ends =
     let s = readable.1 in
     let there = recovered seen in
@@ -141,15 +140,16 @@ all_copied device seen batches walk at end file h end_is told readable ends =
     let spelled : h.told ≡ header ++ frames = h.walked.is ∙ ap (λ (l : List ℕ). header ++ (frames ++ l)) empty ∙ ap (λ (l : List ℕ). header ++ l) (append-nil frames) in
     let size : length (header ++ s.frames) ≡ end = omega (arith, length-append header s.frames, length-frames there header readable.0 s.frames s.are, ends) in
     let front : take end seen ≡ header ++ s.frames =
-    ap (λ (l : List ℕ). take end l) (s.is ∙ sym (append_assoc header s.frames (0 ∷ s.torn))) ∙ take_at (header ++ s.frames) (0 ∷ s.torn) end size in
+    ap (λ (l : List ℕ). take end l) (s.is ∙ sym (append_assoc header s.frames s.rest)) ∙ take_at (header ++ s.frames) s.rest end size in
     let same : frames ≡ s.frames = append_cancel_left header frames s.frames (sym spelled ∙ h.true told ∙ ap (λ (k : ℕ). take k seen) at_is ∙ front) in
-    let mine : parsed (frames ++ []) ≡ batches ++ parsed [] = frames_parsed batches header walk.last frames [] h.walked.are in
-    let theirs : parsed (s.frames ++ []) ≡ there ++ parsed [] = frames_parsed there header readable.0 s.frames [] s.are in
-    sym (append-nil batches) ∙ sym mine ∙ ap (λ (l : List ℕ). parsed (l ++ [])) same ∙ theirs ∙ append-nil there
+    sym (alone batches walk.last frames h.walked.are) ∙ ap (λ (l : List ℕ). recovered (header ++ l)) same ∙ alone there readable.0 s.frames s.are
   where
     nothing : (l : List ℕ) → length l ≡ 0 → l ≡ []
     nothing [] is = refl
     nothing (a ∷ l) is = absurd (omega arith)
+
+    alone : (bs : List (List ℕ)) (last one : List ℕ) → AreFrames header bs last one → recovered (header ++ one) ≡ bs
+    alone bs last one are = framed_is bs last one [] (header ++ one) are (ap (λ (l : List ℕ). header ++ l) (sym (append-nil one))) (no_frame_in last [] (omega arith))
 
 -- where a walk ends there, they were copied
 pub has_copied : {D : Type 0} (device : Device D) (seen : List ℕ) (batches : List (List ℕ)) (walk : Walk) (at end : ℕ) (file : D) (gathered : Gathered)
@@ -185,16 +185,17 @@ copied_end device seen behind end was next first gathered h are = omega (arith, 
 
 -- it stands there
 pub settled : {D : Type 0} (device : Device D) (seen : List ℕ) (behind : List (List ℕ)) (mid : D) (next : Next) (file : BatchFile D) → IsCopied device seen behind mid next → file.end ≡ next.end
-    → file.last ≡ next.last
+    → file.room ≡ 1 → file.last ≡ next.last
     → IfSome (device.next_on_disk mid) (λ bytes. device.seen file.device ≡ bytes) → IfSome (device.next_on_disk mid) (λ bytes. Only bytes (device.may_leave file.device))
     → device.faults file.device ≡ 0
     → IsOnDisk device.seen device.may_leave device.faults file
-settled device seen behind mid next file copied end_is last_is replaced durable faultless =
+settled device seen behind mid next file copied end_is room_is last_is replaced durable faultless =
     let seen_is = if_known (λ b. device.seen file.device ≡ b) (device.next_on_disk mid) copied.bytes copied.on_disk replaced in
     let only = if_known (λ b. Only b (device.may_leave file.device)) (device.next_on_disk mid) copied.bytes copied.on_disk durable in
     record {
-      at_rest = subst (λ (l : List ℕ). IsAtRest file.end l (device.seen file.device)) (sym last_is)
-          (subst (λ (k : ℕ). IsAtRest k next.last (device.seen file.device)) (sym end_is) (subst (λ (l : List ℕ). IsAtRest next.end next.last l) (sym seen_is) copied.at_rest));
+      at_rest = subst (λ (l : List ℕ). IsAtRest file.end file.room l (device.seen file.device)) (sym last_is)
+          (subst (λ (k : ℕ). IsAtRest k file.room next.last (device.seen file.device)) (sym end_is)
+          (subst (λ (k : ℕ). IsAtRest next.end k next.last (device.seen file.device)) (sym room_is) (subst (λ (l : List ℕ). IsAtRest next.end 1 next.last l) (sym seen_is) copied.at_rest)));
       durable = λ left may. only left may ∙ sym seen_is;
       faultless = faultless;
     }

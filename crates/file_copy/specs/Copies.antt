@@ -46,5 +46,5 @@ pub record HasCopied {D : Type 0} (device : Device D) (seen : List ℕ) (end : �
 pub record IsCopied {D : Type 0} (device : Device D) (seen : List ℕ) (behind : List (List ℕ)) (file : D) (next : Next) : Type 0 where
   pub bytes : List ℕ
   pub on_disk : device.next_on_disk file ≡ Some bytes
-  pub at_rest : IsAtRest next.end next.last bytes
+  pub at_rest : IsAtRest next.end 1 next.last bytes
   pub batches : device.reads_true file → recovered bytes ≡ recovered seen ++ behind

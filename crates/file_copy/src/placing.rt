@@ -6,7 +6,7 @@ ghost use Rattle.batch_file.specs.Faults.{of_copying};
 ghost use Rattle.batch_file.specs.Frames.{digest, frames_size, lists, recovered, IsAsBefore, IsOnDisk, IsReadable};
 ghost use Rattle.file_copy.specs.Copies.{AreGathered, HasCopied, HasSeen, IsCopied, KeepsAside};
 
-use batch_file::appending::{BatchFile, MAX_END, NotPlaced};
+use batch_file::appending::{BatchFile, LOW, MAX_END, NotPlaced};
 use batch_file::device::{Device, DeviceFault, ReplaceFault};
 use batch_file::frames::MAX_BATCH;
 use batch_file::framing::{HEADER, head_of};
@@ -56,7 +56,10 @@ pub fn place_behind<D: Device>(
                 Ok(BatchFile {
                     device,
                     end: next.end,
+                    room: 1,
                     last,
+                    low: LOW,
+                    refused: None,
                 })
             }
             Err(fault) => Err(NotPlaced { fault, device }),

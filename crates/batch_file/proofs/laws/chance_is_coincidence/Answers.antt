@@ -1,4 +1,4 @@
-use Rattle.batch_file.specs.FramesLaws.{chance_is_coincidence}
+use Rattle.batch_file.proofs.Chance.{chance_is_coincidence}
 use Rattle.batch_file.proofs.laws.chance_is_coincidence.Goals as goal
 
 pub returns : goal.returns

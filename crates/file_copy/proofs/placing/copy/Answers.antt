@@ -69,3 +69,7 @@ returns-clause-end g c =
     let h = c.in_ok-copy.ensures.copied in
     let are = c.in_ok-put_all.ensures.added h.batches h.are in
     copied_end D (D.seen c.begin_next.new.self) (lists c.args.behind.now) c.args.end c.copy.new.device (D.next c.put_all.new.device) c.copy.new.self c.put_all.new.self h are
+
+pub returns-in_err-begin_next-clause-aside : goal.returns-in_err-begin_next-clause-aside
+returns-in_err-begin_next-clause-aside g c = λ file a.
+    aside_on g.D.Device file c.args.device.now c.begin_next.new.self a c.begin_next.ensures.beside c.begin_next.ensures.time c.begin_next.ensures.truth

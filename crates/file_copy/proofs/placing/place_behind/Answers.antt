@@ -7,7 +7,7 @@ pub returns-in-Ok-place_next-clause-settled : goal.returns-in-Ok-place_next-clau
 returns-in-Ok-place_next-clause-settled g c =
     let D = g.D.Device in
     let aside = c.copy.ensures.aside c.args.device (aside_here D c.args.device (g.met.D.Device.only_now c.args.device)) in
-    settled D (D.seen c.args.device) (lists c.args.behind.now) c.copy.new.device c.in-Ok.next _ c.in-Ok.ensures.copied refl refl c.in-Ok-place_next.ensures.replaced
+    settled D (D.seen c.args.device) (lists c.args.behind.now) c.copy.new.device c.in-Ok.next _ c.in-Ok.ensures.copied refl refl refl c.in-Ok-place_next.ensures.replaced
     c.in-Ok-place_next.ensures.durable
     (c.in-Ok-place_next.ensures.cause.faultless ∙ aside.beside.no_fault ∙ c.requires.faultless)
 
@@ -63,3 +63,21 @@ returns-in-Err-clause-unplaced g c = λ is.
     let aside = c.copy.ensures.aside c.args.device (aside_here D c.args.device (g.met.D.Device.only_now c.args.device)) in
     let dropped = aside_on D c.args.device c.copy.new.device c.drop_next.new.self aside c.drop_next.ensures.beside c.drop_next.ensures.time c.drop_next.ensures.truth in
     dropped.beside
+
+pub returns-in-Ok-place_next-clause-truth : goal.returns-in-Ok-place_next-clause-truth
+returns-in-Ok-place_next-clause-truth g c = λ told.
+    let D = g.D.Device in
+    let aside = c.copy.ensures.aside c.args.device (aside_here D c.args.device (g.met.D.Device.only_now c.args.device)) in
+    aside.truth (c.place_next.ensures.truth told)
+
+pub returns-in-Err-place_next-clause-truth_lost : goal.returns-in-Err-place_next-clause-truth_lost
+returns-in-Err-place_next-clause-truth_lost g c = λ told.
+    let D = g.D.Device in
+    let aside = c.copy.ensures.aside c.args.device (aside_here D c.args.device (g.met.D.Device.only_now c.args.device)) in
+    aside.truth (c.place_next.ensures.truth told)
+
+pub returns-in-Err-clause-truth_lost : goal.returns-in-Err-clause-truth_lost
+returns-in-Err-clause-truth_lost g c = λ told.
+    let D = g.D.Device in
+    let aside = c.copy.ensures.aside c.args.device (aside_here D c.args.device (g.met.D.Device.only_now c.args.device)) in
+    aside.truth (c.drop_next.ensures.truth told)

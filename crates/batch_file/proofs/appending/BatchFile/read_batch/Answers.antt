@@ -14,4 +14,4 @@ returns-clause-read g c = λ told before after batch is at_is.
     let second = c.in_ok-bytes.ensures in
     let head_is = first.read (second.truth told) ∙ ap (λ (l : List ℕ). take 21 (drop at l)) first.beside.bytes in
     let bytes_is = second.read told ∙ ap (λ (l : List ℕ). take size (drop (at + 21) l)) (second.beside.bytes ∙ first.beside.bytes) in
-    batch_there old.end at size old.last (D.seen old.device) c.in_ok-head.head.items c.in_ok-bytes.bytes.items c.requires.at_rest head_is size_is bytes_is before after batch is at_is
+    batch_there old.end old.room at size old.last (D.seen old.device) c.in_ok-head.head.items c.in_ok-bytes.bytes.items c.requires.at_rest head_is size_is bytes_is before after batch is at_is
