@@ -2,7 +2,7 @@
 use Rattle.std.proofs.Common.{◌≡◌, ◌≤◌, ◌⊎◌, ⊎_elim, inl, inr, ℕ, List, [], Option, Some, refl, sym, ap, subst, ◌∙◌, arith}
 use Rattle.std.specs.Prelude.{max}
 use Rattle.std.proofs.Math.Nat.{le-max_left, le-max_right}
-use Rattle.lifetime.proofs.Names.{Basis, IsWithin, NoLater, Readable, IsReadable, IsByChance, LeftTells, TellsNoLater, until_with, until_of, horizon_bound, latest, told_then}
+use Rattle.lifetime.proofs.Names.{Basis, IsWithin, NoLater, Readable, IsReadable, LeftTells, TellsNoLater, until_with, until_of, horizon_bound, latest, told_then}
 use Rattle.lifetime.proofs.Names.{recovered, HoldsBasis, IsFrontOf, Rules, TellsBasis, Event, AllRight, IsBounded, HostRun, Outset, outset_of, Carries, KeeperHolds, Onward, StandsBetween}
 use Rattle.lifetime.proofs.Names.{front_then, same_front, served_on, served_onward, HasServed, LoopState, Served, begins, Tools, Named, SeenEdge, Journey, Reached, SeenKeeper, StandFor, StandsFor}
 use Rattle.lifetime.proofs.Names.{IsPutOn, Tell, TellsRules, rules_of, Given, LifePromises, in_loop, HasLived, IsWhole, Leaves, LeavesKept, LosesNothing, loop_of, Begun, Ending}
@@ -53,7 +53,7 @@ module _ {D N C J : Type 0} (p : LifePromises D N C J) (only_now : (d : D) (c : 
     first_tells c left = subst (λ (bs : List (List ℕ)). Tell bs (rules_of given.registry)) (sym (first_left c left).0) bears.tell
 
     first_reads : HoldsBasis (in_loop p).keeping.crashes served.first.keeper Readable
-    first_reads c left = inl (first_left c left).1
+    first_reads c left = (first_left c left).1
 
     -- and no later moment than the batches
     first_no_later : (until : ℕ) → until_of begun.outlook.plan.prepared.batches ≤ until → HoldsBasis (in_loop p).keeping.crashes served.first.keeper (NoLater until)
@@ -93,7 +93,7 @@ module _ {D N C J : Type 0} (p : LifePromises D N C J) (only_now : (d : D) (c : 
 
     -- what is left tells the rules, and is read
     abbrev IsSound : List ℕ → Type 0
-    IsSound c = TellsRules c (rules_of given.registry) × (IsReadable c ⊎ IsByChance c)
+    IsSound c = TellsRules c (rules_of given.registry) × IsReadable c
 
     whole_at : (s : StateHere) → Served (in_loop p) served.first s → (kept history : List Event) (c : List ℕ) → IsFrontOf kept history →
         IsFrontOf history s.progress.journey.world.history → StandsFor c history → IsSound c → IsWhole given.registry kept s.progress.journey.world.history c

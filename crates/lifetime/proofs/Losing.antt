@@ -1,7 +1,7 @@
 -- What a crash leaves of a life that was begun, and of its loop.
 use Rattle.std.proofs.Common.{◌≡◌, ◌≤◌, ◌⊎◌, ⊎_elim, inl, inr, ℕ, List, [], refl, sym, subst, arith}
 use Rattle.lifetime.proofs.Names.{recovered, IsFrontOf, RegistryRecord, Event, AllRight, HostRun, Named, StandFor, StandsFor, IsOldOr, Tell, TellsRules, rules_of, Given, LifePromises}
-use Rattle.lifetime.proofs.Names.{IsReadable, IsByChance, IsWhole, Leaves, LosesNothing, TellsNoLater, until_of, front_then, same_front}
+use Rattle.lifetime.proofs.Names.{IsReadable, IsWhole, Leaves, LosesNothing, TellsNoLater, until_of, front_then, same_front}
 use Rattle.state_file.specs.ReplayingLaws.{front_run}
 use Rattle.state_keeper.proofs.Put.{leaves_weaker}
 use Rattle.state_file.specs.ResumingLaws.{right_before}
@@ -19,7 +19,7 @@ front_ran front all host is ran = front_run [] host front is.0 (subst (λ (h : L
 
 -- what is left is whole where it stands for a front of what was right and was run
 pub whole_by : (rules : RegistryRecord) (before history all : List Event) (host : List Named) (c : List ℕ) → IsFrontOf before history → IsFrontOf history all → StandsFor c history →
-    TellsRules c (rules_of rules) → (IsReadable c ⊎ IsByChance c) → AllRight rules [] all → HostRun chain.ghosts [] all host → IsWhole rules before all c
+    TellsRules c (rules_of rules) → IsReadable c → AllRight rules [] all → HostRun chain.ghosts [] all host → IsWhole rules before all c
 whole_by rules before history all host c from to stands told readable right ran =
     let mid = front_ran history all host to ran in record {
       history = history;
@@ -60,7 +60,7 @@ pub whole_batches : (rules : RegistryRecord) (batches : List (List ℕ)) (histor
 whole_batches rules batches history c bears is =
     whole_by rules history history history bears.host c (same_front history history refl) (same_front history history refl)
     (subst (λ (bs : List (List ℕ)). StandFor bs history) (sym is.0) bears.stand) (subst (λ (bs : List (List ℕ)). Tell bs (rules_of rules)) (sym is.0) bears.tell)
-    (inl is.1) bears.right bears.ran
+    is.1 bears.right bears.ran
 
 module _ {D N C J : Type 0} (p : LifePromises D N C J) where
   -- CRASHES, ONE RUN AFTER THE OTHER

@@ -7,7 +7,7 @@ pub use Rattle.endpoints.specs.Bounded.{AllRight, IsBounded}
 pub use Rattle.endpoints.specs.Hosts.{HostRun}
 pub use Rattle.event_loop.specs.Durable.{Carries, KeeperHolds, StandsBetween, latest}
 pub use Rattle.event_loop.specs.Ends.{told_then}
-pub use Rattle.state_file.specs.Knowing.{IsByChance, LeftTells}
+pub use Rattle.state_file.specs.Knowing.{LeftTells}
 pub use Rattle.event_loop.specs.DurableLaws.{front_then, same_front, served_onward, served_on}
 pub use Rattle.event_loop.specs.Served.{begins}
 pub use Rattle.event_loop.specs.declared.tools.Tools.{Tools}

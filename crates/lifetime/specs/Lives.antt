@@ -11,7 +11,6 @@ use Rattle.event_loop.specs.Durable.{latest}
 use Rattle.event_loop.specs.Ends.{told_then}
 use Rattle.event_loop.specs.declared.fault.LoopFault.TheVariants.{Keep}
 use Rattle.hook_chain.specs.contracts.chain.ChainHookHost.TheImpl as chain
-use Rattle.state_file.specs.Knowing.{IsByChance}
 use Rattle.state_file.specs.Making.{StopsReading}
 use Rattle.lifetime.specs.Given.{Given, LifePromises, LifeState, in_loop, life_of, given as handed}
 use Rattle.lifetime.specs.Plans.{IsPlanned, RefusesPlan, begun_from}
@@ -26,7 +25,7 @@ use Rattle.lifetime.specs.declared.going_on.Ending.{Ending}
 -- WHAT A CRASH LEAVES
 
 -- What a crash left stands for a history that has all of `before`, and nothing that is not in `all`. It tells the rules, under
--- which that history is right, and a chain of hooks came through it; and a start reads it, but for a coincidence of SHA-256: so
+-- which that history is right, and a chain of hooks came through it; and a start reads it: so
 -- another life may begin on what is left.
 pub record IsWhole (rules : RegistryRecord) (before all : List Event) (left : List ℕ) : Type 0 where
   pub history : List Event
@@ -37,7 +36,7 @@ pub record IsWhole (rules : RegistryRecord) (before all : List Event) (left : Li
   pub right : AllRight rules [] history
   pub host : List Named
   pub ran : HostRun chain.ghosts [] history host
-  pub readable : IsReadable left ⊎ IsByChance left
+  pub readable : IsReadable left
 
 -- a crash at some moment from the old device's on, up to the new one's, leaves what is so
 abbrev pub Leaves : {D N C J : Type 0} → LifePromises D N C J → D → D → (List ℕ → Type 0) → Type 0

@@ -2,7 +2,7 @@
 use Rattle.std.specs.Prelude.{◌≡◌, ◌+◌, ◌<◌, ◌≤◌, ◌^◌, ◌/◌, ◌&&◌, ℕ, List, [], ◌∷◌, Bool, length, take, drop, Some, if◌then◌else◌, ◌⊎◌, ⊤}
 use Rattle.std.specs.List.{list_any}
 use Rattle.state_file.specs.Names.{recovered, frames_size, bytes_eq, Basis, Until, Rules, Event, RulesFact, rules_spelling}
-use Rattle.batch_file.specs.Frames.{IsChance, IsReadable, IsWhole}
+use Rattle.batch_file.specs.Frames.{IsReadable}
 use Rattle.change_codec.specs.Keeping.{NoLater, Readable}
 use Rattle.state_file.specs.Standing.{AreTold, until_of}
 use Rattle.state_file.specs.Telling.{Tell, rules_in}
@@ -16,17 +16,9 @@ TellBasis batches (NoLater moment) = until_of batches ≤ moment
 TellBasis batches (Rules rules) = Tell batches rules
 TellBasis batches Readable = ⊤
 
--- by a coincidence, an append to a file that stood whole left what no start reads
-pub record IsByChance (left : List ℕ) : Type 0 where
-  pub old : List ℕ
-  pub last : List ℕ
-  pub batch : List ℕ
-  pub whole : IsWhole last old
-  pub chance : IsChance old last batch left
-
--- So do the bytes of a file, by their batches; and a start reads them, but for such a coincidence.
+-- So do the bytes of a file, by their batches; and a start reads them.
 abbrev pub LeftTells : List ℕ → Basis → Type 0
-LeftTells left Readable = IsReadable left ⊎ IsByChance left
+LeftTells left Readable = IsReadable left
 LeftTells left basis = TellBasis (recovered left) basis
 
 -- the batch is of one change, which tells the greatest number of a family: it stands behind what was left of a list
@@ -39,7 +31,7 @@ shortened_size [] = 0
 shortened_size (batch ∷ later) =
     if list_any tells_number (batch ∷ later) then 21 + length batch + shortened_size later else 0
 
--- where the closed latch stands behind the frames of these batches
+-- where the frames of these batches end
 abbrev pub end_of : List (List ℕ) → ℕ
 end_of batches = 16 + frames_size batches
 

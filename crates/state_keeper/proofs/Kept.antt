@@ -3,10 +3,10 @@ use Rattle.std.proofs.Common.{◌≡◌, ◌⊎◌, ⊎_elim, ◌≤◌, inl, in
 use Rattle.std.proofs.lemmas.List.{append_cancel_left}
 use Rattle.state_keeper.proofs.Names.{LeavesOnly, recovered, IsOnDisk, BatchFile, Device, Event, Until, HoldsBasis, KeepsBasis, TellsBasis, RulesFact, HaveSpelling, batch_spelling, SeenKeeper}
 use Rattle.state_keeper.proofs.Names.{file_crashes, StandFor, until_of, AreDrafted, IsDraft, AreTold-changes, append-nil, until_of-append, until_of-more, Tell, last_rules, last_rules-push}
-use Rattle.batch_file.specs.Frames.{IsOldOrNew, IsBeforeOrAfter, IsChance, IsReadable, IsReadableOrChance}
+use Rattle.batch_file.specs.Frames.{IsOldOrNew, IsBeforeOrAfter, IsReadable}
 use Rattle.change_codec.specs.Keeping.{Basis, IsWithin, NoLater, Readable, Rules, Holds, Keeps, KeepsNot, LeavesEither, StandsForEither}
 use Rattle.consent.specs.History.{Happened}
-use Rattle.state_file.specs.Knowing.{IsByChance, LeftTells, TellBasis}
+use Rattle.state_file.specs.Knowing.{LeftTells, TellBasis}
 use Rattle.state_keeper.specs.Seen.{MayBe}
 use Rattle.state_file.specs.Renewing.{IsShortened}
 use Rattle.state_file.specs.StandingLaws.{StandFor-joined, StandFor-shortened}
@@ -159,17 +159,14 @@ abbrev pub HasMore : List ℕ → Leading
 HasMore batch old new = new ≡ old ++ batch ∷ []
 
 module _ {D : Type 0} (device : Device D) (old new : SeenKeeper D) (batch : List ℕ) where
-  pub more_leaves : IsOnDisk device.seen device.may_leave device.faults old.file →
+  pub more_leaves :
       LeavesOnly device.moment device.left_since old.file.device new.file.device (IsBeforeOrAfter (was device old) batch) →
-      LeavesOnly device.moment device.left_since old.file.device new.file.device (IsReadableOrChance (device.seen old.file.device) old.file.last batch) →
+      LeavesOnly device.moment device.left_since old.file.device new.file.device IsReadable →
       LeavesOnly device.moment device.left_since old.file.device new.file.device (λ _. device.reads_true old.file.device) →
       LeavesHeld device old new (HasMore batch)
-  more_leaves settled leaves readable trues =
+  more_leaves leaves readable trues =
       weaker (both (both leaves readable) trues)
-      (λ c is. (is.1, ⊎_elim (λ same. inl (inl same)) (λ now. inr (device.seen old.file.device, inl refl, now)) is.0.0, ⊎_elim (λ reads. inl reads) (λ chance. inr (by_chance c chance)) is.0.1))
-    where
-      by_chance : (c : List ℕ) → IsChance (device.seen old.file.device) old.file.last batch c → IsByChance c
-      by_chance c chance = record { old = device.seen old.file.device; last = old.file.last; batch = batch; whole = (old.file.end, settled.at_rest); chance = chance }
+      (λ c is. (is.1, ⊎_elim (λ same. inl (inl same)) (λ now. inr (device.seen old.file.device, inl refl, now)) is.0.0, is.0.1))
 
   pub more_now : LeavesHeld device old new (HasMore batch) → IsOnDisk device.seen device.may_leave device.faults new.file →
       (device.reads_true new.file.device → device.reads_true old.file.device) → ((c : List ℕ) → device.may_leave new.file.device c → device.reads_true new.file.device) →
@@ -192,11 +189,11 @@ module _ {D : Type 0} (device : Device D) (old new : SeenKeeper D) (batch : List
           )
 
       reads : (c : List ℕ) → c ≡ device.seen new.file.device → LeftTells c Readable
-      reads c is = inl (subst (λ (file : List ℕ). IsReadable file) (sym is) (at_rest_readable settled.at_rest))
+      reads c is = subst (λ (file : List ℕ). IsReadable file) (sym is) (at_rest_readable settled.at_rest)
 
       now : (c : List ℕ) → MayBe device new c → device.reads_true old.file.device × IsLed device old new (HasMore batch) (recovered c) × LeftTells c Readable
       now c (inl left) = (truth (true c left), here c (settled.durable c left), reads c (settled.durable c left))
-      now c (inr is) = (truth is.0, ⊎_elim (here c) (drafts c) is.1, ⊎_elim (reads c) (λ draft. inl draft.0) is.1)
+      now c (inr is) = (truth is.0, ⊎_elim (here c) (drafts c) is.1, ⊎_elim (reads c) (λ draft. draft.0) is.1)
 
 -- WHERE THE FILE STANDS AS IT WAS
 
@@ -258,7 +255,7 @@ stays_then device old mid new first second = record {
 
 -- it can be read
 reads_still : {D : Type 0} (device : Device D) (old new : BatchFile D) → StaysIn device old new → (c : List ℕ) → c ≡ device.seen old.device → LeftTells c Readable
-reads_still device old new stays c is = inl (subst (λ (file : List ℕ). IsReadable file) (stays.seen ∙ sym is) (at_rest_readable stays.settled.at_rest))
+reads_still device old new stays c is = subst (λ (file : List ℕ). IsReadable file) (stays.seen ∙ sym is) (at_rest_readable stays.settled.at_rest)
 
 module _ {D : Type 0} (device : Device D) (old new : SeenKeeper D) (stays : StaysIn device old.file new.file) where
   stays_reads : (c : List ℕ) → c ≡ device.seen old.file.device → LeftTells c Readable
@@ -282,7 +279,7 @@ module _ {D : Type 0} (device : Device D) (old new : SeenKeeper D) (stays : Stay
       now c (inr is) = (
         stays.truth is.0,
         ⊎_elim (here c) (λ draft. drafts c (draft.0, subst (λ (bs : List (List ℕ)). AreDrafted new.front bs (recovered c)) (ap recovered stays.seen) draft.1)) is.1,
-        ⊎_elim (reads c) (λ draft. inl draft.0) is.1,
+        ⊎_elim (reads c) (λ draft. draft.0) is.1,
       )
 
   -- a shortening goes on
@@ -313,7 +310,7 @@ module _ {D : Type 0} (device : Device D) (old mid new : SeenKeeper D) (draft : 
       LeavesOnly device.moment device.left_since mid.file.device new.file.device (IsOldOrNew (recovered (device.seen mid.file.device)) draft) →
       LeavesOnly device.moment device.left_since mid.file.device new.file.device IsReadable →
       LeavesOnly device.moment device.left_since mid.file.device new.file.device (λ _. device.reads_true mid.file.device) → LeavesHeld device old new IsSame
-  placed_leaves leaves readable trues = then (both stays.leaves stays.trues) (both (both leaves readable) trues) (λ c is. (is.1, inl (inl (ap recovered is.0)), reads_still device old.file mid.file stays c is.0)) (λ c is. (stays.truth is.1, inl (by c is.0.0 is.0.1 is.1), inl is.0.1))
+  placed_leaves leaves readable trues = then (both stays.leaves stays.trues) (both (both leaves readable) trues) (λ c is. (is.1, inl (inl (ap recovered is.0)), reads_still device old.file mid.file stays c is.0)) (λ c is. (stays.truth is.1, inl (by c is.0.0 is.0.1 is.1), is.0.1))
     where
       by : (c : List ℕ) → IsOldOrNew (recovered (device.seen mid.file.device)) draft c → IsReadable c → device.reads_true mid.file.device → IsHeld device old c
       by c (inl same) reads true = inl (same ∙ ap recovered stays.seen)
@@ -327,7 +324,7 @@ module _ {D : Type 0} (device : Device D) (old mid new : SeenKeeper D) (draft : 
       here : (c : List ℕ) → c ≡ device.seen new.file.device → device.reads_true new.file.device → device.reads_true old.file.device × IsLed device old new IsSame (recovered c) × LeftTells c Readable
       here c is t =
           let reads : IsReadable c = subst (λ (file : List ℕ). IsReadable file) (sym is) (at_rest_readable settled.at_rest) in
-          (stays.truth (truth t), (c, inr (reads, subst (λ (bs : List (List ℕ)). AreDrafted old.front (was device old) bs) (sym (ap recovered is ∙ are)) (drafted (truth t))), refl), inl reads)
+          (stays.truth (truth t), (c, inr (reads, subst (λ (bs : List (List ℕ)). AreDrafted old.front (was device old) bs) (sym (ap recovered is ∙ are)) (drafted (truth t))), refl), reads)
 
       now : (c : List ℕ) → MayBe device new c → device.reads_true old.file.device × IsLed device old new IsSame (recovered c) × LeftTells c Readable
       now c (inl left) = here c (settled.durable c left) (true c left)

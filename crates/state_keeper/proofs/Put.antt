@@ -18,14 +18,11 @@ use Rattle.batch_file.specs.Frames.{IsAsBefore, header}
 use Rattle.batch_file.specs.FramesLaws.{file_is, length-frames, readable_is}
 
 module _ {D : Type 0} (device : Device D) where
-  -- where the closed latch of a file stands
+  -- where the frames of a file end
   pub end_at : (file : BatchFile D) → IsOnDisk device.seen device.may_leave device.faults file → file.end ≡ 16 + frames_size (recovered (device.seen file.device))
   end_at file is =
       let rest = is.at_rest in
-      let whole = ap length rest.is ∙ length-append header (rest.frames ++ 0 ∷ []) in
-      let behind = length-append rest.frames (0 ∷ []) in
-      let size = length-frames (recovered (device.seen file.device)) header file.last rest.frames rest.are in
-      let all = rest.size in omega (arith, whole, behind, size, all)
+      omega (arith, rest.ends, length-frames (recovered (device.seen file.device)) header file.last rest.frames rest.are)
 
   -- what holds by a weaker claim
   pub leaves_weaker : (old new : D) (P Q : List ℕ → Type 0) → ((c : List ℕ) → P c → Q c) → LeavesOnly device.moment device.left_since old new P → LeavesOnly device.moment device.left_since old new Q

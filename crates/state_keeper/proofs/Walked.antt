@@ -54,15 +54,8 @@ on_both (Ok x) P R Q f p q = f p q
 on_both (Err e) P R Q f p q = tt
 
 -- a file ends behind its frames
-pub end_is_end : (end : ℕ) (last file : List ℕ) → IsAtRest end last file → end ≡ end_of (recovered file)
-end_is_end end last file rest =
-    let head : length header ≡ 16 = refl in
-    let a = ap length rest.is in
-    let b = length-append header (rest.frames ++ 0 ∷ []) in
-    let c = length-append rest.frames (0 ∷ []) in
-    let d = length-frames (recovered file) header last rest.frames rest.are in
-    let size = rest.size in
-    omega (arith, head, a, b, c, d, size)
+pub end_is_end : {room : ℕ} (end : ℕ) (last file : List ℕ) → IsAtRest end room last file → end ≡ end_of (recovered file)
+end_is_end end last file rest = omega (arith, rest.ends, length-frames (recovered file) header last rest.frames rest.are)
 
 module _ {D : Type 0} (device : Device D) (rules : List ℕ) (old new : BatchFile D) (course : Course) (keeps : KeepsFile device old new) where
   -- A FRAME MORE

@@ -52,14 +52,14 @@ module _ {D : Type 0} (device : Device D) where
 
   -- what a call of the device on the file beside it promises
   pub keeps_beside : (old new : BatchFile D) → ((c : List ℕ) → device.left_since old.device (device.moment old.device) c → device.may_leave old.device c) →
-      ((c : List ℕ) → device.may_leave old.device c → device.reads_true old.device) → IsOnDisk device.seen device.may_leave device.faults old → new.end ≡ old.end → new.last ≡ old.last →
+      ((c : List ℕ) → device.may_leave old.device c → device.reads_true old.device) → IsOnDisk device.seen device.may_leave device.faults old → new.end ≡ old.end → new.room ≡ old.room → new.last ≡ old.last →
       IsBeside device.seen device.may_leave device.faults old.device new.device →
       Elapses (device.moment old.device) (device.moment new.device) (device.left_since old.device) (device.left_since new.device) (device.may_leave new.device) →
       (device.reads_true new.device → device.reads_true old.device) → KeepsFile device old new
-  keeps_beside old new only_now only_true settled end last beside time truth = record {
+  keeps_beside old new only_now only_true settled end room last beside time truth = record {
     stands = record {
       settled = record {
-        at_rest = rw (end, last, beside.bytes) settled.at_rest;
+        at_rest = rw (end, room, last, beside.bytes) settled.at_rest;
         durable = λ c may. settled.durable c (beside.crash c may) ∙ sym beside.bytes;
         faultless = beside.no_fault ∙ settled.faultless;
       };

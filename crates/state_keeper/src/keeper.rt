@@ -6,6 +6,7 @@ use crate::course::HEADER;
 use crate::passing::Shortening;
 use batch_file::appending::{BatchFault, BatchFile};
 use batch_file::device::Device;
+use batch_file::system::SystemFault;
 use change_codec::{Batch, KeepFault, Keeper, Length, ShortenFault};
 use consent::Moment;
 use state_file::{Known, horizon, size_behind};
@@ -83,6 +84,13 @@ impl<D: Device> StateKeeper<D> {
         self.known.shortened
     }
 
+    /// Why its file is not made longer, where the disk refused that last: what it has in reserve serves.
+    pub fn refused(&self) -> Option<SystemFault>
+        ensures { result ≡ self.now.file.refused }
+    {
+        self.file.refused
+    }
+
     /// The device of its file.
     pub fn into_device(self) -> D
         ensures { result ≡ self.file.device }
@@ -108,7 +116,7 @@ impl<D: Device> Keeper for StateKeeper<D> {
 
     ghost left_since = { λ k. D.left_since k.file.device };
 
-    // With the closed latch behind the last frame.
+    // With one zero behind the last frame.
     ghost size_of = { λ k. Some (min (k.file.end + 1) (2 ^ 64 - 1)) };
 
     // It has a fault, and keeps nothing more.
@@ -128,7 +136,7 @@ impl<D: Device> Keeper for StateKeeper<D> {
         if self.fault.is_some() {
             return Err(KeepFault::Failed);
         }
-        match self.file.append(batch.bytes()) {
+        match self.file.append(self.alloc, batch.bytes()) {
             Ok(()) => {
                 let size = self.file.end - HEADER;
                 self.known.shortened = size_behind(batch.bytes(), size, self.known.shortened);
@@ -150,7 +158,7 @@ impl<D: Device> Keeper for StateKeeper<D> {
             return Ok(());
         }
         let until = horizon_at(now);
-        match self.file.append(&horizon(until)) {
+        match self.file.append(self.alloc, &horizon(until)) {
             Ok(()) => {
                 // It bounds what is counted.
                 let _end = self.file.end;

@@ -48,7 +48,7 @@ returns-in-Ok g c =
     let more : HasOneMore device file c.append.new.self batch =
     record { before = is.0; settled = c.in-Ok.ensures.settled; added = c.in-Ok.ensures.added; next = c.in-Ok.ensures.next; truth = c.in-Ok.ensures.truth } in
     let now : HasNow device old new (HasMore batch) =
-    more_now device old new batch (more_leaves device old new batch is.0 c.in-Ok.ensures.any_moment c.in-Ok.ensures.readable c.in-Ok.ensures.true_before) c.in-Ok.ensures.settled c.in-Ok.ensures.truth
+    more_now device old new batch (more_leaves device old new batch c.in-Ok.ensures.any_moment c.in-Ok.ensures.readable c.in-Ok.ensures.true_before) c.in-Ok.ensures.settled c.in-Ok.ensures.truth
     (λ left may. g.met.D.Device.only_true c.append.new.self.device left may) c.in-Ok.ensures.added
     (begun_in device file c.self.inside.known.rules.items s is.2)
     (same_front device file c.append.new.self batch c.self.inside.known.rules.items more s is.2) in
@@ -75,7 +75,7 @@ returns-in-Err g c =
     let old = keeper_of file c.self.inside.fault (front_if device file s) (to_go_if s file.end) c.self.inside.known.shortened in
     let new = keeper_of c.append.new.self (Some c.in-Err.refused) (front_if device c.append.new.self s) (to_go_if s c.append.new.self.end) c.self.inside.known.shortened in
     let is = c.self.invariant (search rules) in
-    let any = more_leaves device old new batch is.0 c.in-Err.ensures.any_moment c.in-Err.ensures.readable c.in-Err.ensures.true_before in
+    let any = more_leaves device old new batch c.in-Err.ensures.any_moment c.in-Err.ensures.readable c.in-Err.ensures.true_before in
     rw (← c.self.view_is) (record {
       kept = tt;
       lost = λ history. keeps_not device old new (HasMore batch) history history any
