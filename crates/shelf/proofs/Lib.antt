@@ -1,6 +1,7 @@
 pub mod Keyed
 pub mod Naming
 pub mod Slotting
+pub mod Seating
 pub mod Tallying
 pub mod Timing
 pub mod Sorting

@@ -5,10 +5,11 @@ use Rattle.std.specs.Str.{bytes_eq}
 use Rattle.std.proofs.lemmas.Bool.Decides.{nat_tests}
 use Rattle.chains.specs.declared.chains.Chains.{Chains}
 use Rattle.chains.specs.Chained.{Chained, HasCell, IsBehind, first_of, to_go}
-use Rattle.chains.specs.ChainedLaws.{there_once, to_go-less}
+use Rattle.chains.specs.ChainedLaws.{in_place, there_once, to_go-less}
 use Rattle.chains.specs.Following.{follows_cell, headed, times, times-append, times-cons, unheaded}
 use Rattle.shelf.specs.declared.shelf.Shelf.{Shelf}
 use Rattle.shelf.specs.declared.shelf.Slot.{Slot}
+use Rattle.shelf.specs.Looking.{is_held}
 use Rattle.shelf.specs.Shelved.{bucket, entries_in, is_keyed, name_place, slot_at}
 use Rattle.shelf.proofs.Keyed.{IsKeys, slot_unfound}
 
@@ -53,6 +54,20 @@ module _ {K R : Type 0} (names : Chains) (slots : List (Option (Slot K R))) (pla
       let whole = ap (times x) split in
       follows_cell names.cells.items names.heads list (passed.named.lists list) x (passed.named.follows list passed.is_list) (grind (arith, nat_tests, own, both, whole))
 
+  -- something is in the slot, where no empty one has the list for its place
+  pub way_held : placer x None ≢ Some list → is_held (slot_at slots x) ≡ true
+  way_held unlisted =
+      let own = times-cons x x more in
+      let both = times-append x passed.front (x ∷ more) in
+      let whole = ap (times x) split in
+      let some : 0 < times x (passed.named.lists list) = grind (arith, nat_tests, own, both, whole) in
+      let at = in_place list x (times x (passed.named.lists list)) (placer x (slot_at slots x)) (passed.named.placed list x passed.is_list) some in
+      by (slot_at slots x) refl at
+    where
+      by : (o : Option (Slot K R)) → slot_at slots x ≡ o → placer x (slot_at slots x) ≡ Some list → is_held (slot_at slots x) ≡ true
+      by None is at = absurd (unlisted (ap (placer x) (sym is) ∙ at))
+      by (Some s) is at = ap is_held is
+
   pub way_nearer : (next : Option ℕ) → IsBehind passed.named x next → to_go names next < to_go names (Some x)
   way_nearer next behind = rw (behind list passed.front more passed.is_list split) (to_go-less passed.named list passed.front x more passed.is_list split)
 
@@ -73,6 +88,11 @@ module _ {K R : Type 0} (names : Chains) (slots : List (Option (Slot K R))) (pla
           let both = times-append z passed.front (x ∷ []) in
           let one = times-cons z x [] in
           passed.unnamed z (grind (arith, both, one, some, ne))
+
+-- what a key names is held
+pub keyed_held : {K R : Type 0} (eq : K → K → Bool) (key : K) (o : Option (Slot K R)) → is_keyed eq key o ≡ true → is_held o ≡ true
+keyed_held eq key None is = cc
+keyed_held eq key (Some s) is = refl
 
 -- at the end of the list, in which all that the key names is, the key names nothing
 pub way_ends : {K R : Type 0} {eq : K → K → Bool} (keys : IsKeys eq) (names : Chains) (slots : List (Option (Slot K R))) (placer : ℕ → Option (Slot K R) → Option ℕ) (list : ℕ) (key : K) → IsPassed names slots placer eq list key None →

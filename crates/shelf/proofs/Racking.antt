@@ -36,6 +36,14 @@ rack_begun {V} names lists named some heads cells = record {
     never : (x : ℕ) → nat_lt x 0 ≡ false
     never x = grind (arith, nat_tests)
 
+-- an empty slot is in no list of a number
+pub unlisted : {V : Type 0} (slots : List (Option (Slot ℕ V))) (lists n x : ℕ) → 0 < lists → number_place {V = V} lists (length slots) x None ≢ Some (n % lists)
+unlisted {V} slots lists n x some is = by (nat_lt x (length slots)) refl
+  where
+    by : (b : Bool) → nat_lt x (length slots) ≡ b → ⊥
+    by true inside = (let low = mod_below n lists some in let own : number_place {V = V} lists (length slots) x None ≡ Some lists = rw inside refl in let both : Some lists ≡ Some (n % lists) = sym own ∙ is in absurd (grind (arith, low, both)))
+    by false outside = (let own : number_place {V = V} lists (length slots) x None ≡ None = rw outside refl in let both : None ≡ Some (n % lists) = sym own ∙ is in cc)
+
 -- A FREE SLOT
 
 -- what is in the last list is an empty slot

@@ -1,5 +1,6 @@
 pub mod Keeping
 pub mod Tallying
+pub mod Seated
 pub mod Shelved
 pub mod Looking
 pub mod Standing

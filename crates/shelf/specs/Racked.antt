@@ -45,7 +45,7 @@ IsSpare rack x = Spared rack.slots.items rack.names rack.lists rack.used x
 
 -- so many more can be put there
 abbrev pub rack_room : {V : Type 0} → Rack V → ℕ
-rack_room rack = min (rack.slots.cap - rack.slots.len) (chained.room rack.names)
+rack_room rack = min rack.slots.room (chained.room rack.names)
 
 -- this had the number, and is not kept any more
 abbrev pub HasTakenOut : {V : Type 0} → (old new : List (ℕ × V)) → ℕ → V → Type 0

@@ -195,7 +195,7 @@ pub record IsHeldAt {R : Type 0} (shelf : Shelf R) (x : ℕ) : Type 0 where
 
 -- for so many slots more there is room
 abbrev pub slot_room : {R : Type 0} → Shelf R → ℕ
-slot_room shelf = min (shelf.slots.cap - shelf.slots.len) (min (chained.room shelf.names) (chained.room shelf.wheel))
+slot_room shelf = min shelf.slots.room (min (chained.room shelf.names) (chained.room shelf.wheel))
 
 -- so many more can be put there
 abbrev pub room : {R : Type 0} → Shelf R → ℕ

@@ -1,32 +1,24 @@
 //! How many have not expired.
-ghost use Rattle.std.specs.Prelude.{◌≡◌, ◌+◌, ◌≤◌, false, count_by, nat_lt};
+ghost use Rattle.std.specs.Prelude.{◌≡◌, ◌+◌, ◌<◌, ◌≤◌, ◌^◌, false, count_by, nat_lt, if◌then◌else◌};
 ghost use Rattle.std.specs.Map.{values_of};
-ghost use Rattle.shelf.specs.Shelved.{entries_of, in_slot, is_noticed, lasts, lasts_of, IsShelved};
+ghost use Rattle.shelf.specs.Shelved.{entries_of, in_slot, is_noticed, lasts, lasts_of, slot_at, IsShelved};
 
-use crate::shelf::{Lasts, PENDING, Shelf, Slot};
-use consent::{Digest, Moment};
+use crate::shelf::{Lasts, PENDING, Shelf};
+use crate::slots::Blank;
+use consent::Moment;
 
-// Whether something is in the slot that has not expired.
-fn is_lasting<R: Lasts>(slot: &Option<Slot<Digest, R>>, moment: Moment) -> bool
-    ensures { result ≡ in_slot (lasts R.until moment) slot.now }
+// One more, if it counts.
+fn more_if(count: usize, counts: bool) -> usize
+    requires { count + 1 < 2 ^ 64 }
+    ensures { result ≡ count + (if counts then 1 else 0) }
 {
-    let Some(found) = slot else {
-        return false;
-    };
-    moment.get() < found.kept.until()
+    if counts {
+        return count + 1;
+    }
+    count
 }
 
-// And it is of whose number this is.
-fn is_lasting_of<R: Lasts>(slot: &Option<Slot<Digest, R>>, whose: u32, moment: Moment) -> bool
-    ensures { result ≡ in_slot (lasts_of R.until R.whose whose moment) slot.now }
-{
-    let Some(found) = slot else {
-        return false;
-    };
-    moment.get() < found.kept.until() && found.kept.whose() == whose
-}
-
-impl<R: Lasts + Drop> Shelf<R> {
+impl<R: Lasts + Blank + Drop> Shelf<R> {
     // Whether what has expired at the moment is due, and nothing else is.
     fn is_noticed(&self, moment: Moment) -> bool
         requires { IsShelved R.until R.whose self.now }
@@ -42,15 +34,36 @@ impl<R: Lasts + Drop> Shelf<R> {
         moment.get() + 1 < self.second
     }
 
+    // Whether something is in the slot that has not expired.
+    fn is_lasting(&self, slot: usize, moment: Moment) -> bool
+        ensures { result ≡ in_slot (lasts R.until moment) (slot_at self.now.slots.items slot) }
+    {
+        let Some(found) = self.slots.get(slot) else {
+            return false;
+        };
+        moment.get() < found.kept.until()
+    }
+
+    // And it is of whose number this is.
+    fn is_lasting_of(&self, slot: usize, whose: u32, moment: Moment) -> bool
+        ensures { result ≡ in_slot (lasts_of R.until R.whose whose moment) (slot_at self.now.slots.items slot) }
+    {
+        let Some(found) = self.slots.get(slot) else {
+            return false;
+        };
+        moment.get() < found.kept.until() && found.kept.whose() == whose
+    }
+
     // In how many slots something is that has not expired: all are looked at.
     fn count_in(&self, moment: Moment) -> usize
         requires { is_noticed self.now moment ≡ false }
         ensures { result ≡ count_by (in_slot (lasts R.until moment)) self.now.slots.items }
     {
-        self.slots
-            .iter()
-            .filter(|slot| is_lasting(slot, moment))
-            .count()
+        let mut count = 0;
+        for slot in 0..self.slots.len() {
+            count = more_if(count, self.is_lasting(slot, moment));
+        }
+        count
     }
 
     // And it is of whose number this is.
@@ -58,10 +71,11 @@ impl<R: Lasts + Drop> Shelf<R> {
         requires { is_noticed self.now moment ≡ false }
         ensures { result ≡ count_by (in_slot (lasts_of R.until R.whose whose moment)) self.now.slots.items }
     {
-        self.slots
-            .iter()
-            .filter(|slot| is_lasting_of(slot, whose, moment))
-            .count()
+        let mut count = 0;
+        for slot in 0..self.slots.len() {
+            count = more_if(count, self.is_lasting_of(slot, whose, moment));
+        }
+        count
     }
 
     /// How many have not expired at the moment. Where that was noticed, none is looked at.

@@ -6,24 +6,22 @@ ghost use Rattle.shelf.specs.Looking.{is_expired, is_held, IsDueIn, IsExpiredAt}
 
 use crate::filling::list_for;
 use crate::shelf::{DUE, FREE, Lasts, PENDING, SECONDS, Shelf};
+use crate::slots::Blank;
 use consent::Moment;
 
-impl<R: Lasts + Drop> Shelf<R> {
+impl<R: Lasts + Blank + Drop> Shelf<R> {
     // Whether something is in the slot.
     pub(crate) fn is_held(&self, slot: u32) -> bool
         ensures { result ≡ is_held (slot_at self.now.slots.items slot) }
     {
-        let Some(Some(_)) = self.slots.get(slot as usize) else {
-            return false;
-        };
-        true
+        self.slots.holds(slot as usize)
     }
 
     // Whether what is in the slot has expired.
     fn is_expired(&self, slot: usize, moment: Moment) -> bool
         ensures { result ≡ is_expired R.until moment (slot_at self.now.slots.items slot) }
     {
-        let Some(Some(found)) = self.slots.get(slot) else {
+        let Some(found) = self.slots.get(slot) else {
             return false;
         };
         found.kept.until() <= moment.get()

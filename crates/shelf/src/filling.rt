@@ -7,10 +7,10 @@ ghost use Rattle.std.specs.Str.{bytes_eq};
 ghost use Rattle.shelf.specs.Shelved.{entries_of, list_for, room, slot_at, slot_room, to_sort, Finds, HasTaken, IsCountedAs, IsHeldAt, IsLoose, IsShelved, Named, Puts};
 
 use crate::finding::bucket;
-use crate::shelf::{DUE, FREE, Lasts, SECONDS, Shelf, Slot};
+use crate::shelf::{DUE, FREE, Lasts, SECONDS, Shelf};
+use crate::slots::Blank;
 use consent::Digest;
 use std::alloc::AllocError;
-use std::mem;
 
 // The list of what expires then, where this second is next: what is of a second that is over is due.
 pub(crate) fn list_for(second: u64, until: u64) -> usize
@@ -22,7 +22,7 @@ pub(crate) fn list_for(second: u64, until: u64) -> usize
     (until % SECONDS as u64) as usize
 }
 
-impl<R: Lasts + Drop> Shelf<R> {
+impl<R: Lasts + Blank + Drop> Shelf<R> {
     /// Takes the memory for so many more.
     pub fn reserve(&mut self, more: usize) -> Result<(), AllocError>
         requires { IsShelved R.until R.whose self.old }
@@ -37,7 +37,7 @@ impl<R: Lasts + Drop> Shelf<R> {
     }
 
     // A slot in which nothing is, and which is in no list.
-    fn free_slot(&mut self) -> u32
+    fn free_slot(&mut self, digest: &Digest) -> u32
         requires shelved { IsShelved R.until R.whose self.old }
         requires room { 1 ≤ slot_room self.old }
         ensures loose { IsLoose R.until R.whose self.new result }
@@ -49,9 +49,7 @@ impl<R: Lasts + Drop> Shelf<R> {
             return slot;
         }
         let slot = self.slots.len() as u32;
-        let Ok(()) = self.slots.push(None) else {
-            unreachable!()
-        };
+        self.slots.widen(*digest);
         self.names.widen();
         self.wheel.widen();
         slot
@@ -73,7 +71,7 @@ impl<R: Lasts + Drop> Shelf<R> {
         let list = bucket(&self.names, digest);
         self.names.push(list, slot);
         self.wheel.push(list_for(self.second, until), slot);
-        self.slots[slot as usize] = Some(Slot { key: *digest, kept });
+        self.slots.fill(slot as usize, *digest, kept);
         self.used += 1;
     }
 
@@ -113,9 +111,8 @@ impl<R: Lasts + Drop> Shelf<R> {
         self.tally.leave_if(counts, facts.whose);
         let list = bucket(&self.names, &facts.digest);
         self.names.remove(list, slot);
-        let taken = mem::replace(&mut self.slots[slot as usize], None);
         self.used -= 1;
-        Some(taken?.kept)
+        Some(self.slots.clear(slot as usize))
     }
 
     /// Takes what the digest names.
@@ -141,7 +138,7 @@ impl<R: Lasts + Drop> Shelf<R> {
         ensures room { room self.old ≤ room self.new + 1 }
     {
         let was = self.take(digest);
-        let slot = self.free_slot();
+        let slot = self.free_slot(digest);
         self.fill(slot, digest, kept);
         was
     }

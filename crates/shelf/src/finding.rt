@@ -2,12 +2,13 @@
 ghost use Rattle.std.specs.Prelude.{◌≡◌, ◌<◌, ◌≤◌, true, IfSome, IfNone, None, option_copied, option_map};
 ghost use Rattle.std.specs.Str.{bytes_eq};
 ghost use Rattle.std.specs.Map.{lookup};
+ghost use Rattle.shelf.specs.Looking.{is_held};
 ghost use Rattle.shelf.specs.Shelved.{bucket, entries_of, facts_of, is_named, room, slot_at, spent_in, IsShelved};
 
-use crate::shelf::{Facts, Lasts, Shelf, Slot};
+use crate::shelf::{Facts, Lasts, Shelf};
+use crate::slots::Blank;
 use chains::Chains;
 use consent::Digest;
-use std::mem;
 
 // The list of what the digest names: a digest is SHA-256, so its first bytes are spread evenly.
 pub(crate) fn bucket(names: &Chains, digest: &Digest) -> usize
@@ -20,24 +21,12 @@ pub(crate) fn bucket(names: &Chains, digest: &Digest) -> usize
     word as usize % names.lists()
 }
 
-impl<R: Lasts + Drop> Shelf<R> {
-    // What is in the slot, if anything is.
-    fn held(&self, slot: u32) -> Option<&Slot<Digest, R>>
-        ensures { option_copied result ≡ slot_at self.now.slots.items slot }
-    {
-        let Some(Some(found)) = self.slots.get(slot as usize) else {
-            return None;
-        };
-        Some(found)
-    }
-
+impl<R: Lasts + Blank + Drop> Shelf<R> {
     // What the lists and the tally tell of it.
     pub(crate) fn facts_of(&self, slot: u32) -> Option<Facts>
         ensures { result ≡ option_map (facts_of R.until R.whose) (slot_at self.now.slots.items slot) }
     {
-        let Some(Some(found)) = self.slots.get(slot as usize) else {
-            return None;
-        };
+        let found = self.slots.get(slot as usize)?;
         Some(Facts {
             digest: found.key,
             until: found.kept.until(),
@@ -45,14 +34,12 @@ impl<R: Lasts + Drop> Shelf<R> {
         })
     }
 
-    // Whether the digest names what is in the slot.
+    // Whether the digest names what is in the slot, in which something is.
     fn is_named(&self, slot: u32, digest: &Digest) -> bool
+        requires { is_held (slot_at self.now.slots.items slot) ≡ true }
         ensures { result ≡ is_named digest.now (slot_at self.now.slots.items slot) }
     {
-        let Some(Some(found)) = self.slots.get(slot as usize) else {
-            return false;
-        };
-        found.key == *digest
+        self.slots.at(slot as usize).key == *digest
     }
 
     // The slot of what the digest names.
@@ -77,7 +64,7 @@ impl<R: Lasts + Drop> Shelf<R> {
         ensures { option_copied result ≡ lookup (bytes_eq digest.now) (entries_of self.now) }
     {
         let slot = self.find(digest)?;
-        Some(&self.held(slot)?.kept)
+        Some(&self.slots.at(slot as usize).kept)
     }
 
     /// What the digest names was used, if it names something.
@@ -90,10 +77,8 @@ impl<R: Lasts + Drop> Shelf<R> {
         let Some(slot) = self.find(digest) else {
             return;
         };
-        let Some(mut found) = mem::replace(&mut self.slots[slot as usize], None) else {
-            return;
-        };
-        found.kept.spend();
-        self.slots[slot as usize] = Some(found);
+        let mut kept = self.slots.clear(slot as usize);
+        kept.spend();
+        self.slots.fill(slot as usize, *digest, kept);
     }
 }

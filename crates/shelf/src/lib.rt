@@ -11,10 +11,12 @@ mod finding;
 mod looking;
 mod rack;
 mod shelf;
+mod slots;
 mod stand;
 mod tally;
 
 pub use looking::Look;
 pub use rack::{Rack, Stays};
 pub use shelf::{Lasts, Shelf, Slot};
+pub use slots::{Blank, Slots};
 pub use stand::Stand;

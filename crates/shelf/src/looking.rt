@@ -4,6 +4,7 @@ ghost use Rattle.shelf.specs.Shelved.{due_left, entries_of, room, IsSettled, IsS
 ghost use Rattle.shelf.specs.Looking.{is_done, to_look, LooksAt};
 
 use crate::shelf::{Lasts, Shelf};
+use crate::slots::Blank;
 use consent::Moment;
 
 /// What came of a look at what may have expired.
@@ -17,7 +18,7 @@ pub enum Look<R> {
     Done,
 }
 
-impl<R: Lasts + Drop> Shelf<R> {
+impl<R: Lasts + Blank + Drop> Shelf<R> {
     // One of those that are pending is where it belongs, or else the next second has come, if it is not
     // after the moment.
     fn go_on(&mut self, moment: Moment) -> bool

@@ -1,22 +1,22 @@
 //! What is kept under numbers.
-ghost use Rattle.std.specs.Prelude.{◌≡◌, ◌+◌, ◌%◌, ◌<◌, ◌≤◌, ◌∷◌, ℕ, Bool, [], true, None, Some, IfOk, IfSome, IfNone, OnOk, is_some, length, nat_eq, option_copied, slice_set};
+ghost use Rattle.std.specs.Prelude.{◌≡◌, ◌+◌, ◌%◌, ◌<◌, ◌≤◌, ◌∷◌, ℕ, Bool, [], true, None, Some, IfOk, IfSome, IfNone, OnOk, length, nat_eq, option_copied, slice_set};
 ghost use Rattle.std.specs.List.{filter};
 ghost use Rattle.std.specs.List.Sorted.{IsPermutation};
 ghost use Rattle.std.specs.Map.{lookup};
 ghost use Rattle.chains.specs.Chained.{none};
+ghost use Rattle.shelf.specs.Looking.{is_held};
 ghost use Rattle.shelf.specs.Shelved.{is_keyed, slot_at};
 ghost use Rattle.shelf.specs.Racked.{leaving_in, rack_entries, rack_room, set_in, FindsIn, HasCleared, HasTakenOut, IsRacked, IsSpare, PutsIn};
 
-use crate::shelf::Slot;
+use crate::slots::{Blank, Slots};
 use crate::stand::{MOST, heads_for};
 use chains::Chains;
 use std::alloc::{AllocError, Global};
-use std::mem;
 
 /// What is kept, each under its number.
 #[derive(Drop)]
 pub struct Rack<V> {
-    pub(crate) slots: Vec<Option<Slot<u64, V>>>,
+    pub(crate) slots: Slots<u64, V>,
     /// The slots by number, and behind those lists the free ones.
     pub(crate) names: Chains,
     /// How many lists by number there are.
@@ -25,7 +25,7 @@ pub struct Rack<V> {
     pub(crate) used: usize,
 }
 
-impl<V: Drop> Rack<V> {
+impl<V: Blank + Drop> Rack<V> {
     /// Nothing, with so many lists by number, and the memory for so many slots.
     pub fn new(alloc: Global, lists: usize, slots: usize) -> Result<Rack<V>, AllocError>
         requires lists { 1 ≤ lists }
@@ -34,7 +34,7 @@ impl<V: Drop> Rack<V> {
         ensures empty { IfOk result (λ rack. rack_entries rack ≡ []) }
     {
         Ok(Rack {
-            slots: Vec::with_capacity(alloc, slots)?,
+            slots: Slots::new(alloc, slots)?,
             names: Chains::new(alloc, lists + 1, slots)?,
             lists,
             used: 0,
@@ -64,10 +64,10 @@ impl<V: Drop> Rack<V> {
     }
 
     /// The slots.
-    pub fn slots(&self) -> &[Option<Slot<u64, V>>]
-        ensures { result.now ≡ self.now.slots.items }
+    pub fn slots(&self) -> &Slots<u64, V>
+        ensures { result.now ≡ self.now.slots }
     {
-        self.slots.as_slice()
+        &self.slots
     }
 
     /// Takes the memory for so many more.
@@ -90,24 +90,12 @@ impl<V: Drop> Rack<V> {
         (number % self.lists as u64) as usize
     }
 
-    // What is in the slot, if anything is.
-    fn held(&self, slot: u32) -> Option<&Slot<u64, V>>
-        ensures { option_copied result ≡ slot_at self.now.slots.items slot }
-    {
-        let Some(Some(found)) = self.slots.get(slot as usize) else {
-            return None;
-        };
-        Some(found)
-    }
-
-    // Whether the number is that of what is in the slot.
+    // Whether the number is that of what is in the slot, in which something is.
     fn is_numbered(&self, slot: u32, number: u64) -> bool
+        requires { is_held (slot_at self.now.slots.items slot) ≡ true }
         ensures { result ≡ is_keyed nat_eq number (slot_at self.now.slots.items slot) }
     {
-        let Some(Some(found)) = self.slots.get(slot as usize) else {
-            return false;
-        };
-        number == found.key
+        number == self.slots.at(slot as usize).key
     }
 
     // The slot of what has the number.
@@ -132,25 +120,23 @@ impl<V: Drop> Rack<V> {
         ensures { option_copied result ≡ lookup (nat_eq number) (rack_entries self.now) }
     {
         let slot = self.find(number)?;
-        Some(&self.held(slot)?.kept)
+        Some(&self.slots.at(slot as usize).kept)
     }
 
     // Takes what is in the slot, which has the number.
-    fn evict(&mut self, slot: u32, number: u64) -> Option<V>
+    fn evict(&mut self, slot: u32, number: u64) -> V
         requires racked { IsRacked self.old }
         requires numbered { is_keyed nat_eq number (slot_at self.old.slots.items slot) ≡ true }
         ensures racked { IsRacked self.new }
         ensures slots { self.new.slots.items ≡ slice_set self.old.slots.items slot None }
-        ensures gone { IfSome result (λ v. HasTakenOut (rack_entries self.old) (rack_entries self.new) number v) }
-        ensures some { is_some result ≡ true }
+        ensures gone { HasTakenOut (rack_entries self.old) (rack_entries self.new) number result }
         ensures room { rack_room self.new ≡ rack_room self.old }
     {
         let list = self.list_of(number);
         self.names.remove(list, slot);
-        let taken = mem::replace(&mut self.slots[slot as usize], None);
         self.names.push(self.lists, slot);
         self.used -= 1;
-        Some(taken?.kept)
+        self.slots.clear(slot as usize)
     }
 
     /// Takes what has the number.
@@ -162,7 +148,7 @@ impl<V: Drop> Rack<V> {
         ensures room { rack_room self.new ≡ rack_room self.old }
     {
         let slot = self.find(number)?;
-        self.evict(slot, number)
+        Some(self.evict(slot, number))
     }
 
     /// Keeps this in the place of what has the number, if anything has.
@@ -175,11 +161,11 @@ impl<V: Drop> Rack<V> {
         let Some(slot) = self.find(number) else {
             return;
         };
-        self.slots[slot as usize] = Some(Slot { key: number, kept });
+        self.slots.fill(slot as usize, number, kept);
     }
 
     // A slot in which nothing is, and which is in no list.
-    fn free_slot(&mut self) -> u32
+    fn free_slot(&mut self, number: u64) -> u32
         requires racked { IsRacked self.old }
         requires room { 1 ≤ rack_room self.old }
         ensures spare { IsSpare self.new result }
@@ -190,9 +176,7 @@ impl<V: Drop> Rack<V> {
             return slot;
         }
         let slot = self.slots.len() as u32;
-        let Ok(()) = self.slots.push(None) else {
-            unreachable!()
-        };
+        self.slots.widen(number);
         self.names.widen();
         slot
     }
@@ -208,7 +192,7 @@ impl<V: Drop> Rack<V> {
     {
         let list = (number % self.lists as u64) as usize;
         self.names.push(list, slot);
-        self.slots[slot as usize] = Some(Slot { key: number, kept });
+        self.slots.fill(slot as usize, number, kept);
         self.used += 1;
     }
 
@@ -222,7 +206,7 @@ impl<V: Drop> Rack<V> {
         ensures room { rack_room self.old ≤ rack_room self.new + 1 }
     {
         let was = self.take(number);
-        let slot = self.free_slot();
+        let slot = self.free_slot(number);
         self.fill(slot, number, kept);
         was
     }
@@ -237,14 +221,12 @@ pub trait Stays {
         ensures { result ≡ stays self.now };
 }
 
-impl<V: Stays + Drop> Rack<V> {
+impl<V: Stays + Blank + Drop> Rack<V> {
     // The number of what is in the slot, if it does not stay.
     fn leaving(&self, slot: usize) -> Option<u64>
         ensures { result ≡ leaving_in V.stays (slot_at self.now.slots.items slot) }
     {
-        let Some(Some(found)) = self.slots.get(slot) else {
-            return None;
-        };
+        let found = self.slots.get(slot)?;
         if found.kept.stays() {
             return None;
         }

@@ -3,6 +3,7 @@ ghost use Rattle.std.specs.Prelude.{◌≡◌, ◌+◌, ◌≤◌, ◌<◌, ◌^
 ghost use Rattle.chains.specs.Chained.{none};
 ghost use Rattle.shelf.specs.Shelved.{entries_of, IsShelved, lists_of_wheel};
 
+use crate::slots::{Blank, Slots};
 use crate::tally::Tally;
 use chains::Chains;
 use consent::Digest;
@@ -61,7 +62,7 @@ pub(crate) struct Facts {
 /// What is kept.
 #[derive(Drop)]
 pub struct Shelf<R> {
-    pub(crate) slots: Vec<Option<Slot<Digest, R>>>,
+    pub(crate) slots: Slots<Digest, R>,
     /// The slots by what names them.
     pub(crate) names: Chains,
     /// The slots by when they expire, those that have, and the free ones.
@@ -74,7 +75,7 @@ pub struct Shelf<R> {
     pub(crate) second: u64,
 }
 
-impl<R: Lasts + Drop> Shelf<R> {
+impl<R: Lasts + Blank + Drop> Shelf<R> {
     /// Nothing, with so many lists by name, and the memory for so many slots. What expires before the
     /// second is due at once.
     pub fn new(
@@ -92,7 +93,7 @@ impl<R: Lasts + Drop> Shelf<R> {
         let names = Chains::new(alloc, heads, slots)?;
         let wheel = Chains::new(alloc, FREE + 1, slots)?;
         Ok(Shelf {
-            slots: Vec::with_capacity(alloc, slots)?,
+            slots: Slots::new(alloc, slots)?,
             names,
             wheel,
             tally: Tally::new(alloc),
@@ -108,12 +109,5 @@ impl<R: Lasts + Drop> Shelf<R> {
         ensures small { result < none }
     {
         self.used
-    }
-
-    /// The slots.
-    pub fn slots(&self) -> &[Option<Slot<Digest, R>>]
-        ensures { result.now ≡ self.now.slots.items }
-    {
-        self.slots.as_slice()
     }
 }

@@ -3,12 +3,13 @@ ghost use Rattle.std.specs.Prelude.{◌≡◌, ◌+◌, ◌<◌, ◌≤◌, ◌^
 ghost use Rattle.std.specs.Map.{lookup, values_of};
 ghost use Rattle.std.specs.Str.{bytes_eq};
 ghost use Rattle.chains.specs.Chained.{none};
-ghost use Rattle.shelf.specs.Shelved.{AllLast, Finds, HasGone, Puts, lasts, lasts_of, spent_in};
+ghost use Rattle.shelf.specs.Shelved.{AllLast, Finds, HasGone, Puts, lasts, lasts_of, slot_at, spent_in};
 ghost use Rattle.shelf.specs.Looking.{is_done, LooksAt};
 ghost use Rattle.shelf.specs.Standing.{stand_entries, stand_room, stand_slots, stand_to_look, IsStanding};
 
 use crate::looking::Look;
 use crate::shelf::{Lasts, Shelf, Slot};
+use crate::slots::Blank;
 use consent::{Digest, Moment};
 use std::alloc::{AllocError, Global};
 
@@ -40,7 +41,7 @@ pub(crate) fn heads_for(size: u32) -> usize
     heads
 }
 
-impl<R: Lasts + Drop> Stand<R> {
+impl<R: Lasts + Blank + Drop> Stand<R> {
     /// Nothing, and no memory yet: there will be for so many.
     pub fn new(size: u32) -> Stand<R>
         ensures standing { IsStanding R.until R.whose result }
@@ -51,13 +52,6 @@ impl<R: Lasts + Drop> Stand<R> {
             size,
             second: 0,
         }
-    }
-
-    /// There will be memory for so many, if none was taken yet.
-    pub fn ready_for(&mut self, size: u32)
-        ensures { self.new ≡ record self.old { size = size } }
-    {
-        self.size = size;
     }
 
     /// How many are kept, with those that have expired and were not let go of.
@@ -232,13 +226,23 @@ impl<R: Lasts + Drop> Stand<R> {
         shelf.count_of(whose, moment)
     }
 
-    /// The slots.
-    pub fn slots(&self) -> &[Option<Slot<Digest, R>>]
-        ensures { result.now ≡ stand_slots self.now }
+    /// How many slots there are.
+    pub fn slot_count(&self) -> usize
+        ensures { result ≡ length (stand_slots self.now) }
     {
         let Some(shelf) = &self.shelf else {
-            return &[];
+            return 0;
         };
-        shelf.slots()
+        shelf.slots.len()
+    }
+
+    /// What is in the slot, if anything is.
+    pub fn slot(&self, slot: usize) -> Option<&Slot<Digest, R>>
+        ensures { option_copied result ≡ slot_at (stand_slots self.now) slot }
+    {
+        let Some(shelf) = &self.shelf else {
+            return None;
+        };
+        shelf.slots.get(slot)
     }
 }

@@ -1,13 +1,12 @@
-use Rattle.std.proofs.Common.{◌≡◌, ◌%◌, ◌∙◌, Some, None, ap, length, refl, sym, arith}
+use Rattle.std.proofs.Common.{◌≡◌, ◌%◌, ◌∙◌, Some, None, ap, length, sym, arith}
 use Rattle.std.specs.Prelude.{nat_eq}
 use Rattle.std.specs.Map.{remove_entry}
 use Rattle.std.proofs.lemmas.Bool.Decides.{nat_tests}
-use Rattle.std.proofs.lemmas.List.{get_or_default}
 use Rattle.chains.specs.Chained.{moved}
-use Rattle.shelf.specs.declared.shelf.Slot.{Slot}
 use Rattle.shelf.specs.Racked.{number_place, place_in, rack_entries}
 use Rattle.shelf.specs.Shelved.{slot_at}
 use Rattle.shelf.proofs.Keyed.{fewer_out, keyed_slot, numbers, slot_found, slot_within, taken_out}
+use Rattle.shelf.proofs.Naming.{keyed_held}
 use Rattle.shelf.proofs.Racking.{rack_taken}
 use Rattle.shelf.proofs.Timing.{moves_out}
 use Rattle.shelf.proofs.rack.Rack.evict.Goals as goal
@@ -58,12 +57,15 @@ returns-clause-racked g c =
     let listed = ap (number_place old.lists (length items) x) there.1 ∙ ap (λ k. Some (k % old.lists)) is ∙ ap (λ k. Some k) (sym c.list_of-list.ensures.value) in
     let less = fewer_out numbers items x there.0 there.1 in
     let used = racked.used_is in
-    rw c.replace-taken.ensures.after
+    rw c.clear.ensures.items
     (rack_taken old c.push.new.self _ x there.0 racked there.1 (slot_within items x there.0 there.1) (omega (arith, less, used)) (c.push.ensures.shape.heads ∙ c.remove.ensures.shape.heads)
     (c.push.ensures.shape.cells ∙ c.remove.ensures.shape.cells) (c.push.ensures.put (moved place x None) (c.remove.ensures.out place racked.named listed) (moves_out place x)))
 
 pub returns-clause-slots : goal.returns-clause-slots
-returns-clause-slots g c = rw c.replace-taken.ensures.after refl
+returns-clause-slots g c = c.clear.ensures.items
+
+pub clear-requires : goal.clear-requires
+clear-requires g c = keyed_held nat_eq c.args.number (slot_at c.args.self.now.slots.items c.args.slot) c.requires.numbered
 
 pub returns-clause-gone : goal.returns-clause-gone
 returns-clause-gone g c =
@@ -74,17 +76,8 @@ returns-clause-gone g c =
     let there = keyed_slot nat_eq n (slot_at items x) c.requires.numbered in
     let s = there.0 in
     let is : s.key ≡ n = (let same = there.2 in grind (arith, nat_tests, same)) in
-    let found = c.in_ok-taken.field-0 in
-    let both : Some found ≡ Some s = sym c.in_ok-taken.was ∙ c.replace-taken.ensures.value ∙ c.index_mut.ensures.value ∙ get_or_default items x c.index_mut.result.now None (slot_within items x s there.1) ∙ there.1 in
-    let same : s ≡ found = grind (arith, both) in
+    let own = c.clear.ensures.value s there.1 in
     record {
-      found = slot_found numbers items x s n c.requires.racked.once there.1 there.2 ∙ ap (λ (t : Slot _ _). Some t.kept) same;
-      taken = rw c.replace-taken.ensures.after (taken_out numbers items x s c.requires.racked.once there.1 ∙ ap (λ k. remove_entry (nat_eq k) (rack_entries old)) is);
+      found = slot_found numbers items x s n c.requires.racked.once there.1 there.2 ∙ ap (λ v. Some v) (sym own);
+      taken = rw c.clear.ensures.items (taken_out numbers items x s c.requires.racked.once there.1 ∙ ap (λ k. remove_entry (nat_eq k) (rack_entries old)) is);
     }
-
-pub returns-in_err-taken-clause-some : goal.returns-in_err-taken-clause-some
-returns-in_err-taken-clause-some g c =
-    let items = c.args.self.now.slots.items in
-    let x = c.args.slot in
-    let there = keyed_slot nat_eq c.args.number (slot_at items x) c.requires.numbered in
-    absurd (let both : None ≡ Some there.0 = sym c.in_err-taken.was ∙ c.replace-taken.ensures.value ∙ c.index_mut.ensures.value ∙ get_or_default items x c.index_mut.result.now None (slot_within items x there.0 there.1) ∙ there.1 in cc)

@@ -23,12 +23,12 @@ returns-clause-racked g c =
     let x = c.args.slot in
     let spare = c.requires.spare in
     let place = place_in old.lists old.slots.items in
-    rack_filled old c.push.new.self (old.used + 1) x (record { key = c.args.number; kept = c.args.kept }) spare c.requires.new refl c.push.ensures.shape (c.push.ensures.put (moved place x None) spare.racked.named (moves_out place x))
+    rw c.fill.ensures.items (rack_filled old c.push.new.self (old.used + 1) x (record { key = c.args.number; kept = c.args.kept }) spare c.requires.new refl c.push.ensures.shape (c.push.ensures.put (moved place x None) spare.racked.named (moves_out place x)))
 
 pub returns-clause-put : goal.returns-clause-put
-returns-clause-put g c = let spare = c.requires.spare in filled_in numbers c.args.self.now.slots.items c.args.slot (record { key = c.args.number; kept = c.args.kept }) spare.empty spare.inside
+returns-clause-put g c = (let spare = c.requires.spare in rw c.fill.ensures.items (filled_in numbers c.args.self.now.slots.items c.args.slot (record { key = c.args.number; kept = c.args.kept }) spare.empty spare.inside))
 
 pub returns-clause-found : goal.returns-clause-found
 returns-clause-found g c = λ n.
     let spare = c.requires.spare in
-    filled_found numbers c.args.self.now.slots.items c.args.slot (record { key = c.args.number; kept = c.args.kept }) n spare.empty spare.inside c.requires.new
+    rw c.fill.ensures.items (filled_found numbers c.args.self.now.slots.items c.args.slot (record { key = c.args.number; kept = c.args.kept }) n spare.empty spare.inside c.requires.new)

@@ -4,7 +4,8 @@ use Rattle.std.proofs.lemmas.Bool.Decides.{nat_tests}
 use Rattle.chains.specs.Chained.{first_of, to_go}
 use Rattle.shelf.specs.Racked.{number_place}
 use Rattle.shelf.proofs.Keyed.{numbers}
-use Rattle.shelf.proofs.Naming.{IsPassed, way_begins, way_cell, way_nearer, way_goes_on, way_ends}
+use Rattle.shelf.proofs.Naming.{IsPassed, way_begins, way_cell, way_held, way_nearer, way_goes_on, way_ends}
+use Rattle.shelf.proofs.Racking.{unlisted}
 use Rattle.shelf.proofs.rack.Rack.find.Goals as goal
 
 pub loop-at-init : goal.loop-at-init
@@ -25,6 +26,14 @@ behind-at-requires g c =
     let n = c.args.number in
     let passed = subst (IsPassed old.names old.slots.items (λ x o. number_place old.lists (length old.slots.items) x o) nat_eq (n % old.lists) n) c.in-Some.is c.loop-at.invariant in
     way_cell old.names old.slots.items (λ x o. number_place old.lists (length old.slots.items) x o) nat_eq (n % old.lists) n c.in-Some.slot passed
+
+pub is_numbered-requires : goal.is_numbered-requires
+is_numbered-requires g c =
+    let old = c.args.self.now in
+    let n = c.args.number in
+    let some = c.requires.some in
+    let passed = subst (IsPassed old.names old.slots.items (λ x o. number_place old.lists (length old.slots.items) x o) nat_eq (n % old.lists) n) c.in-Some.is c.loop-at.invariant in
+    way_held old.names old.slots.items (λ x o. number_place old.lists (length old.slots.items) x o) nat_eq (n % old.lists) n c.in-Some.slot passed (unlisted old.slots.items old.lists n c.in-Some.slot (omega (arith, some)))
 
 pub loop-at-preserved : goal.loop-at-preserved
 loop-at-preserved g c =

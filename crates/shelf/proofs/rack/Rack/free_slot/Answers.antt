@@ -1,5 +1,5 @@
-use Rattle.std.proofs.Common.{◌≡◌, ◌+◌, ◌∙◌, ap, length, subst, sym, arith}
-use Rattle.shelf.specs.Racked.{Spared, place_in}
+use Rattle.std.proofs.Common.{◌+◌, ◌∙◌, ap, length}
+use Rattle.shelf.specs.Racked.{place_in}
 use Rattle.shelf.specs.Shelved.{entries_in}
 use Rattle.shelf.proofs.Putting.{blank_entries}
 use Rattle.shelf.proofs.Racking.{rack_popped, rack_widened}
@@ -13,16 +13,15 @@ returns-in-Some-clause-spare g c =
     rack_popped old c.pop.new.self c.in-Some.slot racked out.0 c.pop.ensures.shape out.1
 
 pub returns-clause-same : goal.returns-clause-same
-returns-clause-same g c = ap entries_in c.in-Ok.ensures.items ∙ blank_entries c.args.self.now.slots.items
+returns-clause-same g c = ap entries_in c.widen.ensures.items ∙ blank_entries c.args.self.now.slots.items
 
 pub returns-clause-spare : goal.returns-clause-spare
 returns-clause-spare g c =
     let old = c.args.self.now in
     let racked = c.requires.racked in
     let same = c.in_default.ensures.same in
-    let names = c.widen.new.self in
-    let at : length old.slots.items ≡ c.len-slot.result = (let is = c.len-slot.ensures in let ok = old.slots.ok in omega (arith, is, ok)) in
-    subst (λ items. Spared items names old.lists old.used c.len-slot.result) (sym c.in-Ok.ensures.items)
-    (subst (Spared _ names old.lists old.used) at
-    (rack_widened old names racked (c.widen.ensures.heads ∙ ap (λ n. n.heads) same) (c.widen.ensures.wider ∙ ap (λ n. length n.cells.items + 1) same)
-    (c.widen.ensures.same (place_in old.lists old.slots.items) (rw same racked.named))))
+    let names = c.widen-2.new.self in
+    let at = c.len-slot.ensures in
+    rw (c.widen.ensures.items, at)
+    (rack_widened old names racked (c.widen-2.ensures.heads ∙ ap (λ n. n.heads) same) (c.widen-2.ensures.wider ∙ ap (λ n. length n.cells.items + 1) same)
+    (c.widen-2.ensures.same (place_in old.lists old.slots.items) (rw same racked.named)))

@@ -18,12 +18,12 @@ loop-slot-preserved g c =
 pub loop-slot-smaller : goal.loop-slot-smaller
 loop-slot-smaller g c =
     let long = cleared_length g.V.Stays.stays c.loop-slot.self.slots.items c.keep_at.new.self.slots.items c.loop-slot.slot c.keep_at.ensures.cleared in
-    let ok = c.loop-slot.self.slots.ok in
+    let len = c.len.ensures in
     let test = c.loop-slot-test.true in
-    omega (arith, long, ok, test)
+    omega (arith, long, len, test)
 
 pub returns-clause-kept : goal.returns-clause-kept
 returns-clause-kept g c =
-    let ok = c.loop-slot.self.slots.ok in
+    let len = c.len.ensures in
     let test = c.loop-slot-test.false in
-    sym (all_stay g.V.Stays.stays c.loop-slot.self.slots.items (λ k inside. c.loop-slot.invariant.stay k (omega (arith, ok, test, inside)))) ∙ c.loop-slot.invariant.kept
+    sym (all_stay g.V.Stays.stays c.loop-slot.self.slots.items (λ k inside. c.loop-slot.invariant.stay k (omega (arith, len, test, inside)))) ∙ c.loop-slot.invariant.kept

@@ -39,11 +39,8 @@ push-requires-2-clause-cell g c =
     let cells = s.time_cells in
     omega (arith, inside, cells)
 
-pub index_mut-requires : goal.index_mut-requires
-index_mut-requires g c =
-    let inside = (c.requires.loose.shelved.loosed c.args.slot refl).1.0 in
-    let ok = c.args.self.now.slots.ok in
-    omega (arith, inside, ok)
+pub fill-requires : goal.fill-requires
+fill-requires g c = (c.requires.loose.shelved.loosed c.args.slot refl).1.0
 
 pub overflow_add-self : goal.overflow_add-self
 overflow_add-self g c =
@@ -66,15 +63,15 @@ returns-clause-shelved g c =
     let put = subst (λ n. Chained c.push.new.self (moved (λ y. name_place heads (slot_at old.slots.items y)) x (Some n))) c.bucket-list.ensures.value
     (c.push.ensures.put (λ y. name_place heads (slot_at old.slots.items y)) s.named (ap (name_place heads) own.1.1)) in
     let put' = subst (λ n. Chained c.push-2.new.self (moved stands.timer x (Some n))) (c.list_for.ensures ∙ ap (list_for old.second) c.until-until.ensures) (c.push-2.ensures.put stands.timer s.timed own.0) in
-    filled g.R.Lasts.until g.R.Lasts.whose old _ x (record { key = d; kept = c.args.kept }) stands c.requires.new refl c.push.ensures.shape put refl refl c.push-2.ensures.shape put'
+    filled g.R.Lasts.until g.R.Lasts.whose old _ x (record { key = d; kept = c.args.kept }) stands c.requires.new c.fill.ensures.items c.push.ensures.shape put refl refl c.push-2.ensures.shape put'
     (rw (c.until-until.ensures, c.whose.ensures) at c.enter_if.ensures.enters)
 
 pub returns-clause-put : goal.returns-clause-put
 returns-clause-put g c =
     let own = (c.requires.loose.shelved.loosed c.args.slot refl).1 in
-    filled_in digests c.args.self.now.slots.items c.args.slot (record { key = c.args.digest.now; kept = c.args.kept }) own.1 own.0
+    rw c.fill.ensures.items (filled_in digests c.args.self.now.slots.items c.args.slot (record { key = c.args.digest.now; kept = c.args.kept }) own.1 own.0)
 
 pub returns-clause-found : goal.returns-clause-found
 returns-clause-found g c = λ d.
     let own = (c.requires.loose.shelved.loosed c.args.slot refl).1 in
-    filled_found digests c.args.self.now.slots.items c.args.slot (record { key = c.args.digest.now; kept = c.args.kept }) d own.1 own.0 c.requires.new
+    rw c.fill.ensures.items (filled_found digests c.args.self.now.slots.items c.args.slot (record { key = c.args.digest.now; kept = c.args.kept }) d own.1 own.0 c.requires.new)

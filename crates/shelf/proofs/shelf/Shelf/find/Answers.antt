@@ -4,7 +4,7 @@ use Rattle.std.proofs.lemmas.Slice.Eq.{bytes_eq-Decides}
 use Rattle.chains.specs.Chained.{first_of, to_go}
 use Rattle.shelf.specs.Shelved.{bucket, name_place}
 use Rattle.shelf.proofs.Keyed.{digests}
-use Rattle.shelf.proofs.Naming.{IsPassedOn, way_begins, way_cell, way_nearer, way_goes_on, way_ends}
+use Rattle.shelf.proofs.Naming.{IsPassedOn, way_begins, way_cell, way_held, way_nearer, way_goes_on, way_ends}
 use Rattle.shelf.proofs.shelf.Shelf.find.Goals as goal
 
 pub loop-at-init : goal.loop-at-init
@@ -22,6 +22,13 @@ behind-at-requires g c =
     let d = c.args.digest.now in
     let passed = subst (IsPassedOn old d) c.in-Some.is c.loop-at.invariant in
     way_cell old.names old.slots.items (λ x o. name_place old.names.heads o) bytes_eq (bucket old.names.heads d) d c.in-Some.slot passed
+
+pub is_named-requires : goal.is_named-requires
+is_named-requires g c =
+    let old = c.args.self.now in
+    let d = c.args.digest.now in
+    let passed = subst (IsPassedOn old d) c.in-Some.is c.loop-at.invariant in
+    way_held old.names old.slots.items (λ x o. name_place old.names.heads o) bytes_eq (bucket old.names.heads d) d c.in-Some.slot passed (λ is. cc)
 
 pub loop-at-preserved : goal.loop-at-preserved
 loop-at-preserved g c =

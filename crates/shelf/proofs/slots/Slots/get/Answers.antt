@@ -1,0 +1,25 @@
+use Rattle.std.proofs.Common.{◌≡◌, ◌<◌, ◌∙◌, Some, true, length, ap, sym, arith}
+use Rattle.std.specs.Prelude.{get_or}
+use Rattle.shelf.specs.Looking.{is_held}
+use Rattle.shelf.specs.Seated.{seen}
+use Rattle.shelf.specs.Shelved.{slot_at}
+use Rattle.shelf.proofs.Seating.{full_inside, seen_held, seen_none, seen_there}
+use Rattle.shelf.proofs.slots.Slots.get.Goals as goal
+
+pub index-requires : goal.index-requires
+index-requires g c =
+    let inside = full_inside c.self.inside.full.items c.args.slot (sym c.is_full.ensures ∙ c.if-is_full.true) in
+    let long = c.self.invariant in
+    let ok = c.self.inside.cells.ok in
+    omega (arith, inside, long, ok)
+
+pub returns-then-is_full : goal.returns-then-is_full
+returns-then-is_full g c =
+    let fs = c.self.inside.full.items in
+    let cs = c.self.inside.cells.items in
+    let x = c.args.slot in
+    let held : is_held (slot_at (seen fs cs) x) ≡ true = seen_held fs cs x c.self.invariant ∙ sym c.is_full.ensures ∙ c.if-is_full.true in
+    ap (λ s. Some s) c.index.ensures ∙ sym (seen_there fs cs x c.index.result.now held) ∙ ap (λ r. slot_at r.items x) c.self.view_is
+
+pub returns : goal.returns
+returns g c = sym (seen_none c.self.inside.full.items c.self.inside.cells.items c.args.slot (sym c.is_full.ensures ∙ c.if-is_full.false)) ∙ ap (λ r. slot_at r.items c.args.slot) c.self.view_is
