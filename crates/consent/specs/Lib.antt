@@ -20,3 +20,4 @@ pub mod HistoryLaws
 pub mod CoveredLaws
 pub mod ConsentLaws
 pub mod LeavingLaws
+pub mod SeenLaws

@@ -9,7 +9,7 @@ use crate::numbers::{ClientNo, Moment, OwnerNo};
 use crate::scope::ScopeSet;
 use wire::{DecodeFault, EncodeFault, Fault, FromWire, Reader, Wire};
 
-/// What was given.
+/// What was given. The texts of a code that was used are empty.
 #[derive(Clone, Copy)]
 pub enum KeptKind<'a> {
     Code {

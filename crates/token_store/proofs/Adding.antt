@@ -5,6 +5,8 @@ use Rattle.token_store.proofs.Names.{IsHistory, CanFollow, terms_of, with_change
 use Rattle.token_store.proofs.Names.{code_terms-push}
 use Rattle.token_store.proofs.Names.{grant_at-old, code_terms-new, has_ended-new, is_history-push, Kept, kept_at, FitsHistory, to_keep, nat_tests, code_kept}
 use Rattle.std.specs.Prelude.{option_map}
+use Rattle.consent.specs.History.{is_spent}
+use Rattle.consent.specs.SeenLaws.{told_unspent}
 use Rattle.token_store.proofs.Looking.{count-push}
 use Rattle.consent.specs.Facts.{code_of}
 use Rattle.consent.specs.History.Change.{CodeGiven}
@@ -27,6 +29,10 @@ pub record Gives (history : List Event) (moment : ℕ) (e : Event) (g : Grant) :
 -- what is to be kept of the new one
 abbrev pub new_kept : List Event → Grant → Kept
 new_kept history g = record { grant = g; terms = code_terms history g.family; spent = false; ended = has_ended history g.family }
+
+-- it is to be kept so, if it is unspent
+kept_new : (history : List Event) (digest : List ℕ) (t : ℕ) (g : Grant) → is_spent history digest t ≡ false → to_keep history digest t g ≡ new_kept history g
+kept_new history digest t g unspent = rw unspent (ap (λ (x : Grant). record (new_kept history g) { grant = x }) (told_unspent g))
 
 -- the store fits the history with the event
 pub fits_given : (kept : List Kept) (history : List Event) (moment : ℕ) (e : Event) (g : Grant) (k : Kept) →
@@ -60,7 +66,8 @@ fits_given kept history moment e g k gives is_kept fits = record {
         let pushed = grant_at-push history e g d t gives.gives_it in
         let spent = is_spent-push_other history e d t (gives.spends_none d) in
         let unspent = is_spent-unnamed history d t at in
-        grind (arith, before, pushed, spent, unspent, is_kept, at)
+        let new = kept_new (history ++ e ∷ []) d t g (spent ∙ unspent) in
+        grind (arith, before, pushed, new, is_kept, at)
 
 -- A NEW CODE
 

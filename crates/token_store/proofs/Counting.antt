@@ -102,22 +102,30 @@ counts_alike m q (a ∷ xs) ys live one one' same = by (is_unexpired m a) refl (
 
 -- WHAT IS KEPT
 
--- what is kept and what the history has are alike
+-- a code or token without its texts
+abbrev bare : Grant → Grant
+bare g = record g { redirect = []; challenge = [] }
+
+-- what is kept and what the history has are alike, but for texts
 pub kept_alike : (kept : List Kept) (history : List Event) (m : ℕ) (q : Grant → Bool) → ((g : Grant) → q g ≡ true → is_unexpired m g ≡ true) →
-    FitsHistory kept history m → count_by (λ k. q k.grant) kept ≡ count_by q (grants history)
-kept_alike kept history m q live fits =
-    sym (count-map (λ (k : Kept). k.grant) q kept)
-    ∙ counts_alike m q (map (λ (k : Kept). k.grant) kept) (grants history) live
-    (λ d. rw (count-map (λ (k : Kept). k.grant) (is_named d m) kept) (fits.once d)) fits.is_history.single
-    (λ d. find-map (λ (k : Kept). k.grant) (is_named d m) kept ∙ ap (option_map (λ (k : Kept). k.grant)) (fits.answers d m (omega arith)) ∙ grant_kept d (grant_at history d m))
+    ((g : Grant) → q (bare g) ≡ q g) → FitsHistory kept history m → count_by (λ k. q k.grant) kept ≡ count_by q (grants history)
+kept_alike kept history m q live blind fits =
+    ap (λ p. count_by p kept) (λ i k. sym (blind k.grant) i)
+    ∙ sym (count-map (λ (k : Kept). bare k.grant) q kept)
+    ∙ counts_alike m q (map (λ (k : Kept). bare k.grant) kept) (map bare (grants history)) live
+    (λ d. rw (count-map (λ (k : Kept). bare k.grant) (is_named d m) kept) (fits.once d))
+    (λ d. rw (count-map bare (is_named d m) (grants history)) (fits.is_history.single d))
+    (λ d. find-map (λ (k : Kept). bare k.grant) (is_named d m) kept ∙ ap (option_map (λ (k : Kept). bare k.grant)) (fits.answers d m (omega arith))
+    ∙ grant_kept d (grant_at history d m) ∙ sym (find-map bare (is_named d m) (grants history)))
+    ∙ count-map bare q (grants history) ∙ ap (λ p. count_by p (grants history)) (λ i g. blind g i)
   where
-    grant_kept : (d : List ℕ) (o : Option Grant) → option_map (λ (k : Kept). k.grant) (option_map (to_keep history d m) o) ≡ o
+    grant_kept : (d : List ℕ) (o : Option Grant) → option_map (λ (k : Kept). bare k.grant) (option_map (to_keep history d m) o) ≡ option_map bare o
     grant_kept d None = refl
     grant_kept d (Some g) = refl
 
 -- as many of a client's are unexpired
 pub client_count : (kept : List Kept) (history : List Event) (client m : ℕ) → FitsHistory kept history m → kept_unexpired_of kept client m ≡ unexpired_of history client m
-client_count kept history client m fits = kept_alike kept history m (is_unexpired_of client m) (λ g is. grind (arith, is)) fits
+client_count kept history client m fits = kept_alike kept history m (is_unexpired_of client m) (λ g is. grind (arith, is)) (λ g. refl) fits
 
 and_flip : (a b : Bool) → (a && b) ≡ (b && a)
 and_flip true true = refl

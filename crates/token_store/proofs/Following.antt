@@ -9,29 +9,34 @@ use Rattle.consent.specs.History.{Change}
 use Rattle.consent.specs.History.Change.{Consented, Spent, FamilyEnded}
 use Rattle.token_store.proofs.Looking.{count-map}
 
--- a change that keeps the grant leaves what is found
-find-changed : (f : Kept → Kept) (p : Grant → Bool) (ks : List Kept) → ((k : Kept) → (f k).grant ≡ k.grant) → find (λ k. p k.grant) (map f ks) ≡ option_map f (find (λ k. p k.grant) ks)
-find-changed f p ks keeps = find-map f (λ k. p k.grant) ks ∙ ap (λ q. option_map f (find q ks)) (λ i k. p (keeps k i))
+-- a change that keeps what the test is of leaves what is found
+find-changed : (f : Kept → Kept) (p : Grant → Bool) (ks : List Kept) → ((k : Kept) → p (f k).grant ≡ p k.grant) → find (λ k. p k.grant) (map f ks) ≡ option_map f (find (λ k. p k.grant) ks)
+find-changed f p ks keeps = find-map f (λ k. p k.grant) ks ∙ ap (λ q. option_map f (find q ks)) (λ i k. keeps k i)
 
 -- and what is counted
-count-changed : (f : Kept → Kept) (p : Grant → Bool) (ks : List Kept) → ((k : Kept) → (f k).grant ≡ k.grant) → count_by (λ k. p k.grant) (map f ks) ≡ count_by (λ k. p k.grant) ks
-count-changed f p ks keeps = count-map f (λ k. p k.grant) ks ∙ ap (λ q. count_by q ks) (λ i k. p (keeps k i))
+count-changed : (f : Kept → Kept) (p : Grant → Bool) (ks : List Kept) → ((k : Kept) → p (f k).grant ≡ p k.grant) → count_by (λ k. p k.grant) (map f ks) ≡ count_by (λ k. p k.grant) ks
+count-changed f p ks keeps = count-map f (λ k. p k.grant) ks ∙ ap (λ q. count_by q ks) (λ i k. keeps k i)
 
-changed-grant : (change : RecordChange) (k : Kept) → (changed change k).grant ≡ k.grant
-changed-grant change k = grind arith
+-- the change keeps names, and how long they are good
+record KeepsNames (f : Kept → Kept) : Type 0 where
+  names : (k : Kept) (d : List ℕ) (t : ℕ) → is_named d t (f k).grant ≡ is_named d t k.grant
+  lives : (k : Kept) (t : ℕ) → is_unexpired t (f k).grant ≡ is_unexpired t k.grant
+
+changed-names : (change : RecordChange) → KeepsNames (changed change)
+changed-names change = record { names = λ k d t. grind arith; lives = λ k t. grind arith }
 
 -- where the change does to each record what the event does to its grant
-fits_changed : (kept : List Kept) (history : List Event) (moment : ℕ) (e : Event) (f : Kept → Kept) → ((k : Kept) → (f k).grant ≡ k.grant) →
+fits_changed : (kept : List Kept) (history : List Event) (moment : ℕ) (e : Event) (f : Kept → Kept) → KeepsNames f →
     e.moment ≤ moment → grant_of e ≡ None →
     ((d : List ℕ) (t : ℕ) (g : Grant) → moment ≤ t → grant_at history d t ≡ Some g → f (to_keep history d t g) ≡ to_keep (history ++ e ∷ []) d t g) →
     FitsHistory kept history moment → FitsHistory (map f kept) (history ++ e ∷ []) moment
 fits_changed kept history moment e f keeps now none same fits = record {
   answers = λ d t le.
-      find-changed f (is_named d t) kept keeps ∙ ap (option_map f) (fits.answers d t le)
+      find-changed f (is_named d t) kept (λ k. keeps.names k d t) ∙ ap (option_map f) (fits.answers d t le)
       ∙ all_changed (to_keep history d t) (to_keep (history ++ e ∷ []) d t) (grant_at history d t) (λ g at. same d t g le at)
       ∙ ap (option_map (to_keep (history ++ e ∷ []) d t)) (sym (grant_at-push_none history e d t none));
-  count = λ t le. count-changed f (is_unexpired t) kept keeps ∙ fits.count t le ∙ sym (unexpired_count-push_none history e t none);
-  once = λ d. rw (count-changed f (is_named d moment) kept keeps) (fits.once d);
+  count = λ t le. count-changed f (is_unexpired t) kept (λ k. keeps.lives k t) ∙ fits.count t le ∙ sym (unexpired_count-push_none history e t none);
+  once = λ d. rw (count-changed f (is_named d moment) kept (λ k. keeps.names k d moment)) (fits.once d);
   is_history = is_history-push_none history e moment now none fits.is_history;
 }
   where
@@ -62,7 +67,7 @@ pub fits_spent : (kept : List Kept) (history : List Event) (moment : ℕ) (diges
 fits_spent kept history moment digest fits =
     let e : Event = record { moment = moment; change = Spent digest } in
     let m = RecordChange.Spent digest moment in
-    fits_changed kept history moment e (changed m) (changed-grant m) (omega arith) refl (λ d t h le found.
+    fits_changed kept history moment e (changed m) (changed-names m) (omega arith) refl (λ d t h le found.
     let test = spent_test kept history moment digest d t h fits le found in
     let spent = is_spent-push history e d t in
     let ended = has_ended-push_other history e h.family refl in
@@ -82,7 +87,7 @@ pub fits_ended : (kept : List Kept) (history : List Event) (moment family : ℕ)
 fits_ended kept history moment family fits =
     let e : Event = record { moment = moment; change = FamilyEnded family } in
     let m = RecordChange.Ended family in
-    fits_changed kept history moment e (changed m) (changed-grant m) (omega arith) refl (λ d t h le found.
+    fits_changed kept history moment e (changed m) (changed-names m) (omega arith) refl (λ d t h le found.
     let pushed = has_ended-push history e h.family (fits.is_history.one_code h.family) in
     ended_seen history e d t h (eqb h.family family) refl (is_spent-push_other history e d t refl) (grind (arith, nat_tests, pushed))) fits
 
@@ -93,7 +98,7 @@ pub fits_consented : (kept : List Kept) (history : List Event) (moment owner cli
 fits_consented kept history moment owner client mask fits =
     let e : Event = record { moment = moment; change = Consented owner client mask } in
     let m = RecordChange.Lowered owner client mask in
-    fits_changed kept history moment e (changed m) (changed-grant m) (omega arith) refl (λ d t h le found.
+    fits_changed kept history moment e (changed m) (changed-names m) (omega arith) refl (λ d t h le found.
     ended_seen history e d t h (is_beyond (Consented owner client mask) (code_terms history h.family)) refl (is_spent-push_other history e d t refl)
     (has_ended-push history e h.family (fits.is_history.one_code h.family))) fits
 
@@ -108,7 +113,7 @@ pub fits_unmoved : (kept : List Kept) (history : List Event) (moment : ℕ) (cha
     ((digest : List ℕ) → spends digest change ≡ false) → FitsHistory kept history moment → FitsHistory kept (with_change history moment change) moment
 fits_unmoved kept history moment change none lasting unspent fits =
     let e : Event = event_at moment change in
-    rw (← map_same kept) (fits_changed kept history moment e (λ k. k) (λ k. refl) (omega arith) none (λ d t h le found.
+    rw (← map_same kept) (fits_changed kept history moment e (λ k. k) (record { names = λ k d t. refl; lives = λ k t. refl }) (omega arith) none (λ d t h le found.
     let terms = code_terms-push_none history e h.family none in
     let spent = is_spent-push_other history e d t (unspent d) in
     let ended = has_ended-push_other history e h.family lasting in

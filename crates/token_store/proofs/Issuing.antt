@@ -9,7 +9,7 @@ use Rattle.consent.specs.declared.change.Home.{Home}
 use Rattle.consent.specs.declared.change.NewToken.{NewToken}
 use Rattle.consent.specs.declared.parties.Parties.{Parties}
 use Rattle.token_store.specs.declared.record.Given.{Given}
-use Rattle.token_store.specs.declared.record.Given.TheVariants.{Code, Token}
+use Rattle.token_store.specs.declared.record.Given.TheVariants.{Code, Token, UsedCode}
 use Rattle.token_store.proofs.Adding.{Gives, fits_given}
 
 -- ONE TOKEN
@@ -70,10 +70,14 @@ shared_found kept history moment g s digest r fits found at =
     let owner : s.owner ≡ g.owner = owner_cases r.given (ap (λ x. x.grant.kind) seen) (ap (λ x. x.grant.owner) seen) (code_scope s) terms in
     (ap (λ x. x.grant.family) seen, record { client = client; owner = owner; terms = terms; ended = sym (ap (λ x. x.ended) seen) })
   where
+    of_code : is_code g.kind ≡ true → (o : Option ℕ) → code_terms history g.family ≡ option_map (terms_by s.client s.owner) o → s.owner ≡ g.owner
+    of_code code None terms = absurd (code_has_terms history digest moment g at code terms)
+    of_code code (Some scope) terms = (code_terms-kin history digest moment g (terms_by s.client s.owner scope) fits.is_history.kin at terms).1
+
     owner_cases : (given : Given) → kind_told (fact_in given) ≡ g.kind → owner_told s.owner (fact_in given) ≡ g.owner → (o : Option ℕ) → code_terms history g.family ≡ option_map (terms_by s.client s.owner) o → s.owner ≡ g.owner
     owner_cases (Token token spent) kind owner o terms = owner
-    owner_cases (Code texts) kind owner None terms = absurd (code_has_terms history digest moment g at (ap is_code (sym kind)) terms)
-    owner_cases (Code texts) kind owner (Some scope) terms = (code_terms-kin history digest moment g (terms_by s.client s.owner scope) fits.is_history.kin at terms).1
+    owner_cases (Code texts) kind owner o terms = of_code (ap is_code (sym kind)) o terms
+    owner_cases (UsedCode whose) kind owner o terms = of_code (ap is_code (sym kind)) o terms
 
 -- a host is named by its own digest
 pub host_named : (history : List Event) (moment family : ℕ) (parties : Parties) (kept : List Kept) → FitsHistory kept history moment → (host : Host history moment family parties) →

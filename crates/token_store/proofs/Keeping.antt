@@ -1,14 +1,16 @@
 -- Families in slots: what is put among them, and which are left.
-use Rattle.std.proofs.Common.{◌≡◌, ◌≢◌, ◌∙◌, ℕ, List, [], ◌∷◌, Option, Some, None, Bool, true, false, refl, ap, sym, arith}
+use Rattle.std.proofs.Common.{◌≡◌, ◌≢◌, ◌<◌, ◌+◌, ◌∙◌, ℕ, List, [], ◌∷◌, Option, Some, None, Bool, true, false, cond, drop, length, refl, ap, sym, arith}
 use Rattle.std.specs.Prelude.{count_by, filter, nat_eq, nat_lt, option_map, IfNone, IfSome, if◌then◌else◌}
 use Rattle.std.specs.Cmp.{nat_eq_equiv}
+use Rattle.std.specs.Int.{from_bool}
 use Rattle.std.specs.List.{IsDistinct}
 use Rattle.std.specs.Map.{keys_of, lookup}
 use Rattle.std.specs.Option.{option_and_then}
+use Rattle.std.proofs.lemmas.List.{at_drop_more}
 use Rattle.std.proofs.lemmas.Map.Entries.{lookup-filter-values}
 use Rattle.shelf.specs.declared.rack.Rack.{Rack}
 use Rattle.shelf.specs.Racked.{FindsIn, HasTakenOut, set_in}
-use Rattle.shelf.specs.Shelved.{entries_in}
+use Rattle.shelf.specs.Shelved.{entries_in, slot_at}
 use Rattle.shelf.specs.declared.shelf.Slot.{Slot}
 use Rattle.token_store.specs.RecordsParts.{HasClosed, OthersStay, is_open_of, open_in, where_peopled}
 use Rattle.token_store.specs.Kin.{IsRackedIfAny, kin_of}
@@ -50,6 +52,17 @@ open_counted owner lives (Some s ∷ ss) =
     let first = count_by-cons (open_in owner lives) (Some s) ss in
     let second = count_by-cons (is_open_of owner lives) (s.key, s.kept) (entries_in ss) in
     grind (arith, more, first, second)
+
+-- where what is in the slot counts or does not, and those behind it do
+pub counted_on : (p : Option (Slot ℕ Shared) → Bool) (slots : List (Option (Slot ℕ Shared))) (i : ℕ) (b : Bool) → i < length slots → b ≡ p (slot_at slots i) →
+    count_by p (drop i slots) ≡ from_bool b + count_by p (drop (i + 1) slots)
+counted_on p slots i b inside is =
+    at_drop_more (count_by p) slots i None inside ∙ count_by-cons p (slot_at slots i) (drop (i + 1) slots)
+    ∙ ap (λ n. n + count_by p (drop (i + 1) slots)) (ap (λ a. cond {A = ℕ} a 1 0) (sym is) ∙ one b)
+  where
+    one : (b : Bool) → cond {A = ℕ} b 1 0 ≡ from_bool b
+    one true = refl
+    one false = refl
 
 -- OUT
 

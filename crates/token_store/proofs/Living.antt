@@ -59,9 +59,9 @@ named_of families es history m family once fits lives =
     of_grant : (k : Kept) → (o : Option Grant) → grant_at history k.grant.digest m ≡ o → Some k ≡ option_map (to_keep history k.grant.digest m) o → is_live_in family m k.grant ≡ true → IsNamed families history m family
     of_grant k None at is passes = cc
     of_grant k (Some g) at is passes =
-        let same : k.grant ≡ g = ap (λ (x : Kept). x.grant) (same_Some k (to_keep history k.grant.digest m g) is) in
-        named_in families es history m family k.grant.digest g once fits at (ap (λ (x : Grant). x.digest) same)
-        (let its = ap (λ (x : Grant). x.family) same in grind (arith, nat_tests, passes, its))
+        let same = same_Some k (to_keep history k.grant.digest m g) is in
+        let its : k.grant.family ≡ g.family = ap (λ (x : Kept). x.grant.family) same in
+        named_in families es history m family k.grant.digest g once fits at (ap (λ (x : Kept). x.grant.digest) same) (grind (arith, nat_tests, passes, its))
 
     by : (o : Option Kept) → find (λ k. is_live_in family m k.grant) (all_kept families es) ≡ o → is_some o ≡ true → IsNamed families history m family
     by None at is = cc

@@ -61,7 +61,7 @@ member_mapped f q (g ∷ gs) n = let more = member_mapped f q gs n in grind (ari
 lives_alike : (t : Tables) (history : List Event) (m n : ℕ) → FitsHistory (kept_of t) history m → kept_lives (kept_of t) m n ≡ lives history m n
 lives_alike t history m n fits =
     any_counted (λ k. is_live_in n m k.grant) (kept_of t)
-    ∙ ap (λ c. nat_lt 0 c) (kept_alike (kept_of t) history m (is_live_in n m) (λ g is. grind (arith, is)) fits)
+    ∙ ap (λ c. nat_lt 0 c) (kept_alike (kept_of t) history m (is_live_in n m) (λ g is. grind (arith, is)) (λ g. refl) fits)
     ∙ sym (any_counted (is_live_in n m) (grants history))
   where
     any_counted : {X : Type 0} (p : X → Bool) (xs : List X) → list_any p xs ≡ nat_lt 0 (count_by p xs)

@@ -2,9 +2,10 @@
 use Rattle.std.proofs.Common.{◌≡◌, ℕ, List, [], ◌∷◌, Option, Some, None, Bool, true, false, cond, refl, ap, ◌∙◌, sym, subst, arith}
 use Rattle.token_store.proofs.Names.{OwnerKey, ◌==◌, is_some, IsDistinct, bytes_eq, lookup, set_value, keys_of, nat_list_eq_equiv, lookup-none, keys-set_value, none_past_head, sum_by-set_value}
 use Rattle.token_store.proofs.Names.{IsDistinct-tail, Record, Shared, Kept, kept_at, all_kept, count_by, is_member_at, member_count, shared_at, values_of, Ties, RecordChange, changed, is_live_at, spent_in, used}
-use Rattle.token_store.specs.Records.{fact_in, is_used, used_given}
+use Rattle.token_store.specs.Records.{kept_under, used_given}
+use Rattle.token_store.specs.RecordsParts.{spent_kept}
 use Rattle.token_store.specs.declared.record.Given.{Given}
-use Rattle.token_store.specs.declared.record.Given.TheVariants.{Code, Token}
+use Rattle.token_store.specs.declared.record.Given.TheVariants.{Code, Token, UsedCode}
 use Rattle.std.specs.Prelude.{map, nat_lt}
 use Rattle.token_store.proofs.Lasting.{any_counted}
 use Rattle.token_store.proofs.Looking.{shown, found}
@@ -55,14 +56,14 @@ pub unspent_same : (kept : List Kept) (digest : List ℕ) (m : ℕ) → kept_at 
 unspent_same [] digest m none = refl
 unspent_same (k ∷ ks) digest m none = grind (arith, unspent_same ks digest m)
 
--- what was used is told as it was given, and as used
-used_fact : (g : Given) → fact_in (used_given g) ≡ fact_in g
-used_fact (Code texts) = refl
-used_fact (Token kind spent) = refl
-
-used_is : (g : Given) → is_used (used_given g) ≡ true
-used_is (Code texts) = refl
-used_is (Token kind spent) = refl
+-- what was used is kept as used
+used_kept : (s : Shared) (digest : List ℕ) (r : Record) → kept_under s digest (used r) ≡ spent_kept (kept_under s digest r)
+used_kept s digest r = by r.given
+  where
+    by : (g : Given) → kept_under s digest (record r { given = used_given g }) ≡ spent_kept (kept_under s digest (record r { given = g }))
+    by (Code texts) = refl
+    by (UsedCode owner) = refl
+    by (Token kind spent) = refl
 
 changed_one : (families : List (ℕ × Shared)) (es : List (List ℕ × Record)) (digest : List ℕ) (m : ℕ) (r : Record) → IsDistinct bytes_eq (keys_of es) → lookup (bytes_eq digest) es ≡ Some r → is_live_at m r ≡ true →
     all_kept families (set_value (bytes_eq digest) es (used r)) ≡ map (changed (RecordChange.Spent digest m)) (all_kept families es)
@@ -74,9 +75,8 @@ changed_one families (e ∷ es) digest m r distinct at live =
     let none : bytes_eq digest e.0 ≡ true → map (changed (RecordChange.Spent digest m)) (all_kept families es) ≡ all_kept families es = λ is.
     unspent_same (all_kept families es) digest m
     (found families es digest m rest ∙ ap (shown families digest m) (lookup-none (bytes_eq digest) es (none_past_head nat_list_eq_equiv digest e es distinct is))) in
-    let told = used_fact r.given in
-    let is = used_is r.given in
-    grind (arith, more, none, told, is)
+    let told = used_kept (shared_at families r.family) e.0 r in
+    grind (arith, more, none, told)
 
 pub view_spent : (families : List (ℕ × Shared)) (es : List (List ℕ × Record)) (digest : List ℕ) (m : ℕ) → IsDistinct bytes_eq (keys_of es) → is_some (kept_at (all_kept families es) digest m) ≡ true →
     all_kept families (spent_in digest es (lookup (bytes_eq digest) es)) ≡ map (changed (RecordChange.Spent digest m)) (all_kept families es)

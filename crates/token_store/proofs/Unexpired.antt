@@ -1,11 +1,10 @@
 -- The unexpired codes and tokens, listed.
-use Rattle.std.proofs.Common.{◌≡◌, ◌<◌, ◌≤◌, ◌+◌, ℕ, zero, suc, List, [], ◌∷◌, ◌++◌, Bool, true, false, Option, Some, None, refl, ap, sym, ◌∙◌, append_assoc, drop, get_or, length, arith}
+use Rattle.std.proofs.Common.{◌≡◌, ◌<◌, ◌≤◌, ◌+◌, ℕ, zero, suc, List, [], ◌∷◌, ◌++◌, Bool, true, false, Option, Some, None, refl, ap, sym, ◌∙◌, append_assoc, drop, length, arith}
 use Rattle.token_store.proofs.Names.{count_by, map-append, count_by-cons, Event, is_named, is_unexpired, Record, Shared, Kept, kept_at, FitsHistory, as_kept, kept_record, all_kept}
 use Rattle.token_store.proofs.Names.{is_live_at, nat_tests}
 use Rattle.std.specs.Prelude.{filter}
 use Rattle.std.proofs.lemmas.List.{at_drop_more}
-use Rattle.shelf.specs.Shelved.{entries_in}
-use Rattle.shelf.specs.Shelved.{Named}
+use Rattle.shelf.specs.Shelved.{entries_in, slot_at, Named}
 use Rattle.token_store.specs.RecordsParts.{shown_in, IsFamilyOf}
 use Rattle.token_store.proofs.Names.{◌==◌, member_count, same_Some, values_of, IsCounted}
 use Rattle.token_store.proofs.Dropping.{has_slot}
@@ -55,42 +54,44 @@ shown_first families m (Some s) slots = by (is_live_at m s.kept) refl
     by true live = grind (arith, live)
     by false gone = grind (arith, gone)
 
-drop_first : (families : List (ℕ × Shared)) (m : ℕ) (slots : List (Option (Named Record))) (i : ℕ) (o : Option (Named Record)) → i < length slots → o ≡ get_or slots i o →
-    unexpired_in families m (drop i slots) ≡ shown_in families m o ++ unexpired_in families m (drop (i + 1) slots)
-drop_first families m slots i o lt is =
-    at_drop_more (unexpired_in families m) slots i o lt ∙ ap (λ x. unexpired_in families m (x ∷ drop (i + 1) slots)) (sym is) ∙ shown_first families m o (drop (i + 1) slots)
+drop_first : (families : List (ℕ × Shared)) (m : ℕ) (slots : List (Option (Named Record))) (i : ℕ) → i < length slots →
+    unexpired_in families m (drop i slots) ≡ shown_in families m (slot_at slots i) ++ unexpired_in families m (drop (i + 1) slots)
+drop_first families m slots i lt = at_drop_more (unexpired_in families m) slots i None lt ∙ shown_first families m (slot_at slots i) (drop (i + 1) slots)
 
-pub step_none : (families : List (ℕ × Shared)) (m : ℕ) (front whole : List Kept) (slots : List (Option (Named Record))) (i : ℕ) (o : Option (Named Record)) → i < length slots → o ≡ get_or slots i o →
-    shown_in families m o ≡ [] → front ++ unexpired_in families m (drop i slots) ≡ whole → front ++ unexpired_in families m (drop (i + 1) slots) ≡ whole
-step_none families m front whole slots i o lt is none so_far =
-    ap (λ (ks : List Kept). front ++ ks) (sym (drop_first families m slots i o lt is ∙ ap (λ (ks : List Kept). ks ++ unexpired_in families m (drop (i + 1) slots)) none)) ∙ so_far
+pub step_none : (families : List (ℕ × Shared)) (m : ℕ) (front whole : List Kept) (slots : List (Option (Named Record))) (i : ℕ) → i < length slots →
+    shown_in families m (slot_at slots i) ≡ [] → front ++ unexpired_in families m (drop i slots) ≡ whole → front ++ unexpired_in families m (drop (i + 1) slots) ≡ whole
+step_none families m front whole slots i lt none so_far =
+    ap (λ (ks : List Kept). front ++ ks) (sym (drop_first families m slots i lt ∙ ap (λ (ks : List Kept). ks ++ unexpired_in families m (drop (i + 1) slots)) none)) ∙ so_far
 
-pub step_some : (families : List (ℕ × Shared)) (m : ℕ) (items items' : List KeptRecord) (r : KeptRecord) (whole : List Kept) (slots : List (Option (Named Record))) (i : ℕ) (o : Option (Named Record)) →
-    i < length slots → o ≡ get_or slots i o → shown_in families m o ≡ kept_record r ∷ [] → items' ≡ items ++ r ∷ [] →
+pub step_some : (families : List (ℕ × Shared)) (m : ℕ) (items items' : List KeptRecord) (r : KeptRecord) (whole : List Kept) (slots : List (Option (Named Record))) (i : ℕ) → i < length slots →
+    shown_in families m (slot_at slots i) ≡ kept_record r ∷ [] → items' ≡ items ++ r ∷ [] →
     as_kept items ++ unexpired_in families m (drop i slots) ≡ whole → as_kept items' ++ unexpired_in families m (drop (i + 1) slots) ≡ whole
-step_some families m items items' r whole slots i o lt is shown pushed so_far =
+step_some families m items items' r whole slots i lt shown pushed so_far =
     let left = unexpired_in families m (drop (i + 1) slots) in
-    let first = drop_first families m slots i o lt is ∙ ap (λ (ks : List Kept). ks ++ left) shown in
+    let first = drop_first families m slots i lt ∙ ap (λ (ks : List Kept). ks ++ left) shown in
     ap (λ (rs : List KeptRecord). as_kept rs ++ left) pushed ∙ ap (λ (ks : List Kept). ks ++ left) (map-append kept_record items (r ∷ []))
     ∙ append_assoc (as_kept items) (kept_record r ∷ []) left ∙ ap (λ (ks : List Kept). as_kept items ++ ks) (sym first) ∙ so_far
 
 -- the family of what is in a slot has records, and so it is there
-slot_member : (slots : List (Option (Named Record))) (i : ℕ) (s : Named Record) → i < length slots → Some s ≡ get_or slots i (Some s) → 0 < member_count (entries_in slots) s.kept.family
-slot_member [] i s lt is = absurd (omega (arith, lt))
-slot_member (None ∷ ss) zero s lt is = cc
-slot_member (Some x ∷ ss) zero s lt is =
-    let own : s ≡ x = same_Some s x is in
+slot_member : (slots : List (Option (Named Record))) (i : ℕ) (s : Named Record) → slot_at slots i ≡ Some s → 0 < member_count (entries_in slots) s.kept.family
+slot_member [] i s is = cc
+slot_member (None ∷ ss) zero s is = cc
+slot_member (Some x ∷ ss) zero s is =
+    let own : x ≡ s = same_Some x s is in
     let sums = count_by-cons (λ (r : Record). r.family == s.kept.family) x.kept (values_of (entries_in ss)) in
     grind (arith, nat_tests, own, sums)
-slot_member (None ∷ ss) (suc i) s lt is = slot_member ss i s (omega (arith, lt)) is
-slot_member (Some x ∷ ss) (suc i) s lt is =
-    let more = slot_member ss i s (omega (arith, lt)) is in
+slot_member (None ∷ ss) (suc i) s is = slot_member ss i s is
+slot_member (Some x ∷ ss) (suc i) s is =
+    let more = slot_member ss i s is in
     let sums = count_by-cons (λ (r : Record). r.family == s.kept.family) x.kept (values_of (entries_in ss)) in
     omega (arith, more, sums)
 
-pub slot_there : (families : List (ℕ × Shared)) (slots : List (Option (Named Record))) (i : ℕ) (o : Option (Named Record)) → IsCounted families (entries_in slots) → i < length slots → o ≡ get_or slots i o → IsFamilyOf families o
-slot_there families slots i None counted lt is = tt
-slot_there families slots i (Some s) counted lt is =
-    let some = slot_member slots i s lt is in
-    let count = counted s.kept.family in
-    has_slot families s.kept.family (omega (arith, some, count))
+pub slot_there : (families : List (ℕ × Shared)) (slots : List (Option (Named Record))) (i : ℕ) → IsCounted families (entries_in slots) → IsFamilyOf families (slot_at slots i)
+slot_there families slots i counted = by (slot_at slots i) refl
+  where
+    by : (o : Option (Named Record)) → slot_at slots i ≡ o → IsFamilyOf families o
+    by None is = tt
+    by (Some s) is =
+        let some = slot_member slots i s is in
+        let count = counted s.kept.family in
+        has_slot families s.kept.family (omega (arith, some, count))

@@ -1,6 +1,7 @@
 -- When a store's answers are those of a history.
 use Rattle.std.specs.Prelude.{◌≡◌, ◌≤◌, ℕ, List, Bool, Option, Some, None, count_by, option_map, if◌then◌else◌, not}
 use Rattle.consent.specs.History.{Event, Grant, grant_at, is_spent, has_ended, code_terms, greatest_family, is_named, unexpired_count, IsHistory, AllFollowAt, has_room, has_client_room, is_taken, with_changes}
+use Rattle.consent.specs.Seen.{told_as}
 use Rattle.consent.specs.Changes.{changes_of}
 use Rattle.consent.specs.declared.change.Change.{Change}
 use Rattle.token_store.specs.declared.fault.StoreFault.{StoreFault}
@@ -8,10 +9,10 @@ use Rattle.token_store.specs.declared.fault.StoreFault.TheVariants.{Full, Client
 use Rattle.token_store.specs.declared.quota.Quota.{Quota}
 use Rattle.token_store.specs.Kept.{Kept, Held, kept_at, kept_unexpired}
 
--- what is to be kept of what the digest names
+-- what is to be kept of what the digest names: of a used code no texts
 abbrev pub to_keep : List Event → List ℕ → ℕ → Grant → Kept
 to_keep history digest moment g = record {
-  grant = g;
+  grant = told_as (is_spent history digest moment) g;
   terms = code_terms history g.family;
   spent = is_spent history digest moment;
   ended = has_ended history g.family;

@@ -1,5 +1,5 @@
 -- The store's tables, and what is seen of them.
-use Rattle.std.specs.Prelude.{◌≡◌, ◌+◌, ℕ, List, Bool, true, false, ◌==◌, ◌&&◌, if◌then◌else◌, Option, Some, None, is_some, nat_lt, not, unwrap_or, option_map, map, count_by, string_bytes, nat_eq, ◌<◌, ◌≤◌}
+use Rattle.std.specs.Prelude.{◌≡◌, ◌+◌, ℕ, List, [], Bool, true, false, ◌==◌, ◌&&◌, if◌then◌else◌, Option, Some, None, is_some, nat_lt, not, unwrap_or, option_map, map, count_by, string_bytes, nat_eq, ◌<◌, ◌≤◌}
 use Rattle.std.specs.List.{list_any, IsDistinct}
 use Rattle.std.specs.declared.boxed.Box.{Box}
 use Rattle.std.specs.declared.alloc.Global.{Global}
@@ -15,7 +15,7 @@ use Rattle.consent.specs.declared.change.Home.{Home}
 use Rattle.shelf.specs.Standing.{stand_entries, IsStanding}
 use Rattle.token_store.specs.declared.record.CodeTexts.{CodeTexts}
 use Rattle.token_store.specs.declared.record.Given.{Given}
-use Rattle.token_store.specs.declared.record.Given.TheVariants.{Code, Token}
+use Rattle.token_store.specs.declared.record.Given.TheVariants.{Code, Token, UsedCode}
 use Rattle.token_store.specs.declared.record.Record.{Record}
 use Rattle.token_store.specs.declared.record.Shared.{Shared}
 use Rattle.token_store.specs.declared.tables.Tables.{Tables}
@@ -33,16 +33,19 @@ texts_seen texts = fact.Code texts.value.owner (string_bytes texts.value.redirec
 -- what was given, without where its texts lie in memory
 abbrev pub fact_in : Given → KindFact
 fact_in (Code texts) = texts_seen texts
+fact_in (UsedCode owner) = fact.Code owner [] []
 fact_in (Token kind spent) = fact.Token kind
 
 -- it was used
 abbrev pub is_used : Given → Bool
-is_used (Code texts) = texts.value.spent
+is_used (Code texts) = false
+is_used (UsedCode owner) = true
 is_used (Token kind spent) = spent
 
--- as it is once it was used
+-- as it is once it was used: a code's texts are gone
 abbrev pub used_given : Given → Given
-used_given (Code texts) = Code (record texts { value = record texts.value { spent = true } })
+used_given (Code texts) = UsedCode texts.value.owner
+used_given (UsedCode owner) = UsedCode owner
 used_given (Token kind spent) = Token kind true
 
 abbrev pub used : Record → Record

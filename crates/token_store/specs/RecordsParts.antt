@@ -10,6 +10,7 @@ use Rattle.consent.specs.Limits.{code_life}
 use Rattle.consent.specs.History.{is_named, is_beyond, ends}
 use Rattle.consent.specs.History as told
 use Rattle.consent.specs.History.Change.{Consented}
+use Rattle.consent.specs.Seen.{told_as}
 use Rattle.shelf.specs.Shelved as shelved
 use Rattle.shelf.specs.Shelved.{Named}
 use Rattle.shelf.specs.declared.shelf.Slot.{Slot}
@@ -23,6 +24,11 @@ use Rattle.token_store.specs.Kept.{Kept, kept_at, kept_unexpired}
 use Rattle.token_store.specs.Image.{kept_record, terms_by, kept_told}
 use Rattle.token_store.specs.Records.{kept_under, kept_in, family_numbered, shared_at, kept_of, shared_seen, expiry_of, OwnerKey, owner_cmp, has_owner, code_scope, code_shared, texts_given, used}
 use Rattle.std.specs.Option.{option_and_then}
+
+-- what a family without records shares
+abbrev pub bare_shared : (client owner scope : ℕ) → Bool → Shared
+bare_shared client owner scope coded =
+    record { client = client; owner = owner; scope = scope; until = 0; count = 0; coded = coded; ended = false }
 
 abbrev pub is_live_at : ℕ → Record → Bool
 is_live_at moment r = nat_lt moment (r.moment + r.life)
@@ -75,6 +81,11 @@ pub record TellsSame (kept kept' : List Kept) (moment : ℕ) : Type 0 where
 abbrev pub KeepsToo : (old new : Tables) → List ℕ → Record → Type 0
 KeepsToo old new digest r = (moment : ℕ) → kept_at (kept_of old) digest moment ≡ None → TellsSame (kept_with old digest r) (kept_of new) moment
 
+-- where the digest names nothing, the record of such a family is kept too
+abbrev pub KeepsAs : (old new : Tables) → Shared → List ℕ → Record → Type 0
+KeepsAs old new s digest r = (moment : ℕ) → kept_at (kept_of old) digest moment ≡ None →
+    TellsSame (kept_of old ++ kept_under s digest r ∷ []) (kept_of new) moment
+
 -- none has expired
 abbrev pub AllLive : List (List ℕ × Record) → ℕ → Type 0
 AllLive records moment = (digest : List ℕ) (t : ℕ) → expiry_of (lookup (bytes_eq digest) records) ≡ Some t → moment < t
@@ -116,9 +127,13 @@ pub data RecordChange : Type 0 where
   Ended : (family : ℕ) → RecordChange
   Lowered : (owner client mask : ℕ) → RecordChange
 
+-- what is kept of a record that is used
+abbrev pub spent_kept : Kept → Kept
+spent_kept k = record k { grant = told_as true k.grant; spent = true }
+
 -- what is kept of a record, with such a change
 abbrev pub changed : RecordChange → Kept → Kept
-changed (RecordChange.Spent digest moment) k = if is_named digest moment k.grant then record k { spent = true } else k
+changed (RecordChange.Spent digest moment) k = if is_named digest moment k.grant then spent_kept k else k
 changed (RecordChange.Ended family) k = if k.grant.family == family then record k { ended = true } else k
 changed (RecordChange.Lowered owner client mask) k =
     if is_beyond (Consented owner client mask) k.terms then record k { ended = true } else k

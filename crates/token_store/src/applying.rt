@@ -88,12 +88,8 @@ impl Tables {
         ensures coming { self.new.coming ≡ self.old.coming }
     {
         let _ = moment;
-        lower_all(
-            &mut self.families,
-            &mut self.owners,
-            (owner.get(), client.get()),
-            mask,
-        );
+        let parties = (owner.get(), client.get());
+        lower_all(&mut self.families, &mut self.owners, parties, mask);
     }
 
     /// Makes a change that gives nothing.

@@ -1,11 +1,12 @@
 //! What has expired goes.
-ghost use Rattle.std.specs.Prelude.{◌≡◌, ◌<◌, ◌≤◌, ◌⊎◌, ◌+◌, true, false, length};
-ghost use Rattle.shelf.specs.Standing.{stand_entries};
+ghost use Rattle.std.specs.Prelude.{◌≡◌, ◌<◌, ◌≤◌, ◌⊎◌, ◌+◌, true, length, IfNone, IfSome};
+ghost use Rattle.shelf.specs.Standing.{stand_entries, stand_to_look};
 ghost use Rattle.token_store.specs.Records.{IsTied, kept_of};
 ghost use Rattle.token_store.specs.RecordsParts.{AllLive, SeenSame, TellsSame};
 
 use crate::tables::{Tables, leave};
 use consent::Moment;
+use shelf::Look;
 
 /// How many records are let go of in one portion.
 const PORTION: usize = 64;
@@ -22,7 +23,7 @@ impl Tables {
         ensures live { AllLive (stand_entries self.new.records) moment }
         ensures stay { keeps ≡ true → SeenSame self.old.families.entries self.new.families.entries }
     {
-        while self.drop_one(moment, keeps) {}
+        while let Some(_) = self.look_once(moment, keeps) {}
     }
 
     /// Lets go of some of the records that have expired, and of the families without records: of all, or
@@ -36,30 +37,35 @@ impl Tables {
     {
         let mut left = PORTION;
         while left > 0 {
-            if !self.drop_one(moment, false) {
+            let Some(gone) = self.look_once(moment, false) else {
                 return;
-            }
-            left -= 1;
+            };
+            left -= gone;
         }
     }
 
-    // Lets go of a record that has expired, if there is one, and of its family with the last, unless it
-    // keeps that.
-    fn drop_one(&mut self, moment: Moment, keeps: bool) -> bool
+    // Looks at one of the records that may have expired, and lets go of it if it has, and of its family
+    // with the last, unless it keeps that: how many went, unless there is none to look at.
+    fn look_once(&mut self, moment: Moment, keeps: bool) -> Option<usize>
         requires { IsTied self.old }
         ensures tied { IsTied self.new }
         ensures last { self.new.last ≡ self.old.last }
         ensures coming { self.new.coming ≡ self.old.coming }
         ensures same { TellsSame (kept_of self.old) (kept_of self.new) moment }
-        ensures live { result ≡ false → AllLive (stand_entries self.new.records) moment }
-        ensures fewer { result ≡ true → length (stand_entries self.new.records) + 1 ≡ length (stand_entries self.old.records) }
+        ensures live { IfNone result (AllLive (stand_entries self.new.records) moment) }
+        ensures fewer { IfSome result (λ gone. length (stand_entries self.new.records) + gone ≡ length (stand_entries self.old.records)) }
         ensures stay { keeps ≡ true → SeenSame self.old.families.entries self.new.families.entries }
+        ensures one { IfSome result (λ gone. gone ≤ 1) }
+        ensures goes { IfSome result (λ gone. stand_to_look self.new.records moment < stand_to_look self.old.records moment) }
     {
-        let Some(expired) = self.records.take_expired(moment) else {
-            return false;
-        };
-        self.swept = self.swept.max(moment.get());
-        leave(&mut self.families, &mut self.owners, expired.family, keeps);
-        true
+        match self.records.look(moment) {
+            Look::Gone(expired) => {
+                self.swept = self.swept.max(moment.get());
+                leave(&mut self.families, &mut self.owners, expired.family, keeps);
+                Some(1)
+            }
+            Look::More => Some(0),
+            Look::Done => None,
+        }
     }
 }

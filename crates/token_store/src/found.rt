@@ -2,7 +2,7 @@
 
 use consent::{ClientNo, Kind, Moment, OwnerNo, ScopeSet};
 
-/// A code or token that has not expired. The texts are a code's, and empty for a token.
+/// A code or token that has not expired. The texts are a code's until it is used, and else empty.
 #[derive(Clone, Copy)]
 pub struct Found<'a> {
     pub kind: Kind,

@@ -1,14 +1,14 @@
 //! The families, in slots.
-ghost use Rattle.std.specs.Prelude.{◌≡◌, ◌≤◌, ℕ, [], None, Some, nat_eq, nat_lt, option_map, option_copied, length, true, OnOk};
+ghost use Rattle.std.specs.Prelude.{◌≡◌, ◌≤◌, ℕ, [], None, Some, nat_eq, option_and_then, option_map, option_copied, OnOk};
 ghost use Rattle.std.specs.List.{IsDistinct};
 ghost use Rattle.std.specs.Map.{keys_of};
-ghost use Rattle.std.specs.Option.{option_and_then};
 ghost use Rattle.shelf.specs.Shelved.{entries_in};
+ghost use Rattle.token_store.specs.Kin.{seated};
 ghost use Rattle.token_store.specs.Records.{family_numbered};
 ghost use Rattle.token_store.specs.RecordsParts.{where_peopled, HasClosed, OthersStay};
 
 use crate::record::Shared;
-use shelf::{Rack, Slot};
+use shelf::{Rack, Slots};
 use std::alloc::{AllocError, Global};
 use std::marker::Model;
 
@@ -112,16 +112,13 @@ impl Families {
         rack.take(number)
     }
 
-    /// The slots.
+    /// The slots, if there are any yet.
     #[tactic(auto, using(crate::proofs::Keeping::kin_once))]
-    pub(crate) fn slots(&self) -> &[Option<Slot<u64, Shared>>]
-        ensures all { entries_in result.now ≡ self.now.entries }
+    pub(crate) fn slots(&self) -> Option<&Slots<u64, Shared>>
+        ensures all { entries_in (seated (option_copied result)) ≡ self.now.entries }
         ensures unique { IsDistinct nat_eq (keys_of self.now.entries) }
     {
-        let Some(rack) = &self.rack else {
-            return &[];
-        };
-        rack.slots()
+        Some(self.rack.as_ref()?.slots())
     }
 
     /// Lets go of those without records.

@@ -1,6 +1,8 @@
 //! A store's codes and tokens as values.
 ghost use Rattle.std.specs.Prelude.{◌≡◌, filter, IfOk};
 ghost use Rattle.consent.specs.History.{is_unexpired};
+ghost use Rattle.shelf.specs.Shelved.{slot_at};
+ghost use Rattle.shelf.specs.Standing.{stand_slots};
 ghost use Rattle.token_store.specs.Image.{as_kept, kept_record};
 ghost use Rattle.token_store.specs.Records.{kept_of, kept_under, IsTied};
 ghost use Rattle.token_store.specs.RecordsParts.{IsFamilyOf, IsShownIn};
@@ -8,7 +10,6 @@ ghost use Rattle.token_store.specs.RecordsParts.{IsFamilyOf, IsShownIn};
 use crate::record::{Given, Record, Shared};
 use crate::tables::Tables;
 use consent::{Digest, KeptKind, KeptRecord, Moment};
-use shelf::Slot;
 use std::alloc::{AllocError, Global};
 
 impl Record {
@@ -21,6 +22,11 @@ impl Record {
                 owner: texts.owner,
                 redirect: texts.redirect.as_str(),
                 challenge: texts.challenge.as_str(),
+            },
+            Given::UsedCode(owner) => KeptKind::Code {
+                owner: *owner,
+                redirect: "",
+                challenge: "",
             },
             Given::Token(kind, _) => KeptKind::Token(*kind),
         };
@@ -42,23 +48,15 @@ impl Record {
 
 impl Tables {
     // What is in the slot, if it is unexpired.
-    fn unexpired_in<'a>(
-        &self,
-        slot: &'a Option<Slot<Digest, Record>>,
-        moment: Moment,
-    ) -> Option<KeptRecord<'a>>
-        requires { IsFamilyOf self.now.families.entries slot.now }
-        ensures { IsShownIn self.now.families.entries moment slot.now result }
+    fn unexpired_in(&self, slot: usize, moment: Moment) -> Option<KeptRecord<'_>>
+        requires { IsFamilyOf self.now.families.entries (slot_at (stand_slots self.now.records) slot) }
+        ensures { IsShownIn self.now.families.entries moment (slot_at (stand_slots self.now.records) slot) result }
     {
-        let Some(found) = slot else {
-            return None;
-        };
+        let found = self.records.slot(slot)?;
         if !found.kept.is_unexpired(moment) {
             return None;
         }
-        let Some(shared) = self.families.get(found.kept.family) else {
-            unreachable!()
-        };
+        let shared = self.families.get(found.kept.family)?;
         Some(found.kept.kept(&found.key, shared))
     }
 
@@ -72,7 +70,7 @@ impl Tables {
         ensures { IfOk result (λ v. as_kept v.items ≡ filter (λ k. is_unexpired moment k.grant) (kept_of self.now)) }
     {
         let mut kept = Vec::new(alloc);
-        for slot in self.records.slots() {
+        for slot in 0..self.records.slot_count() {
             let Some(found) = self.unexpired_in(slot, moment) else {
                 continue;
             };

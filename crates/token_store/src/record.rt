@@ -2,21 +2,19 @@
 ghost use Rattle.std.specs.Prelude.{◌≡◌, ◌+◌, ℕ, List, IfOk};
 ghost use Rattle.token_store.specs.Found.{family_seen, found_seen, kept_seen};
 ghost use Rattle.token_store.specs.Records.{client_of, code_scope, expiry, is_used, kept_under, shared_seen, code_shared, home_shared, texts_seen, texts_given, used};
-ghost use Rattle.token_store.specs.RecordsParts.{is_live_at, is_open_for, is_peopled, IsCodeRecord, token_kept};
+ghost use Rattle.token_store.specs.RecordsParts.{bare_shared, is_live_at, is_open_for, is_peopled, IsCodeRecord, token_kept};
 
 use crate::found::{Family, Found};
 use consent::{
     CODE_LIFE, ClientNo, CodeFacts, Home, Kind, Moment, NewToken, OwnerNo, ScopeSet, TokenKind,
 };
-use shelf::{Lasts, Stays};
+use shelf::{Blank, Lasts, Stays};
 use std::alloc::{AllocError, Global};
 
 /// What an authorization code has and a token has not.
 #[derive(Drop)]
 pub(crate) struct CodeTexts {
     pub(crate) owner: OwnerNo,
-    /// The code was used.
-    pub(crate) spent: bool,
     pub(crate) redirect: String,
     pub(crate) challenge: String,
 }
@@ -25,6 +23,8 @@ pub(crate) struct CodeTexts {
 #[derive(Drop)]
 pub(crate) enum Given {
     Code(Box<CodeTexts>),
+    /// A code that was used: its owner alone.
+    UsedCode(OwnerNo),
     Token(TokenKind, bool),
 }
 
@@ -64,7 +64,6 @@ impl CodeTexts {
     {
         let texts = CodeTexts {
             owner: facts.owner,
-            spent: false,
             redirect: String::from_str(alloc, facts.redirect)?,
             challenge: String::from_str(alloc, facts.challenge)?,
         };
@@ -73,34 +72,34 @@ impl CodeTexts {
 }
 
 impl Shared {
+    // That of a family without records.
+    fn bare(client: ClientNo, owner: u32, scope: ScopeSet, coded: bool) -> Shared
+        ensures { result ≡ bare_shared client owner scope coded }
+    {
+        Shared {
+            client,
+            owner,
+            scope,
+            until: 0,
+            count: 0,
+            coded,
+            ended: false,
+        }
+    }
+
     /// That of the family that a code opens, without records.
     pub(crate) fn of_code(facts: &CodeFacts<'_>) -> Shared
         ensures { result ≡ code_shared facts.now 0 }
     {
-        Shared {
-            client: facts.client,
-            owner: facts.owner.get(),
-            scope: facts.scope,
-            until: 0,
-            count: 0,
-            coded: true,
-            ended: false,
-        }
+        Shared::bare(facts.client, facts.owner.get(), facts.scope, true)
     }
 
     /// That of a family without a code, without records.
     pub(crate) fn of_home(home: &Home) -> Shared
         ensures { result ≡ home_shared home.now 0 }
     {
-        Shared {
-            client: home.client,
-            owner: OwnerNo::number_of(home.owner),
-            scope: ScopeSet::empty(),
-            until: 0,
-            count: 0,
-            coded: false,
-            ended: false,
-        }
+        let owner = OwnerNo::number_of(home.owner);
+        Shared::bare(home.client, owner, ScopeSet::empty(), false)
     }
 
     /// The scope of the family's code, if one opened it.
@@ -144,21 +143,13 @@ impl Record {
         moment.get() < self.expiry()
     }
 
-    /// That of its family, which shares this.
-    pub(crate) fn homed(self, shared: &Shared) -> Record
-        ensures { result ≡ record self { client = shared.now.client } }
-    {
-        let mut homed = self;
-        homed.client = shared.client;
-        homed
-    }
-
     /// Whether it was used.
     pub(crate) fn is_spent(&self) -> bool
         ensures { result ≡ is_used self.now.given }
     {
         match &self.given {
-            Given::Code(texts) => texts.spent,
+            Given::Code(_) => false,
+            Given::UsedCode(_) => true,
             Given::Token(_, spent) => *spent,
         }
     }
@@ -174,6 +165,7 @@ impl Record {
                 texts.redirect.as_str(),
                 texts.challenge.as_str(),
             ),
+            Given::UsedCode(owner) => (Kind::Code, Some(*owner), "", ""),
             Given::Token(kind, _) => (Kind::Token(*kind), OwnerNo::numbered(shared.owner), "", ""),
         };
         Found {
@@ -202,10 +194,8 @@ impl Record {
         ensures kept { IsCodeRecord number facts.now moment result }
         ensures family { result.family ≡ number }
     {
-        let mut unspent = texts;
-        unspent.spent = false;
         Record {
-            given: Given::Code(unspent),
+            given: Given::Code(texts),
             family: number,
             scope: facts.scope,
             moment,
@@ -254,9 +244,29 @@ impl Lasts for Record {
     }
 
     fn spend(&mut self) {
-        match &mut self.given {
-            Given::Code(texts) => texts.spent = true,
-            Given::Token(_, spent) => *spent = true,
+        self.given = match &self.given {
+            Given::Code(texts) => Given::UsedCode(texts.owner),
+            Given::UsedCode(owner) => Given::UsedCode(*owner),
+            Given::Token(kind, _) => Given::Token(*kind, true),
+        };
+    }
+}
+
+impl Blank for Shared {
+    fn blank() -> Shared {
+        Shared::bare(ClientNo::new(1), 0, ScopeSet::empty(), false)
+    }
+}
+
+impl Blank for Record {
+    fn blank() -> Record {
+        Record {
+            given: Given::Token(TokenKind::Access, false),
+            family: 0,
+            scope: ScopeSet::empty(),
+            moment: Moment::new(0),
+            life: 0,
+            client: ClientNo::new(1),
         }
     }
 }

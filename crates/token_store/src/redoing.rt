@@ -1,6 +1,5 @@
 //! The changes of a list are made again: what can stand in it need not be able to follow.
-ghost use Rattle.std.specs.Prelude.{◌≡◌, ◌++◌, ◌&&◌, List, [], ◌∷◌, ℕ, None, Some, is_some, max, option_map, IfErr, OnOk};
-ghost use Rattle.std.specs.Str.{bytes_eq};
+ghost use Rattle.std.specs.Prelude.{◌≡◌, ◌++◌, ◌&&◌, [], ◌∷◌, ℕ, None, Some, bytes_eq, is_some, max, option_map, IfErr, OnOk};
 ghost use Rattle.std.specs.Map.{lookup};
 ghost use Rattle.shelf.specs.Standing.{stand_entries};
 ghost use Rattle.consent.specs.History.{with_change};

@@ -129,7 +129,6 @@ impl Store {
     }
 
     /// Lets go of what has expired, which changes no answer.
-    #[inline]
     pub fn drop_expired(&mut self, moment: Moment)
         ensures fits { ForEachHistory self.old moment (λ history. FitsStore self.new history moment) }
         // Spent ones and those of ended families are unexpired too.

@@ -1,15 +1,14 @@
 //! The tables: records by digest, the families, and those of each owner and client.
-ghost use Rattle.std.specs.Prelude.{nat_eq, ◌==◌, ◌≡◌, ◌+◌, ◌<◌, ◌≤◌, ◌^◌, ℕ, [], ◌∷◌, ◌++◌, None, Some, true, false, not, nat_lt, max, count_by, is_some, option_map, option_copied, OnOk, OnErr, IfSome, IfNone};
+ghost use Rattle.std.specs.Prelude.{nat_eq, ◌==◌, ◌≡◌, ◌+◌, ◌<◌, ◌≤◌, ◌^◌, ℕ, [], ◌∷◌, ◌++◌, None, Some, true, false, not, nat_lt, max, bytes_eq, count_by, is_some, option_copied, OnOk, OnErr, IfSome, IfNone};
 ghost use Rattle.std.specs.List.{list_any, IsDistinct};
-ghost use Rattle.std.specs.Str.{bytes_eq};
 ghost use Rattle.std.specs.Map.{lookup, keys_of, values_of};
 ghost use Rattle.shelf.specs.Shelved.{in_slot};
 ghost use Rattle.shelf.specs.Standing.{stand_entries};
 ghost use Rattle.token_store.specs.Kept.{kept_at, kept_lives, kept_unexpired, kept_unexpired_of};
 ghost use Rattle.token_store.specs.FitsParts.{are_kept, has_kept_client_room, has_kept_room, kept_refusal};
 ghost use Rattle.token_store.specs.Room.{HasSpare, Waits, room_of};
-ghost use Rattle.token_store.specs.Records.{family_numbered, is_member_at, expiry, kept_under, kept_of, shared_at, IsOwned, IsTied};
-ghost use Rattle.token_store.specs.RecordsParts.{is_open_of, key_of, open_in, start_of, IsNextOwned, kept_found, HasEntered, HasLeft, HasClosed, HasEnded, HasIndexed, HasLowered, HasStruck, KeepsToo, OthersStay, TellsSame};
+ghost use Rattle.token_store.specs.Records.{family_numbered, is_member_at, expiry, kept_of, shared_at, IsOwned, IsTied};
+ghost use Rattle.token_store.specs.RecordsParts.{is_open_of, key_of, open_in, start_of, IsNextOwned, kept_found, HasEntered, HasLeft, HasClosed, HasEnded, HasIndexed, HasLowered, HasStruck, KeepsAs, KeepsToo, OthersStay, TellsSame};
 
 use crate::fault::StoreFault;
 use crate::kin::Families;
@@ -89,6 +88,14 @@ impl Tables {
         self.records.count(moment)
     }
 
+    // At least as many as are unexpired: none is looked at.
+    fn most_unexpired(&self, moment: Moment) -> usize
+        requires { IsTied self.now }
+        ensures { kept_unexpired (kept_of self.now) moment ≤ result }
+    {
+        self.records.most(moment)
+    }
+
     /// So many more would be one too many.
     pub(crate) fn is_full(&self, limit: u32, more: usize, moment: Moment) -> bool
         requires { IsTied self.now }
@@ -97,7 +104,7 @@ impl Tables {
         let Some(most) = most_before(limit, more) else {
             return true;
         };
-        self.records.len() > most && self.count_unexpired(moment) > most
+        self.most_unexpired(moment) > most && self.count_unexpired(moment) > most
     }
 
     // How many of the client's records are unexpired.
@@ -106,6 +113,14 @@ impl Tables {
         ensures { result ≡ kept_unexpired_of (kept_of self.now) client moment }
     {
         self.records.count_of(client.get(), moment)
+    }
+
+    // At least as many as are unexpired of the client's: none is looked at.
+    fn most_of(&self, client: ClientNo, moment: Moment) -> usize
+        requires { IsTied self.now }
+        ensures { kept_unexpired_of (kept_of self.now) client moment ≤ result }
+    {
+        self.records.most_of(client.get(), moment)
     }
 
     // So many more of the client's would be one too many, if those have a limit.
@@ -119,7 +134,7 @@ impl Tables {
         let Some(most) = most_before(limit, more) else {
             return true;
         };
-        self.records.len() > most && self.count_of(quota.client, moment) > most
+        self.most_of(quota.client, moment) > most && self.count_of(quota.client, moment) > most
     }
 
     // One of the digests is that of an unexpired record, or of another of them.
@@ -160,9 +175,8 @@ impl Tables {
     pub(crate) fn is_peopled(&self, number: u64) -> bool
         ensures { result ≡ nat_lt 0 (shared_at self.now.families.entries number).count }
     {
-        self.families
-            .get(number)
-            .is_some_and(|shared| shared.count > 0)
+        let family = self.families.get(number);
+        family.is_some_and(|shared| shared.count > 0)
     }
 
     /// Whether one of the family's records is unexpired.
@@ -180,9 +194,8 @@ impl Tables {
     fn lasts(&self, number: u64, moment: Moment) -> bool
         ensures { result ≡ nat_lt moment (shared_at self.now.families.entries number).until }
     {
-        self.families
-            .get(number)
-            .is_some_and(|shared| moment.get() < shared.until)
+        let family = self.families.get(number);
+        family.is_some_and(|shared| moment.get() < shared.until)
     }
 
     // Whether one is, at a moment before what has gone expired: all records are looked at.
@@ -190,7 +203,12 @@ impl Tables {
         requires { moment < self.now.swept }
         ensures { result ≡ list_any (is_member_at number moment) (values_of (stand_entries self.now.records)) }
     {
-        is_member_among(self.records.slots(), number, moment)
+        for slot in 0..self.records.slot_count() {
+            if is_member_in(self.records.slot(slot), number, moment) {
+                return true;
+            }
+        }
+        false
     }
 
     /// How many of the owner's families there are that a code opened and nothing ended, and of which
@@ -200,29 +218,20 @@ impl Tables {
         ensures count { result ≡ count_by (is_open_of owner (kept_lives (kept_of self.now) moment)) self.now.families.entries }
         ensures unique { IsDistinct nat_eq (keys_of self.now.families.entries) }
     {
-        self.count_open(self.families.slots(), owner, moment)
-    }
-
-    // In how many of the slots such a family is.
-    fn count_open(
-        &self,
-        slots: &[Option<Slot<u64, Shared>>],
-        owner: OwnerNo,
-        moment: Moment,
-    ) -> usize
-        requires { IsTied self.now }
-        ensures { result ≡ count_by (open_in owner (kept_lives (kept_of self.now) moment)) slots.now }
-    {
-        slots
-            .iter()
-            .filter(|slot| self.is_open_in(slot, owner, moment))
-            .count()
+        let Some(slots) = self.families.slots() else {
+            return 0;
+        };
+        let mut count = 0;
+        for slot in 0..slots.len() {
+            count += usize::from(self.is_open_in(slots.get(slot), owner, moment));
+        }
+        count
     }
 
     // Whether such a family is in the slot.
-    fn is_open_in(&self, slot: &Option<Slot<u64, Shared>>, owner: OwnerNo, moment: Moment) -> bool
+    fn is_open_in(&self, slot: Option<&Slot<u64, Shared>>, owner: OwnerNo, moment: Moment) -> bool
         requires { IsTied self.now }
-        ensures { result ≡ open_in owner (kept_lives (kept_of self.now) moment) slot.now }
+        ensures { result ≡ open_in owner (kept_lives (kept_of self.now) moment) (option_copied slot.entry) }
     {
         let Some(found) = slot else {
             return false;
@@ -279,7 +288,8 @@ impl Tables {
         let Some(shared) = self.families.get(new.family).copied() else {
             unreachable!()
         };
-        let new = new.homed(&shared);
+        let mut new = new;
+        new.client = shared.client;
         enter(&mut self.families, new.family, new.expiry());
         if let Some(expired) = self.records.put(digest, new) {
             self.swept = self.swept.max(expired.expiry());
@@ -300,8 +310,7 @@ impl Tables {
         ensures coming { self.new.coming ≡ self.old.coming }
         ensures peopled { 0 < (shared_at self.new.families.entries new.family).count }
         ensures room { (room_of self.old).records ≤ (room_of self.new).records + 1 }
-        ensures keeps { (moment : ℕ) → kept_at (kept_of self.old) digest.now moment ≡ None →
-            TellsSame (kept_of self.old ++ kept_under shared digest.now new ∷ []) (kept_of self.new) moment }
+        ensures keeps { KeepsAs self.old self.new shared digest.now new }
     {
         self.families.set(new.family, shared);
         self.put(digest, new);
@@ -434,21 +443,11 @@ fn start_of(parties: (u32, u32), after: Option<u64>) -> Bound<OwnerKey>
     }
 }
 
-// Whether an unexpired record of the family is in one of the slots.
-fn is_member_among(slots: &[Option<Slot<Digest, Record>>], number: u64, moment: Moment) -> bool
-    ensures { result ≡ list_any (in_slot (is_member_at number moment)) slots.now }
-{
-    slots.iter().any(|slot| is_member_in(slot, number, moment))
-}
-
 // Whether an unexpired record of the family is in the slot.
-fn is_member_in(slot: &Option<Slot<Digest, Record>>, number: u64, moment: Moment) -> bool
-    ensures { result ≡ in_slot (is_member_at number moment) slot.now }
+fn is_member_in(slot: Option<&Slot<Digest, Record>>, number: u64, moment: Moment) -> bool
+    ensures { result ≡ in_slot (is_member_at number moment) (option_copied slot.entry) }
 {
-    let Some(found) = slot else {
-        return false;
-    };
-    found.kept.family == number && found.kept.is_unexpired(moment)
+    slot.is_some_and(|found| found.kept.family == number && found.kept.is_unexpired(moment))
 }
 
 fn is_among(digest: &Digest, digests: &[Digest]) -> bool

@@ -1,5 +1,6 @@
 use Rattle.std.proofs.Common.{◌≡◌, ◌+◌, length}
 use Rattle.token_store.proofs.Names.{kept_of, stand_entries, IsTied, TellsSame}
+use Rattle.shelf.specs.Standing.{stand_to_look}
 use Rattle.token_store.proofs.tables.Tables.drop_some.Given as goal
 
 abbrev pub invariant-loop-left : goal.invariant-loop-left
@@ -11,4 +12,4 @@ invariant-loop-left l = record {
 }
 
 abbrev pub decreases-loop-left : goal.decreases-loop-left
-decreases-loop-left l = l.left
+decreases-loop-left l = stand_to_look l.self.records l.moment

@@ -7,7 +7,7 @@ use Rattle.token_store.proofs.tables.Tables.put.Goals as goal
 pub enter-requires : goal.enter-requires
 enter-requires c =
     let t = c.args.self.now in
-    let le = count_few t.families.entries (stand_entries t.records) c.homed-new.result.family c.requires.tied.ties.counted in
+    let le = count_few t.families.entries (stand_entries t.records) c.args.new.family c.requires.tied.ties.counted in
     let len = c.len.ensures.value in
     let few = c.len.ensures.small in
     omega (arith, le, len, few)
@@ -18,29 +18,27 @@ returns-in-Some-put c =
     let t = c.args.self.now in
     let f = t.families.entries in
     let d = c.args.digest.now in
-    let r = c.homed-new.result in
+    let r : Record = record c.args.new { client = c.in-Some.shared.client } in
     let x = c.in-Some-put.expired in
     let e = c.put.ensures in
-    let is = c.homed-new.ensures in
-    let of : r.family ≡ c.args.new.family = ap (λ (y : Record). y.family) is in
     let got = c.get.ensures.value in
     let same = c.copied.ensures in
     let found = c.in-Some.is in
     let there : family_numbered f c.args.new.family ≡ Some c.in-Some.shared = grind (arith, got, same, found) in
-    let home : r.client ≡ (shared_at f r.family).client = ap (λ (y : Record). y.client) is ∙ ap (λ o. (or_nothing o).client) (sym there) ∙ ap (λ n. (shared_at f n).client) (sym of) in
+    let home : r.client ≡ (shared_at f r.family).client = ap (λ o. (or_nothing o).client) (sym there) in
     let puts = rw c.in-Some-put.is at e.puts in
     let later = c.max-self.ensures in
     let until = c.expiry-in-Some-put.ensures in
     let all = settled f c.enter.new.families.entries c.leave.new.families.entries (stand_entries t.records) (stand_entries c.put.new.self) t.owners.keys c.leave.new.owners.keys t.last t.swept c.max-self.result
-    d (Some x) r c.requires.tied.ties (rw of c.requires.passed) (rw of c.requires.open) home (rw c.expiry.ensures at c.enter.ensures.entered) c.leave.ensures.left c.leave.ensures.owned
+    d (Some x) r c.requires.tied.ties c.requires.passed c.requires.open home (rw c.expiry.ensures at c.enter.ensures.entered) c.leave.ensures.left c.leave.ensures.owned
     puts e.found (omega (arith, later)) (λ y its. (let own : x ≡ y = grind (arith, its) in subst (λ (z : Record). expiry z ≤ c.max-self.result) own (omega (arith, later, until)))) in
     let at : lookup (bytes_eq d) (stand_entries c.put.new.self) ≡ Some r = (let own = (bytes_eq-Decides d d).1 refl in e.found d ∙ rw own refl) in
     record {
       tied = record { standing = e.standing; ties = all.tied };
       last = refl;
       coming = refl;
-      peopled = (let member = member_counted d (stand_entries c.put.new.self) r at in let count = all.tied.counted r.family in let some : 0 < (shared_at c.leave.new.families.entries r.family).count = omega (arith, member, count) in rw of at some);
-      keeps = rw is at all.keeps;
+      peopled = (let member = member_counted d (stand_entries c.put.new.self) r at in let count = all.tied.counted r.family in let some : 0 < (shared_at c.leave.new.families.entries r.family).count = omega (arith, member, count) in some);
+      keeps = all.keeps;
       room = e.room;
       entered = λ none. absurd (let was = puts.found in let both : None ≡ Some x = sym none ∙ was in cc);
     }
@@ -51,28 +49,26 @@ returns-in_default-put c =
     let t = c.args.self.now in
     let f = t.families.entries in
     let d = c.args.digest.now in
-    let r = c.homed-new.result in
+    let r : Record = record c.args.new { client = c.in-Some.shared.client } in
     let e = c.put.ensures in
-    let is = c.homed-new.ensures in
-    let of : r.family ≡ c.args.new.family = ap (λ (y : Record). y.family) is in
     let got = c.get.ensures.value in
     let same = c.copied.ensures in
     let found = c.in-Some.is in
     let there : family_numbered f c.args.new.family ≡ Some c.in-Some.shared = grind (arith, got, same, found) in
-    let home : r.client ≡ (shared_at f r.family).client = ap (λ (y : Record). y.client) is ∙ ap (λ o. (or_nothing o).client) (sym there) ∙ ap (λ n. (shared_at f n).client) (sym of) in
+    let home : r.client ≡ (shared_at f r.family).client = ap (λ o. (or_nothing o).client) (sym there) in
     let puts = rw c.in_default-put.is at e.puts in
     let f' = c.enter.new.families.entries in
     let entered = rw c.expiry.ensures at c.enter.ensures.entered in
     let all = settled f f' f' (stand_entries t.records) (stand_entries c.put.new.self) t.owners.keys t.owners.keys t.last t.swept t.swept
-    d None r c.requires.tied.ties (rw of c.requires.passed) (rw of c.requires.open) home entered refl (λ owned. owned)
+    d None r c.requires.tied.ties c.requires.passed c.requires.open home entered refl (λ owned. owned)
     puts e.found (omega arith) (λ y its. cc) in
     let at : lookup (bytes_eq d) (stand_entries c.put.new.self) ≡ Some r = (let own = (bytes_eq-Decides d d).1 refl in e.found d ∙ rw own refl) in
     record {
       tied = record { standing = e.standing; ties = all.tied };
       last = refl;
       coming = refl;
-      peopled = (let member = member_counted d (stand_entries c.put.new.self) r at in let count = all.tied.counted r.family in let some : 0 < (shared_at f' r.family).count = omega (arith, member, count) in rw of at some);
-      keeps = rw is at all.keeps;
+      peopled = (let member = member_counted d (stand_entries c.put.new.self) r at in let count = all.tied.counted r.family in let some : 0 < (shared_at f' r.family).count = omega (arith, member, count) in some);
+      keeps = all.keeps;
       room = e.room;
-      entered = λ none. rw is at entered;
+      entered = λ none. entered;
     }
