@@ -1,6 +1,6 @@
 -- What was found under a digest, as the history has it.
 use Rattle.std.specs.Prelude.{◌≡◌, ◌&&◌, ℕ, List, Bool, not, Some}
-use Rattle.answers.specs.Names.{Event, Grant, grant_at, is_spent, has_ended, RegistryRecord, has_room, has_client_room, is_taken, Seen, found_seen, Found}
+use Rattle.answers.specs.Names.{Event, Grant, told_at, is_spent, has_ended, RegistryRecord, has_room, has_client_room, is_taken, Seen, found_seen, Found}
 use Rattle.answers.specs.Quotas.{records_of}
 
 -- what is seen, under its digest
@@ -22,9 +22,9 @@ grant_seen digest seen = record {
 abbrev pub grant_found : List ℕ → Found → Grant
 grant_found digest found = grant_seen digest (found_seen found)
 
--- the digest names it, and is spent and has ended as in the history
+-- the digest names it, as it is told, and it is spent and has ended as in the history
 pub record IsFound (history : List Event) (digest : List ℕ) (m : ℕ) (found : Found) : Type 0 where
-  pub named : grant_at history digest m ≡ Some (grant_found digest found)
+  pub named : told_at history digest m ≡ Some (grant_found digest found)
   pub spent_is : found.spent ≡ is_spent history digest m
   pub ended_is : found.ended ≡ has_ended history found.family
 

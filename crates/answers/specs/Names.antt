@@ -11,7 +11,7 @@ pub use Rattle.clients.specs.Owners.{sub_of, owner_with}
 pub use Rattle.clients.specs.RegistryRecord.{RegistryRecord}
 pub use Rattle.consent.specs.Changes.{changes_of, as_list}
 pub use Rattle.consent.specs.History.{has_room, has_client_room, is_taken, Event, Grant, grant_at, is_spent, has_ended, grants, is_named, is_unexpired, Change, is_within}
-pub use Rattle.consent.specs.Seen.{Seen, seen_at}
+pub use Rattle.consent.specs.Seen.{Seen, seen_at, told_at}
 pub use Rattle.hook_host.specs.declared.fault.HookFault.{HookFault}
 pub use Rattle.hook_record.specs.declared.Ask.{Ask}
 pub use Rattle.hook_record.specs.declared.Narrowed.{Narrowed}

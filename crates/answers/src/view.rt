@@ -1,7 +1,8 @@
 //! What a request is decided by.
 ghost use Rattle.std.specs.Prelude.{◌≡◌, List, IfSome};
-ghost use Rattle.consent.specs.History.{Event, consented_scope, grant_at, next_family};
+ghost use Rattle.consent.specs.History.{Event, consented_scope, next_family};
 ghost use Rattle.consent.specs.Owners.{owner_number};
+ghost use Rattle.consent.specs.Seen.{told_at};
 ghost use Rattle.answers.specs.Found.{IsFound, is_free};
 ghost use Rattle.answers.specs.Quotas.{quota_of};
 ghost use Rattle.answers.specs.Views.{Finds, Shows};
@@ -27,7 +28,7 @@ pub struct View<'a> {
 impl<'a> View<'a> {
     /// The unexpired code or token that the digest names.
     pub fn at(&self, digest: &Digest) -> Option<Found<'a>>
-        ensures value { Finds self.now digest.now result (λ history. grant_at history digest.now self.now.moment) }
+        ensures value { Finds self.now digest.now result (λ history. told_at history digest.now self.now.moment) }
         ensures found { (history : List Event) → Shows self.now history →
             IfSome result (IsFound history digest.now self.now.moment) }
     {

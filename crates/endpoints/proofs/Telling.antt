@@ -1,13 +1,16 @@
 -- What was decided is what the points come to.
-use Rattle.std.proofs.Common.{◌≡◌, ◌∙◌, ◌+◌, ap, sym, subst, refl, ℕ, List, [], ◌∷◌, Bool, true, false, Option, Some, arith}
+use Rattle.std.proofs.Common.{◌≡◌, ◌∙◌, ◌+◌, ap, cond, sym, subst, refl, ℕ, List, [], ◌∷◌, Bool, true, false, Option, None, Some, arith}
 use Rattle.endpoints.specs.Names.{scope_text, TokenKind}
 use Rattle.endpoints.proofs.Names.{eq-eqb, eqb-true, eqb-false, ne_eqb, not-true, not-false, RegistryRecord, Event, Grant, has_consent_room}
 use Rattle.endpoints.proofs.Names.{where_good, Kind, Code, Token, consent_body, plain, Active, Inactive, InvalidGrant, Halts, Outcome, bare, need, only, point, refuse, unavailable, id_of}
 use Rattle.endpoints.proofs.Names.{Setting, Halt, consent_given, introspect, told_of, live_of, with_presented, Presented, revoke_token, revoked, Asked}
-use Rattle.std.specs.Prelude.{◌==◌, length, not}
+use Rattle.std.specs.Prelude.{◌==◌, length, not, option_map}
 use Rattle.clients.specs.Owners.{sub_of}
 use Rattle.consent.specs.History.Change.{Consented}
-use Rattle.consent.specs.History.{consents_of, families_of}
+use Rattle.consent.specs.History.{consents_of, families_of, is_good, is_spent}
+use Rattle.consent.specs.Seen.{told_as, told_at}
+use Rattle.consent.specs.SeenLaws.{told_token}
+use Rattle.endpoints.proofs.Names.{grant_at, is_code, where_passes}
 use Rattle.answers.specs.declared.answer.Answer.TheVariants.{Ended}
 use Rattle.endpoints.proofs.Besides.{withdrawn_are}
 use Rattle.endpoints.proofs.Names.{Left, outcome_told, owner_ended}
@@ -73,6 +76,24 @@ pub agrees : (b : Bool) (n k : ℕ) → b ≡ not (n == k) → b ≡ false → n
 agrees b n k is false_is = eqb-true n k (not-false (n == k) (sym is ∙ false_is))
 
 -- WHAT WAS PRESENTED
+
+-- of a live token all is told
+pub live_as_told : (history : List Event) (m : ℕ) (digest : List ℕ) →
+    where_passes (λ g. not (is_code g.kind)) (where_good history digest m (told_at history digest m)) ≡ live_of history m (Some digest)
+live_as_told history m digest = by (grant_at history digest m)
+  where
+    spent : Bool
+    spent = is_spent history digest m
+
+    some : (g : Grant) (code good : Bool) → is_code g.kind ≡ code → is_good history digest m g ≡ good →
+        where_passes (λ g. not (is_code g.kind)) (where_good history digest m (Some (told_as spent g))) ≡ where_passes (λ g. not (is_code g.kind)) (where_good history digest m (Some g))
+    some g true true is good = rw (good, is) refl
+    some g true false is bad = rw bad refl
+    some g false good is its = ap (λ (x : Grant). where_passes (λ (g : Grant). not (is_code g.kind)) (cond {A = Option Grant} (is_good history digest m g) (Some x) None)) (told_token spent g is)
+
+    by : (o : Option Grant) → where_passes (λ g. not (is_code g.kind)) (where_good history digest m (option_map (told_as spent) o)) ≡ where_passes (λ g. not (is_code g.kind)) (where_good history digest m o)
+    by None = refl
+    by (Some g) = some g (is_code g.kind) (is_good history digest m g) refl refl
 
 module _ (s : Setting) (asked : Asked) (number : ℕ) (digest : Option (List ℕ)) (live : Option Grant) where
   abbrev LeadsOn : Type 0

@@ -29,8 +29,7 @@ pub(crate) struct Requester<'r, 'p> {
 
 /// The parameters of the query.
 pub(crate) fn query<'a>(alloc: Global, request: &Request<'a>) -> Result<Params<'a>, Halt>
-    ensures leads { (next : Parameters → Outcome) →
-        LeadsOrHalts result (with_query (asked_of request.entry.now) next) next }
+    ensures leads { (next : Parameters → Outcome) → LeadsOrHalts result (with_query (asked_of request.entry.now) next) next }
     ensures short { length request.entry.now.target.now ≤ state_limit → IfOk result HasShortState }
 {
     match Params::read(alloc, request.query()) {

@@ -50,6 +50,7 @@ pub(crate) fn presented_by(
 }
 
 // The live access or refresh token of the digest.
+#[tactic(auto, using(crate::proofs::Telling::live_as_told))]
 pub(crate) fn live_token<'a>(view: &View<'a>, digest: &Digest) -> Option<Found<'a>>
     ensures { InEachSetting view.now (λ s. FindsLive digest.now s result) }
 {

@@ -1,5 +1,9 @@
 -- Parts of the columns of points. Only the functions' own clauses cite this module.
-use Rattle.std.specs.Prelude.{ℕ, not, codes, bytes_eq}
+use Rattle.std.specs.Prelude.{ℕ, List, Option, not, codes, bytes_eq}
+use Rattle.answers.specs.Texts.{where_passes}
+use Rattle.answers.specs.Tokens.{is_own}
+use Rattle.consent.specs.History.{Event, is_code}
+use Rattle.consent.specs.Seen.{told_at}
 use Rattle.token_endpoint.specs.Names.{value_sent, proves, ClientRecord, grant_named, has_grant, GrantType, Grant, is_spent, has_ended, Ask, Code, Narrowed, InvalidRequest, InvalidGrant}
 use Rattle.token_endpoint.specs.Names.{InvalidScope, UnauthorizedClient, UnsupportedGrantType, Outcome, point, need, refuse, unless_denied, Parameters, KnownClient, Setting, code_of_client}
 use Rattle.consent.specs.Owners.{owner_number}
@@ -24,6 +28,10 @@ type_points params client next =
 -- POST /token, once the client is known
 abbrev pub token_points : Setting → Parameters → KnownClient → Outcome
 token_points s params known = type_points params known.client (λ grant. grant_points grant s params known)
+
+-- the unexpired code of the digest, if it is this client's, as it is told
+abbrev pub told_code : List Event → ℕ → ℕ → List ℕ → Option Grant
+told_code history m client digest = where_passes (is_own is_code client) (told_at history digest m)
 
 -- the exchange of the client's code, by what the host left
 abbrev pub exchanged_by : Setting → ClientRecord → Grant → Narrowed → Outcome

@@ -5,10 +5,9 @@ ghost use Rattle.answers.specs.Found.{IsFound};
 ghost use Rattle.answers.specs.Short.{IsShortAnswer};
 ghost use Rattle.answers.specs.Told.{DecidesAsking};
 ghost use Rattle.answers.specs.ToldParts.{DecidesOf};
-ghost use Rattle.answers.specs.Tokens.{code_of_client};
 ghost use Rattle.answers.specs.Views.{Finds, Shows, known_of};
 ghost use Rattle.token_endpoint.specs.Exchange.{exchange};
-ghost use Rattle.token_endpoint.specs.Parts.{exchange_at, exchanged_by};
+ghost use Rattle.token_endpoint.specs.Parts.{exchange_at, exchanged_by, told_code};
 
 use crate::granting::{Wish, access_for, ask_for, both_for, ending};
 use answers::{Answer, Decision, Halt, KnownClient, View, digest_told};
@@ -31,7 +30,7 @@ pub(crate) struct Presented<'a> {
 
 // The unexpired code of the digest, spent or not, which is the client's.
 fn own_code<'a>(view: &View<'a>, client: ClientNo, digest: &Digest) -> Option<Found<'a>>
-    ensures value { Finds view.now digest.now result (λ history. code_of_client history view.now.moment client digest.now) }
+    ensures value { Finds view.now digest.now result (λ history. told_code history view.now.moment client digest.now) }
     ensures found { (history : List Event) → Shows view.now history →
         IfSome result (IsFound history digest.now view.now.moment) }
     ensures own { IfSome result (λ code. code.client ≡ client) }
@@ -95,6 +94,7 @@ fn exchanged<'c>(
 }
 
 // The points from the code's on, by its digest.
+#[tactic(auto, using(crate::proofs::Telling::code_none, crate::proofs::Telling::code_unspent, crate::proofs::Telling::spent_ends))]
 fn exchange_at<'c, H: HookHost>(
     view: &View<'_>,
     host: &H,
