@@ -2,7 +2,7 @@
 use Rattle.std.proofs.Common.{◌≡◌, ◌≢◌, inl, inr, ℕ, Some, refl, sym, ap, subst, ◌∙◌, arith, true, false, slice_get, slice_set}
 use Rattle.event_loop.proofs.Names.{Place, IsOccupied, MayRead, MayWrite, read_limit, AreWithin, same_Some, connection_at, Progress, known, led, Promises, LoopState, IsAllKept, with_call, with_place}
 use Rattle.event_loop.proofs.Names.{Ended, Broken, CallKind, IsDone, Transfer, Reading, Writing, Served, goes, Running, Standing, Past, Duty, DoneAfter, ActsAt, ReadsAt, IsReadyFor, state_of, to_read}
-use Rattle.event_loop.proofs.Names.{to_write, ReadsPlace, WritesPlace, offered, Read, Write, Refused}
+use Rattle.event_loop.proofs.Names.{to_write, taken_stage, ReadsPlace, WritesPlace, offered, Read, Write, Refused}
 use Rattle.event_loop.specs.Calls as call
 use Rattle.event_loop.specs.Reading as reading
 use Rattle.event_loop.specs.Writing as writing
@@ -45,7 +45,7 @@ module _ {N C J K H : Type 0} (p : Promises N C J K H) (k : ℕ) (place : Place)
     writes : (took : Transfer) (place' : Place) (n : N) (progress : Progress H) → ((j : ℕ) → j ≢ k → known progress j ≡ known s.progress j) →
         (IsAllKept s.progress.journey.world → IsAllKept progress.journey.world) →
         (AreWithin s.limits.idle s.times s.places → AreWithin s.limits.idle s.times (slice_set s.places k place')) →
-        ActsOnce (to_write k) s (record (with_place (with_call s (offered s k took) n) k place') { progress = progress })
+        ActsOnce (to_write k) s (record (with_place (with_call s (offered s k place took) n) k place') { progress = progress })
     writes took place' n progress others ready within = record {
       done = one_more _ _ refl refl (λ kind t. inr t) (not_of_kind _ _ (λ is. absurd (cc)));
       places = λ j other. set_other s.places k j place' other;
@@ -67,9 +67,9 @@ module _ {N C J K H : Type 0} (p : Promises N C J K H) (k : ℕ) (place : Place)
     reads_once s' (reading.fails n done) = reads call.Failed (record place { stage = Broken Read }) n s.progress refl (λ j other. refl)
 
     writes_once : (s' : LoopState N C J K H) → WritesPlace p k place s s' → ActsOnce (to_write k) s s'
-    writes_once s' (writing.sends count front n e on some is done) =
-        writes (call.Bytes front) (record place { since = s.times.steady; turn = s.turn }) n (led s.progress on) (λ j. takes_other s.progress.journey.world on.world k j count on.happens)
-        (takes_kept s.progress.journey.world on.world k count on.happens) (put_within s.limits.idle s.times s.places k (record place { since = s.times.steady; turn = s.turn }) (λ _. omega arith))
+    writes_once s' (writing.sends count front n e on some within is done) =
+        writes (call.Bytes front) (record place { stage = taken_stage place.stage count; since = s.times.steady; turn = s.turn }) n (led s.progress on) (λ j. takes_other s.progress.journey.world on.world k j count on.happens)
+        (takes_kept s.progress.journey.world on.world k count on.happens) (put_within s.limits.idle s.times s.places k (record place { stage = taken_stage place.stage count; since = s.times.steady; turn = s.turn }) (λ _. omega arith))
     writes_once s' (writing.finds_no_room n done) =
         writes call.Nothing (record place { writable = false }) n s.progress (λ j other. refl) (λ was. was) (silent (record place { writable = false }) refl)
     writes_once s' (writing.fails n done) =

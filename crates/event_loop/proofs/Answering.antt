@@ -1,7 +1,7 @@
 -- Whatever steps lead to, what was written answers what was read.
 use Rattle.std.proofs.Common.{◌≡◌, ◌≢◌, inl, inr, ℕ, List, [], ◌∷◌, ◌++◌, false, Some, length, append_assoc, refl, sym, ap, subst, ◌∙◌, slice_get, slice_set}
 use Rattle.event_loop.proofs.Names.{Place, IsOccupied, IsInService, IsFreeAt, MayRead, read_limit, Closes, leaves, eqb_tells, connection_at, piece_of, untaken, is_closing, Progress, known, IsReached}
-use Rattle.event_loop.proofs.Names.{GivesPieces, false≢true, no_other, Promises, LoopState, with_call, with_place, Free, Open, Ended, Broken, Call, opens, denies, fresh_place, LoopStep, Served}
+use Rattle.event_loop.proofs.Names.{GivesPieces, false≢true, no_other, Promises, LoopState, with_call, with_place, Free, Open, Ended, Broken, Call, opens, denies, fresh_place, LoopStep, Served, Leaving, IsStaying, to_offer, taken_stage}
 use Rattle.event_loop.proofs.Names.{hears_of, hears_out, comes, reads, writes, closes, keeps, begins, goes, ReadsPlace, WritesPlace, Read, Write, Refused}
 use Rattle.event_loop.specs.Coming.{fails}
 use Rattle.event_loop.specs.declared.place.Stage.{Stage}
@@ -25,6 +25,17 @@ served_taken stage is = tt
 -- where a place is free, no connection is there
 not_free : (places : List Place) (k : ℕ) (place : Place) → IsFreeAt places k → slice_get places k ≡ Some place → IsOccupied place.stage → ⊥
 not_free places k place free here taken = subst IsOccupied (free place here) taken
+
+-- so is one that does not make room
+pub staying_taken : (stage : Stage) → IsStaying stage → IsOccupied stage
+staying_taken Open is = tt
+staying_taken Ended is = tt
+staying_taken stage is = absurd is
+
+-- it is read once bytes were taken, if it was before
+open_before : (stage : Stage) (count : ℕ) → taken_stage stage count ≡ Open → stage ≡ Open
+open_before (Leaving left) count is = absurd (cc)
+open_before stage count is = is
 
 module _ {N C J K H : Type 0} where
   exchange_of : (s : LoopState N C J K H) (k : ℕ) (place : Place) (read written lost : List ℕ) → read_at k s.calls ≡ read → written_at k s.calls ≡ written → (t : Talk read written lost (known s.progress k)) →
@@ -137,15 +148,15 @@ module _ {N C J K H : Type 0} where
         notes_place _ j place (record place { stage = Broken Read }) here refl refl (λ taken. subst IsOccupied (sym may.is_open) tt) (λ e. may.is_open) (λ k. refl) (λ k. refl)
 
     writes_answered : (j : ℕ) (place : Place) (s' : LoopState N C J K H) → slice_get s.places j ≡ Some place → IsOccupied place.stage → WritesPlace p j place s s' → IsAllAnswered p s'
-    writes_answered j place s' here taken (writing.sends count front n e on some is_front done) =
+    writes_answered j place s' here taken (writing.sends count front n e on some within is_front done) =
         let x = before.exchanges j place here taken in
-        let room = length (untaken (known s.progress j)) in
+        let room = length (to_offer place.stage (untaken (known s.progress j))) in
         let t' = talk_written s.progress.journey.world on.world j count _ _ x.lost front some is_front on.happens x.talk in
         record {
           reached = on.reached;
           exchanges =
-              at_places _ j (record place { since = s.times.steady; turn = s.turn }) refl
-              (λ taken'. exchange_of _ j (record place { since = s.times.steady; turn = s.turn }) _ _ x.lost refl (wrote_here j room front s.calls) t' (λ is_open stays. x.whole is_open (sym (closing_taken s.progress.journey.world on.world j count on.happens) ∙ stays)))
+              at_places _ j (record place { stage = taken_stage place.stage count; since = s.times.steady; turn = s.turn }) refl
+              (λ taken'. exchange_of _ j (record place { stage = taken_stage place.stage count; since = s.times.steady; turn = s.turn }) _ _ x.lost refl (wrote_here j room front s.calls) t' (λ is_open stays. x.whole (open_before place.stage count is_open) (sym (closing_taken s.progress.journey.world on.world j count on.happens) ∙ stays)))
               (λ k other. takes_other s.progress.journey.world on.world j k count on.happens other) (λ k other. refl) (λ k other. wrote_other j k room front s.calls other);
         }
     writes_answered j place s' here taken (writing.finds_no_room n done) =
@@ -182,8 +193,8 @@ module _ {N C J K H : Type 0} where
     step_answered s' (reads j place s'' here readable unread may reading) = reads_answered j place s'' here may reading
     step_answered s' (writes j place s'' here writable unwritten kept may writing) = writes_answered j place s'' here (served_taken place.stage may.served) writing
     step_answered s' (closes j place s'' here taken cause closing) = closes_answered j place s'' closing
-    step_answered s' (hears_out j place here waiting late eldest none) =
-        notes_place _ j place (record place { stage = Ended }) here refl refl (λ taken. subst IsOccupied (sym eldest.holds.is_open) tt) (λ e. absurd (cc)) (λ k. refl) (λ k. refl)
+    step_answered s' (hears_out j place left here waiting late eldest none is_left some) =
+        notes_place _ j place (record place { stage = Leaving left; came = s.times.steady }) here refl refl (λ taken. staying_taken place.stage eldest.holds.stays) (λ e. absurd (cc)) (λ k. refl) (λ k. refl)
     step_answered s' (keeps keeper e unkept on undone kept basis further) = record {
       reached = on.reached;
       exchanges = λ k place here taken.

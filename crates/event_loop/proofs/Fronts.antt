@@ -141,7 +141,7 @@ module _ {N C J K H : Type 0} (p : Promises N C J K H) where
   reads_does j place s s' (reading.fails n done) = calls_on s _ n s.progress done refl (λ k room took is. absurd (cc)) refl (grows_not s.times.moment _ _ refl)
 
   writes_does : {limit : ℕ} (j : ℕ) (place : Place) (s s' : LoopState N C J K H) → IsAllKept s.progress.journey.world → WritesPlace p j place s s' → Does p limit s s'
-  writes_does j place s s' all (writing.sends count front n e on some is_front done) = record {
+  writes_does j place s s' all (writing.sends count front n e on some within is_front done) = record {
     moves = goes_on (refl, (refl, refl), refl) (takes_grows s.times.moment s.progress.journey.world on.world j count on.happens);
     did = λ first before. deed.did _ n before done;
     kept = λ k room took is. all;

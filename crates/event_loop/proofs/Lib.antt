@@ -15,4 +15,5 @@ pub mod Slicing
 pub mod Moments
 pub mod Names
 pub mod Rooming
+pub mod HeardOut
 pub mod Hearing

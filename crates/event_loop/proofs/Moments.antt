@@ -1,6 +1,6 @@
 -- The keeper tells the moment that the clocks told last, and each crash the moments by which requests were answered.
 use Rattle.std.proofs.Common.{◌≡◌, ◌≢◌, ◌⊎◌, inl, inr, ◌<◌, ◌≤◌, ℕ, List, [], refl, sym, ap, subst, ◌∙◌, arith}
-use Rattle.event_loop.proofs.Names.{Until, HoldsBasis, KeepsBasis, TellsBasis, Times, AllFree, IsInService, IsOccupied, eqb_tells, World, Journey, Promises, LoopState, LoopStep, Served, Shuts}
+use Rattle.event_loop.proofs.Names.{Until, HoldsBasis, KeepsBasis, TellsBasis, Times, AllFree, IsInService, IsStaying, IsOccupied, eqb_tells, World, Journey, Promises, LoopState, LoopStep, Served, Shuts}
 use Rattle.event_loop.proofs.Names.{TellsLast, begins, goes, LoopFault, Empty, Onward, stays, onward, MomentIsHeld, MomentStays, CannotGoOn}
 use Rattle.event_loop.specs.Calls.{waits}
 use Rattle.event_loop.specs.EndsLaws.{end_keeper}
@@ -79,7 +79,7 @@ module _ {N C J K H : Type 0} (p : Promises N C J K H) where
   untouched_on s s' u (step.reads j place s'' here readable unread may reading) = absurd (let not = sym (u.free j place here) ∙ may.is_open in cc)
   untouched_on s s' u (step.writes j place s'' here writable unwritten kept may writing) = absurd (subst IsInService (u.free j place here) may.served)
   untouched_on s s' u (step.closes j place s'' here taken cause closing) = absurd (subst IsOccupied (u.free j place here) taken)
-  untouched_on s s' u (step.hears_out j place here waiting late eldest none) = absurd (let not = sym (u.free j place here) ∙ eldest.holds.is_open in cc)
+  untouched_on s s' u (step.hears_out j place left here waiting late eldest none is_left some) = absurd (subst IsStaying (u.free j place here) eldest.holds.stays)
   untouched_on s s' u (step.keeps keeper e unkept on undone kept moments further) =
       (ap (λ (w : World). w.greatest) on.happens.kept, λ none. record { free = u.free; found = u.found; queue = u.queue })
   untouched_on s s' u next = (refl, λ none. record { free = u.free; found = u.found; queue = u.queue })

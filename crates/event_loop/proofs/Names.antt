@@ -1,12 +1,12 @@
 -- The names of other crates that more than one file of these proofs uses.
-pub use Rattle.event_loop.specs.Names.{IsFrontOf, Holds, Keeps, KeepsBasis, Leaves, TellsBasis, HoldsBasis, Until, Event, Write, Refused, LoopFault, Ended, Broken, Free, Open, Queue, Told}
+pub use Rattle.event_loop.specs.Names.{IsFrontOf, Holds, Keeps, KeepsBasis, Leaves, TellsBasis, HoldsBasis, Until, Event, Write, Refused, LoopFault, Ended, Leaving, AreLeftOfReply, Broken, Free, Open, Queue, Told}
 pub use Rattle.event_loop.specs.Names.{Empty, Barred, Waits, Ready, Hosting, SeenEdge, is_closing, Journey, Reached, led_on, connection_at, piece_of, untaken, Piece, World, Connection, Opened, Forgotten}
 pub use Rattle.event_loop.specs.Names.{HasEnded, InEach}
 pub use Rattle.change_codec.specs.Keeping.{Crashes, Basis, LeavesEither}
 pub use Rattle.change_codec.specs.Keepers.{keeping}
 pub use Rattle.endpoints.specs.Server.{Outset, AreUnkept}
 pub use Rattle.event_loop.specs.Calls.{CallKind, IsDone, Transfer, Reading, Looking, Writing, Call, Keeping, Shortening, done_since, Wrote, waits as waits_done, Accepting}
-pub use Rattle.event_loop.specs.Closing.{AreWithin, Closes, leaves, Cause, gives_way, makes_room, freed_queue, is_silent, IsBehindReply, IsOwed}
+pub use Rattle.event_loop.specs.Closing.{AreWithin, Closes, leaves, Cause, gives_way, makes_room, freed_queue, is_silent, IsBehindReply, IsOwed, HasWhole, leaves_rest}
 pub use Rattle.event_loop.specs.Coming.{opens, denies, fresh_place, finds_nobody, asks}
 pub use Rattle.event_loop.specs.Durable.{Carries, Onward, stays, onward, KeeperHolds, StandsBetween, IsWriteKept, MomentIsHeld, MomentStays}
 pub use Rattle.event_loop.specs.Ends.{CannotGoOn, no_wait, no_time, too_far, no_moment, not_kept, not_shortened, no_more}
@@ -19,7 +19,7 @@ pub use Rattle.event_loop.specs.Goes.{AreAllSettled, IsHearing, IsHeardAs, Reads
 pub use Rattle.event_loop.specs.Goes.{MayRest, IsToldAs, IsWorkLeft, a_read, a_write, IsLeftAt, noted_in, LeadsToHearing, LeadsShut, LeadsReading, LeadsRound, GoesRound, IsInTime}
 pub use Rattle.event_loop.specs.LoopStates.{Promises, LoopState, IsAllKept, with_call, with_place, IsUnkept, promises}
 pub use Rattle.event_loop.specs.Noting.{Noted, notes_it, passes}
-pub use Rattle.event_loop.specs.Places.{IsOccupied, MayRead, MayWrite, read_limit, IsInService, IsFreeAt, NeedsNoRead, NeedsNoWrite, AllFree, is_taken, open_count, IsOver, IsPlaceAtRest}
+pub use Rattle.event_loop.specs.Places.{IsOccupied, MayRead, MayWrite, read_limit, IsInService, IsFreeAt, NeedsNoRead, NeedsNoWrite, AllFree, is_taken, open_count, IsOver, IsPlaceAtRest, IsStaying, to_offer, taken_stage}
 pub use Rattle.event_loop.specs.Progress.{Progress, known, led, IsReached}
 pub use Rattle.event_loop.specs.Reading.{ReadsPlace, hears, refuses, ends, ends_nothing, finds_nothing, read_place}
 pub use Rattle.event_loop.specs.Reporting.{TellsRefusal, is_long_ago, full, reported}

@@ -3,7 +3,8 @@ use Rattle.std.proofs.Common.{◌≡◌, ◌≢◌, inl, inr, ◌<◌, ℕ, suc,
 use Rattle.event_loop.proofs.Names.{Times, Place, IsOccupied, IsInService, MayRead, MayWrite, NeedsNoRead, IsOver, IsPlaceAtRest, same_Some, eqb_tells, nat_tests, World, Connection, connection_at}
 use Rattle.event_loop.proofs.Names.{untaken, is_closing, false≢true, Promises, LoopState, Free, Service, Ready, Tools, Call, Reading, Writing, done_since, fresh_place, HadTurn, Served, Past, Duty}
 use Rattle.event_loop.proofs.Names.{IsToldAs, DoneMore, DoneAfter, HoldsAt, IsHeardAt, IsSettledAt, AreAllSettled, StaysIdle, IsWorkLeft, a_read, a_write, IsLeftAt, LeavesOthers, IsRestedAt, IsRested}
-use Rattle.event_loop.proofs.Names.{TidiesAt, running, standing, state_of, to_write}
+use Rattle.event_loop.proofs.Names.{to_offer, TidiesAt, running, standing, state_of, to_write}
+use Rattle.event_loop.specs.declared.place.Stage.{Stage}
 use Rattle.event_loop.proofs.Putting.{set_other, set_same}
 use Rattle.event_loop.proofs.Doing.{none_more}
 
@@ -15,8 +16,9 @@ pub none_there : (empty : Bool) (bytes : List ℕ) → empty ≡ (length bytes =
 none_there empty bytes is has_none some = grind (arith, nat_tests, is, has_none, some)
 
 -- what the edge tells of a connection
-pub told_as : (output : ℕ) (closing : Bool) (bytes : List ℕ) (connection : Option Connection) → output ≡ length bytes → bytes ≡ untaken connection → closing ≡ is_closing connection → IsToldAs output closing connection
-told_as output closing bytes connection size is_output closes = (sym (size ∙ ap length is_output), sym closes)
+pub told_as : (stage : Stage) (output : ℕ) (closing : Bool) (bytes offer : List ℕ) (connection : Option Connection) → output ≡ length offer → offer ≡ to_offer stage bytes → bytes ≡ untaken connection →
+    closing ≡ is_closing connection → IsToldAs stage output closing connection
+told_as stage output closing bytes offer connection size offers is_output closes = (sym (size ∙ ap length (offers ∙ ap (to_offer stage) is_output)), sym closes)
 
 -- at a free place nothing is to be done
 pub free_rests : (p : Place) (o : Option Connection) → p.stage ≡ Free → IsPlaceAtRest p o

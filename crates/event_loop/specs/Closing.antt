@@ -1,12 +1,12 @@
 -- How connections are closed.
-use Rattle.std.specs.Prelude.{◌≡◌, ◌⊎◌, ◌≤◌, ◌<◌, ◌-◌, ℕ, List, [], Option, Some, slice_get, length}
-use Rattle.event_loop.specs.Names.{Connection, connection_at, untaken, Forgotten, SeenEdge, GoesOn, Free, Open, Queue, Told, Empty, Barred, Asked, Waits}
+use Rattle.std.specs.Prelude.{◌≡◌, ◌⊎◌, ◌≤◌, ◌<◌, ◌-◌, ℕ, List, [], Option, Some, slice_get, take, length}
+use Rattle.event_loop.specs.Names.{Connection, connection_at, untaken, AreLeftOfReply, Forgotten, SeenEdge, GoesOn, Free, Leaving, Queue, Told, Empty, Barred, Asked, Waits}
 use Rattle.event_loop.specs.declared.clocks.Times.{Times}
 use Rattle.event_loop.specs.declared.place.Place.{Place}
 use Rattle.event_loop.specs.Calls as call
 use Rattle.event_loop.specs.Progress.{known, led}
 use Rattle.event_loop.specs.Noting.{Noted, NotesEnd}
-use Rattle.event_loop.specs.Places.{IsOccupied, IsOneEnding, IsOver}
+use Rattle.event_loop.specs.Places.{IsOccupied, IsOneLeaving, IsOver, IsStaying}
 use Rattle.event_loop.specs.LoopStates.{Promises, LoopState, with_call, with_place}
 
 -- none at the places took no byte for longer
@@ -23,10 +23,15 @@ pub record IsBehindReply (turn : ℕ) (place : Place) (connection : Option Conne
   pub lately : place.turn ≡ turn
   pub nothing_owed : untaken connection ≡ []
 
--- it is read still, and owed replies
+-- it is served still, does not make room, and is owed replies
 pub record IsOwed (place : Place) (connection : Option Connection) : Type 0 where
-  pub is_open : place.stage ≡ Open
+  pub stays : IsStaying place.stage
   pub some_left : 0 < length (untaken connection)
+
+-- It was owed replies, and no part of one: none is begun, or it makes room and took what was left of one.
+pub data HasWhole (place : Place) (connection : Option Connection) : Type 0 where
+  none_begun : IsOwed place connection → AreLeftOfReply connection 0 → HasWhole place connection
+  took_rest : (left : ℕ) → place.stage ≡ Leaving left → take left (untaken connection) ≡ [] → HasWhole place connection
 
 -- it holds of the connection at the place, and of none that came before
 pub record IsEldest (P : Place → Option Connection → Type 0) (places : List Place) (connections : List Connection)
@@ -40,22 +45,25 @@ abbrev pub AreBrief : (Place → Option Connection → Type 0) → ℕ → Times
 AreBrief P limit times places connections = (k : ℕ) (place : Place) → slice_get places k ≡ Some place →
     P place (connection_at connections k) → times.steady - place.came ≤ limit
 
--- where another connection waits, nobody is there for longer than the limit who is right behind a reply, nor who is owed some and is
--- read still, but where one is read no more
+-- where another connection waits, nobody is there for longer than the limit who is right behind a reply, nor who is owed some, but
+-- where one was chosen to make room, no longer ago than the limit
 pub record IsRoomMade (turn limit : ℕ) (times : Times) (places : List Place) (connections : List Connection) : Type 0 where
   pub behind : AreBrief (IsBehindReply turn) limit times places connections
-  pub owed : AreBrief IsOwed limit times places connections ⊎ IsOneEnding places
+  pub owed : AreBrief IsOwed limit times places connections ⊎ IsOneLeaving limit times places
 
 -- Why the connection at a place is closed: it is over; it took no byte of a reply for longer than the limit; or all places
 -- are taken, another connection waits, and it is silent longest, for longer than the other limit, or it is there for longer
--- than that, however busy, and longest of those that are right behind a reply. Of the seconds that are counted the first may be
--- short, so more are counted than the limit has.
+-- than that, however busy, and longest of those that are right behind a reply, or of those that are owed some, none of which it
+-- began to take: these were made, and are forgotten with it. Of the seconds that are counted the first may be short, so more are
+-- counted than the limit has.
 pub data Cause {N C J K H : Type 0} (s : LoopState N C J K H) (k : ℕ) (place : Place) : Type 0 where
   is_over : IsOver place (known s.progress k) → Cause s k place
   is_silent : s.limits.idle < s.times.steady - place.since → Cause s k place
   gives_way : s.queue ≡ Waits → s.limits.crowded < s.times.steady - place.since → IsSilentLongest s.places place → Cause s k place
   makes_room : s.queue ≡ Waits → s.limits.crowded < s.times.steady - place.came →
       IsEldest (IsBehindReply s.turn) s.places s.progress.journey.world.connections k place → Cause s k place
+  leaves_rest : s.queue ≡ Waits → s.limits.crowded < s.times.steady - place.came → IsEldest IsOwed s.places s.progress.journey.world.connections k place →
+      ¬ (IsOneLeaving s.limits.crowded s.times s.places) → AreLeftOfReply (known s.progress k) 0 → Cause s k place
 
 -- the queue when a connection went
 abbrev pub freed_queue : Queue → Queue

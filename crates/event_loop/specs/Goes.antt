@@ -1,8 +1,8 @@
 -- How each part of the loop leads on. Only the contracts of its parts and their proofs cite this: no public clause does.
 use Rattle.std.specs.Prelude.{◌≡◌, ◌≢◌, ◌⊎◌, ◌≤◌, ◌<◌, ◌+◌, ◌-◌, ℕ, Bool, true, false, List, [], ◌∷◌, Option, Some, length, slice_get, slice_set, None, ⊤}
-use Rattle.event_loop.specs.Names.{Hosting, World, Connection, connection_at, untaken, SeenEdge, Journey, Reached, LoopFault, Barred, Ready}
+use Rattle.event_loop.specs.Names.{Hosting, World, connection_at, untaken, SeenEdge, Journey, Reached, LoopFault, Barred, Ready, Stage}
 use Rattle.event_loop.specs.declared.due.Due.{Due}
-use Rattle.event_loop.specs.declared.due.Due.TheVariants.{Close, Work, Rest}
+use Rattle.event_loop.specs.declared.due.Due.TheVariants.{Work, Rest}
 use Rattle.event_loop.specs.declared.place.Place.{Place}
 use Rattle.event_loop.specs.declared.room.Guest.{Guest}
 use Rattle.event_loop.specs.declared.room.Guest.TheVariants.{Owed}
@@ -21,11 +21,14 @@ use Rattle.event_loop.specs.Served.{HadTurn, IsKeptShort, Served, Shuts, TellsLa
 use Rattle.event_loop.specs.Ends.{CannotGoOn}
 -- what clauses of parts name
 pub use Rattle.change_codec.specs.Keepers.{keeping}
-pub use Rattle.event_loop.specs.Names.{InEach, is_closing, piece_of, Free, Open, Empty, Told, Waits}
+pub use Rattle.event_loop.specs.Names.{AreLeftOfReply, Connection, InEach, is_closing, piece_of, Free, Open, Empty, Told, Waits}
+pub use Rattle.event_loop.specs.declared.due.Due.TheVariants.{Close}
 pub use Rattle.event_loop.specs.declared.room.Guest.TheVariants.{Answered}
-pub use Rattle.event_loop.specs.Places.{IsOccupied, IsInService, IsOneEnding, IsFreeAt, AllFree, AllTaken, MayRead, is_taken, open_count}
+pub use Rattle.event_loop.specs.Places.{IsOccupied, IsInService, IsOneLeaving, IsStaying, to_offer, taken_stage, IsFreeAt, AllFree, AllTaken, MayRead, is_taken, open_count}
 pub use Rattle.event_loop.specs.Closing.{AreWithin, IsBehindReply, IsOwed}
+pub use Rattle.event_loop.specs.Reading.{read_place}
 pub use Rattle.event_loop.specs.Reporting.{TellsRefusal, is_long_ago}
+pub use Rattle.event_loop.specs.Served.{told_place}
 pub use Rattle.event_loop.specs.LoopStates.{IsAllKept, IsUnkept, promises}
 
 -- it holds of the connection, wherever the edge was reached
@@ -196,9 +199,9 @@ pub data IsWorkLeft (place : Place) (connection : Option Connection) : Type 0 wh
   a_read : place.readable ≡ true → MayRead place connection → IsWorkLeft place connection
   a_write : place.writable ≡ true → MayWrite place connection → IsWorkLeft place connection
 
--- so much of the connection's output is left, and whether it was answered the 400 of a faulty head, as the edge tells
-abbrev pub IsToldAs : ℕ → Bool → Option Connection → Type 0
-IsToldAs output closing connection = (length (untaken connection) ≡ output) × (is_closing connection ≡ closing)
+-- so much of the connection's output is to be written, and whether it was answered the 400 of a faulty head, as the edge tells
+abbrev pub IsToldAs : Stage → ℕ → Bool → Option Connection → Type 0
+IsToldAs stage output closing connection = (length (to_offer stage (untaken connection)) ≡ output) × (is_closing connection ≡ closing)
 
 -- what is due for the connection at a place
 abbrev pub IsDueFor : Place → Due → Option Connection → Type 0

@@ -6,7 +6,7 @@ pub use Rattle.event_loop.specs.declared.fault.ConnectionFault.TheVariants.{Acce
 pub use Rattle.event_loop.specs.declared.fault.LoopFault.{LoopFault}
 pub use Rattle.event_loop.specs.declared.journal.Journal.{Ghosts as Journal}
 pub use Rattle.event_loop.specs.declared.place.Stage.{Stage}
-pub use Rattle.event_loop.specs.declared.place.Stage.TheVariants.{Open, Free, Broken, Ended}
+pub use Rattle.event_loop.specs.declared.place.Stage.TheVariants.{Open, Free, Broken, Ended, Leaving}
 pub use Rattle.event_loop.specs.declared.queue.Queue.{Queue}
 pub use Rattle.event_loop.specs.declared.queue.Queue.TheVariants.{Told, Empty, Barred, Asked, Waits}
 pub use Rattle.event_loop.specs.declared.report.Notice.{Notice}
@@ -19,6 +19,6 @@ pub use Rattle.http_edge.specs.Edges.{SeenEdge}
 pub use Rattle.http_edge.specs.Pieces.{IsBrought, SuppliedEdge}
 pub use Rattle.http_edge.specs.Reached.{is_closing, GoesOn, Journey, Reached, PieceGoesOn, InEach, led_on}
 pub use Rattle.http_edge.specs.Refusals.{IsOpeningRefusal, IsPieceRefusal, IsEndingRefusal}
-pub use Rattle.http_edge.specs.Schedule.{Forgotten, Opened, Piece, World, Connection, connection_at, untaken, Happening, HasEnded, piece_of}
+pub use Rattle.http_edge.specs.Schedule.{Forgotten, Opened, Piece, World, Connection, connection_at, untaken, AreLeftOfReply, Happening, HasEnded, piece_of}
 pub use Rattle.http_edge.specs.declared.fault.EdgeFault.{EdgeFault}
 pub use Rattle.rand_chacha.specs.ChaCha.{ChaCha}

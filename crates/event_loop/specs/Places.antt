@@ -1,6 +1,7 @@
 -- What is to be done at a place.
-use Rattle.std.specs.Prelude.{◌≡◌, ◌≤◌, ◌<◌, ℕ, Bool, true, false, List, [], Option, Some, count_by, length, slice_get, ⊤}
-use Rattle.event_loop.specs.Names.{Connection, untaken, is_closing, ConnectionFault, Stage, Free, Open, Ended, Broken}
+use Rattle.std.specs.Prelude.{◌≡◌, ◌≤◌, ◌<◌, ◌-◌, ℕ, take, Bool, true, false, List, [], Option, Some, count_by, length, slice_get, ⊤}
+use Rattle.event_loop.specs.Names.{Connection, untaken, is_closing, ConnectionFault, Stage, Free, Open, Ended, Leaving, Broken}
+use Rattle.event_loop.specs.declared.clocks.Times.{Times}
 use Rattle.event_loop.specs.declared.place.Place.{Place}
 
 -- so many connections are served at once
@@ -36,7 +37,24 @@ is_taken stage = true
 abbrev pub IsInService : Stage → Type 0
 IsInService Open = ⊤
 IsInService Ended = ⊤
+IsInService (Leaving left) = ⊤
 IsInService stage = ⊥
+
+-- it is, and does not make room
+abbrev pub IsStaying : Stage → Type 0
+IsStaying Open = ⊤
+IsStaying Ended = ⊤
+IsStaying stage = ⊥
+
+-- what is to be written of output that is left: where it makes room, no more than up to the end of a reply
+abbrev pub to_offer : Stage → List ℕ → List ℕ
+to_offer (Leaving left) bytes = take left bytes
+to_offer stage bytes = bytes
+
+-- the stage once so many bytes were taken
+abbrev pub taken_stage : Stage → ℕ → Stage
+taken_stage (Leaving left) count = Leaving (left - count)
+taken_stage stage count = stage
 
 -- The place's connection, as the edge knows it, is to be read: the edge didn't give it the 400 of a faulty head, and its
 -- backlog is small
@@ -45,23 +63,26 @@ pub record MayRead (p : Place) (connection : Option Connection) : Type 0 where
   pub stays : is_closing connection ≡ false
   pub small : length (untaken connection) ≤ backlog_limit
 
--- output is left for it
+-- output is to be written for it
 pub record MayWrite (p : Place) (connection : Option Connection) : Type 0 where
   pub served : IsInService p.stage
-  pub some_left : 0 < length (untaken connection)
+  pub some_left : 0 < length (to_offer p.stage (untaken connection))
 
--- a connection that sends no more, or is read no more, is there
-pub record IsOneEnding (places : List Place) : Type 0 where
+-- one makes room, which was chosen for that so many seconds ago, or fewer
+pub record IsOneLeaving (limit : ℕ) (times : Times) (places : List Place) : Type 0 where
   pub k : ℕ
   pub place : Place
   pub here : slice_get places k ≡ Some place
-  pub ended : place.stage ≡ Ended
+  pub left : ℕ
+  pub leaving : place.stage ≡ Leaving left
+  pub lately : times.steady - place.came ≤ limit
 
--- nothing is left to be done for it: a fault ended it, or all output is written and it sends no more, is read no more or had the
--- 400 of a faulty head
+-- nothing is left to be done for it: a fault ended it, or all output is written and it sends no more or had the 400 of a faulty
+-- head, or it makes room and the reply that it was taking is written
 pub data IsOver (p : Place) (connection : Option Connection) : Type 0 where
   broken : (fault : ConnectionFault) → p.stage ≡ Broken fault → IsOver p connection
   ended : p.stage ≡ Ended → untaken connection ≡ [] → IsOver p connection
+  leaves : (left : ℕ) → p.stage ≡ Leaving left → take left (untaken connection) ≡ [] → IsOver p connection
   dismissed : p.stage ≡ Open → is_closing connection ≡ true → untaken connection ≡ [] → IsOver p connection
 
 -- no read is to be done now

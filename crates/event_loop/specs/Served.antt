@@ -1,6 +1,6 @@
 -- All that the loop does, step by step.
 use Rattle.std.specs.Prelude.{◌≡◌, ◌≢◌, ◌⊎◌, ◌<◌, ◌≤◌, ◌-◌, max, ℕ, Bool, true, false, ◌||◌, List, [], ◌∷◌, Option, Some, None, IsSome, slice_get, length}
-use Rattle.event_loop.specs.Names.{Told, Empty, Barred, Waits, Ended, Ready, Keeps, KeepsBasis, IsNoFurther, SeenEdge, GoesOn, Connection, Notice, Reported}
+use Rattle.event_loop.specs.Names.{Told, Empty, Barred, Waits, Leaving, AreLeftOfReply, Ready, Keeps, KeepsBasis, IsNoFurther, SeenEdge, GoesOn, Connection, Notice, Reported}
 use Rattle.event_loop.specs.declared.clocks.Times.{Times}
 use Rattle.event_loop.specs.declared.place.Place.{Place}
 use Rattle.event_loop.specs.declared.sockets.Ready.TheVariants as ready
@@ -8,7 +8,7 @@ use Rattle.event_loop.specs.Calls as call
 use Rattle.event_loop.specs.Calls.{Call, Reading, Looking, Keeping, Writing, Accepting, Shortening, IsDone, done_since}
 use Rattle.event_loop.specs.Progress.{known, led, IsReached}
 use Rattle.http_edge.specs.Schedule.{Kept}
-use Rattle.event_loop.specs.Places.{IsOccupied, IsOneEnding, MayRead, MayWrite, NeedsNoRead, NeedsNoWrite, IsOver, IsPlaceAtRest, AllFree, places_limit, ready_limit, looks_limit}
+use Rattle.event_loop.specs.Places.{IsOccupied, IsOneLeaving, MayRead, MayWrite, NeedsNoRead, NeedsNoWrite, IsOver, IsPlaceAtRest, AllFree, places_limit, ready_limit, looks_limit}
 use Rattle.event_loop.specs.LoopStates.{Promises, LoopState, IsAllKept, IsUnkept, with_call, with_place}
 use Rattle.event_loop.specs.Coming.{AcceptsOne, one_more, told_queue}
 use Rattle.event_loop.specs.Reading.{ReadsPlace}
@@ -117,10 +117,12 @@ pub data LoopStep {N C J K H : Type 0} (p : Promises N C J K H) (s : LoopState N
   closes : (k : ℕ) (place : Place) (s' : LoopState N C J K H) → slice_get s.places k ≡ Some place → IsOccupied place.stage → Cause s k place →
       Closes p k place s s' → LoopStep p s s'
   -- where another connection waits, the one that came first of those that are owed replies, and is there for longer than the limit, is
-  -- read no more, if none is yet: so it goes once they are taken
-  hears_out : (k : ℕ) (place : Place) → slice_get s.places k ≡ Some place → s.queue ≡ Waits → s.limits.crowded < s.times.steady - place.came →
-      IsEldest IsOwed s.places s.progress.journey.world.connections k place → ¬ (IsOneEnding s.places) →
-      LoopStep p s (with_place s k (record place { stage = Ended }))
+  -- chosen to make room, if none was no longer ago than that: it is read no more, and goes once it took what is left of the reply that it
+  -- began to take; those behind it were made, and are not written
+  hears_out : (k : ℕ) (place : Place) (left : ℕ) → slice_get s.places k ≡ Some place → s.queue ≡ Waits → s.limits.crowded < s.times.steady - place.came →
+      IsEldest IsOwed s.places s.progress.journey.world.connections k place → ¬ (IsOneLeaving s.limits.crowded s.times s.places) →
+      AreLeftOfReply (known s.progress k) left → 0 < left →
+      LoopStep p s (with_place s k (record place { stage = Leaving left; came = s.times.steady }))
   -- the journal alone is another
   reports : (notice : Notice) (told : LastTold) (journal : J) → IsDue p s notice told → p.journal.reports s.noted.journal notice journal →
       LoopStep p s (record s { noted = record s.noted { journal = journal }; told = told })

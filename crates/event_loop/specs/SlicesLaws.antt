@@ -32,7 +32,7 @@ module _ {N C J K H : Type 0} (p : Promises N C J K H) where
   reads_still k place s s' reading = record { keeper = refl; slices = refl }
 
   writes_still : (k : ℕ) (place : Place) (s s' : LoopState N C J K H) → WritesPlace p k place s s' → IsStill s s'
-  writes_still k place s s' (sends count front n e on some is_front done) = record { keeper = refl; slices = refl }
+  writes_still k place s s' (sends count front n e on some within is_front done) = record { keeper = refl; slices = refl }
   writes_still k place s s' writing = record { keeper = refl; slices = refl }
 
   closes_still : (k : ℕ) (place : Place) (s s' : LoopState N C J K H) → Closes p k place s s' → IsStill s s'

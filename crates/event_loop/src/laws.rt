@@ -3,8 +3,8 @@
 ghost use Rattle.std.specs.Prelude.{◌≡◌, ℕ, Some, slice_get};
 ghost use Rattle.change_codec.specs.Keepers.{keeping};
 ghost use Rattle.event_loop.specs.declared.place.Place.{Place};
-ghost use Rattle.event_loop.specs.Answered.{HasAllReplies};
-ghost use Rattle.event_loop.specs.Closing.{IsBehindReply};
+ghost use Rattle.event_loop.specs.Answered.{HasAllReplies, HasWholeReplies};
+ghost use Rattle.event_loop.specs.Closing.{HasWhole, IsBehindReply};
 ghost use Rattle.event_loop.specs.LoopStates.{LoopState, promises};
 ghost use Rattle.event_loop.specs.Progress.{known};
 ghost use Rattle.event_loop.specs.Served.{Served};
@@ -17,13 +17,17 @@ use crate::tools::{Clocks, HookHost, Journal, Keeper, Sockets};
 #[tactic(auto, using(crate::specs::SlicesLaws::shortening_ends))]
 pub fn a_shortening_ends<N: Sockets, C: Clocks, J: Journal, K: Keeper, H: HookHost>()
     ensures { (s s' : LoopState N C J K H)
-        → LongOnward (promises N.Sockets C.Clocks J.Journal (keeping K.Keeper) H.HookHost) s s'
-        → IsNoLonger (promises N.Sockets C.Clocks J.Journal (keeping K.Keeper) H.HookHost) s s' }
+        → LongOnward (promises N.Sockets C.Clocks J.Journal (keeping K.Keeper) H.HookHost) s s' → IsNoLonger (promises N.Sockets C.Clocks J.Journal (keeping K.Keeper) H.HookHost) s s' }
 {}
 
 /// Who is right behind a reply has had all of them, to all that was read of its connection: so no reply is owed to who makes room.
 pub fn who_makes_room_is_answered<N: Sockets, C: Clocks, J: Journal, K: Keeper, H: HookHost>()
     ensures { (first s : LoopState N C J K H) → Served (promises N.Sockets C.Clocks J.Journal (keeping K.Keeper) H.HookHost) first s
-        → (k : ℕ) (place : Place) → slice_get s.places k ≡ Some place → IsBehindReply s.turn place (known s.progress k)
-        → HasAllReplies s k }
+        → (k : ℕ) (place : Place) → slice_get s.places k ≡ Some place → IsBehindReply s.turn place (known s.progress k) → HasAllReplies s k }
+{}
+
+/// Who is owed replies and makes room has had whole replies alone: none is cut.
+pub fn no_reply_is_cut_to_make_room<N: Sockets, C: Clocks, J: Journal, K: Keeper, H: HookHost>()
+    ensures { (first s : LoopState N C J K H) → Served (promises N.Sockets C.Clocks J.Journal (keeping K.Keeper) H.HookHost) first s
+        → (k : ℕ) (place : Place) → slice_get s.places k ≡ Some place → HasWhole place (known s.progress k) → HasWholeReplies s k }
 {}

@@ -56,7 +56,7 @@ impl<N: Sockets, C: Clocks, J: Journal, K: Keeper, H: HookHost> Tools<N, C, J, K
     {
         let place = service.place_at(k);
         let connection = ConnectionNo::new(k);
-        let output = self.edge.output(connection).len();
+        let output = place.offer(self.edge.output(connection)).len();
         let closing = self.edge.closing(connection);
         match place.due(output, closing) {
             Due::Close => {

@@ -32,7 +32,7 @@ mod write;
 pub use clocks::{Clocks, Times, too_far};
 pub use fault::{ConnectionFault, LoopFault};
 pub use journal::Journal;
-pub use laws::{a_shortening_ends, who_makes_room_is_answered};
+pub use laws::{a_shortening_ends, no_reply_is_cut_to_make_room, who_makes_room_is_answered};
 pub use limits::{Limits, PLACES, READ_LIMIT};
 pub use report::{Notice, Report};
 pub use serve::serve_all;

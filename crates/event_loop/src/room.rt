@@ -1,6 +1,6 @@
 //! Making room for others.
 ghost use Rattle.std.specs.Prelude.{◌≡◌, true, false, IfSome, IfNone};
-ghost use Rattle.event_loop.specs.Goes.{Answered, Waits, InEach, IsBehindReply, IsOwed, IsOccupied, IsOneEnding, AreGuestsBrief, IsCalm, IsEldestAt, IsGuest, IsRoomMadeIn, WhereKnown, running, SettlesAll, keeping, promises};
+ghost use Rattle.event_loop.specs.Goes.{Answered, Waits, InEach, IsBehindReply, IsOwed, IsOccupied, IsOneLeaving, AreGuestsBrief, IsCalm, IsEldestAt, IsGuest, IsRoomMadeIn, WhereKnown, running, SettlesAll, keeping, promises};
 
 use crate::clocks::Clocks;
 use crate::limits::PLACES;
@@ -15,68 +15,39 @@ use http_edge::{ConnectionNo, Edge};
 pub(crate) enum Guest {
     /// Those right behind a reply.
     Answered,
-    /// Those that are read still, and owed replies.
+    /// Those that do not make room yet, and are owed replies.
     Owed,
 }
 
-// Whether a connection is right behind a reply: it took the last of its output in this turn.
-fn is_behind_reply<H: HookHost>(edge: &Edge<H>, place: Place, turn: u64, k: u32) -> bool
-    ensures taken { result ≡ true → IsOccupied place.stage }
-    ensures behind { result ≡ true → WhereKnown H.HookHost edge.now k (IsBehindReply turn place) }
-    ensures not_behind { result ≡ false → WhereKnown H.HookHost edge.now k (λ connection. ¬ (IsBehindReply turn place connection)) }
-{
-    if !place.stage.is_taken() {
-        return false;
-    }
-    if place.turn != turn {
-        return false;
-    }
-    let connection = ConnectionNo::new(k);
-    let output = edge.output(connection);
-    if !output.is_empty() {
-        return false;
-    }
-    true
-}
-
-// Whether a connection is read still, and owed replies.
-fn is_owed<H: HookHost>(edge: &Edge<H>, place: Place, k: u32) -> bool
-    ensures taken { result ≡ true → IsOccupied place.stage }
-    ensures owed { result ≡ true → WhereKnown H.HookHost edge.now k (IsOwed place) }
-    ensures not_owed { result ≡ false → WhereKnown H.HookHost edge.now k (λ connection. ¬ (IsOwed place connection)) }
-{
-    if !place.stage.is_open() {
-        return false;
-    }
-    let connection = ConnectionNo::new(k);
-    let output = edge.output(connection);
-    if output.is_empty() {
-        return false;
-    }
-    true
-}
-
-// Whether a connection is one of those.
+// Whether a connection is one of those. Right behind a reply is one that took the last of its output in this turn.
 fn is_guest<H: HookHost>(edge: &Edge<H>, guest: Guest, place: Place, turn: u64, k: u32) -> bool
     ensures taken { result ≡ true → IsOccupied place.stage }
     ensures guest { result ≡ true → WhereKnown H.HookHost edge.now k (IsGuest guest turn place) }
     ensures not_guest { result ≡ false → WhereKnown H.HookHost edge.now k (λ connection. ¬ (IsGuest guest turn place connection)) }
 {
+    if !place.stage.is_taken() {
+        return false;
+    }
+    let is_owed = !edge.output(ConnectionNo::new(k)).is_empty();
+    let stays = place.stage.is_staying();
     match guest {
-        Guest::Answered => is_behind_reply(edge, place, turn, k),
-        Guest::Owed => is_owed(edge, place, k),
+        Guest::Answered => !is_owed && place.turn == turn,
+        Guest::Owed => is_owed && stays,
     }
 }
 
 impl Service {
-    // Whether a connection sends no more, or is read no more.
-    fn is_one_ending(&self) -> bool
-        ensures one { result ≡ true → IsOneEnding self.now.places }
-        ensures none { result ≡ false → ¬ (IsOneEnding self.now.places) }
+    // Whether one was chosen to make room, no longer ago than others may stay.
+    fn is_one_leaving(&self) -> bool
+        ensures one { result ≡ true → IsOneLeaving self.now.limits.crowded self.now.times self.now.places }
+        ensures none { result ≡ false → ¬ (IsOneLeaving self.now.limits.crowded self.now.times self.now.places) }
     {
         for k in 0..PLACES {
             let place = self.place_at(k);
-            if let Stage::Ended = place.stage {
+            if self.times.steady.saturating_sub(place.came) > self.limits.crowded {
+                continue;
+            }
+            if let Stage::Leaving(_left) = place.stage {
                 return true;
             }
         }
@@ -123,24 +94,32 @@ impl<N: Sockets, C: Clocks, J: Journal, K: Keeper, H: HookHost> Tools<N, C, J, K
         self.leave(service, k, place);
     }
 
-    /// Where another connection waits still, the one that is there longest of those that are owed replies is read no more, if none
-    /// is yet: so it goes once it took them.
-    pub(crate) fn hear_out(&self, service: &mut Service)
-        requires behind { service.old.queue ≡ Waits → InEach H.HookHost self.now.edge (AreGuestsBrief Answered service.old) }
-        ensures leads { SettlesAll (promises N.Sockets C.Clocks J.Journal (keeping K.Keeper) H.HookHost) (running service.old self.now) (running service.new self.now) }
+    /// Where another connection waits still, the one that is there longest of those that are owed replies is chosen to make room, if
+    /// none was in the last seconds: it goes once it took the reply that it is taking, so at once where it is taking none.
+    pub(crate) fn hear_out(&mut self, service: &mut Service)
+        requires behind { service.old.queue ≡ Waits → InEach H.HookHost self.old.edge (AreGuestsBrief Answered service.old) }
+        ensures leads { SettlesAll (promises N.Sockets C.Clocks J.Journal (keeping K.Keeper) H.HookHost) (running service.old self.old) (running service.new self.new) }
         ensures calm { IsCalm service.old → IsCalm service.new }
-        ensures room { InEach H.HookHost self.now.edge (IsRoomMadeIn service.new) }
+        ensures room { InEach H.HookHost self.new.edge (IsRoomMadeIn service.new) }
     {
         let Queue::Waits = service.queue else {
             return;
         };
-        if service.is_one_ending() {
+        if service.is_one_leaving() {
             return;
         }
         let Some((k, place)) = self.eldest(service, Guest::Owed) else {
             return;
         };
-        let stage = Stage::Ended;
-        service.places[k as usize] = Place { stage, ..place };
+        let left = self.edge.left_of_reply(ConnectionNo::new(k));
+        if left == 0 {
+            self.leave(service, k, place);
+            return;
+        }
+        service.places[k as usize] = Place {
+            stage: Stage::Leaving(left),
+            came: service.times.steady,
+            ..place
+        };
     }
 }

@@ -22,18 +22,17 @@ impl<N: Sockets, C: Clocks, J: Journal, K: Keeper, H: HookHost> Tools<N, C, J, K
             return;
         }
         let connection = ConnectionNo::new(k);
-        let output = self.edge.output(connection);
-        if output.is_empty() {
+        let offer = place.offer(self.edge.output(connection));
+        if offer.is_empty() {
             return;
         }
-        match self.sockets.write(k, output) {
+        match self.sockets.write(k, offer) {
             Sent::Bytes(count) => {
                 self.edge.take(connection, count);
-                let since = service.times.steady;
-                let turn = service.turn;
                 service.places[i] = Place {
-                    since,
-                    turn,
+                    stage: place.stage.taken(count),
+                    since: service.times.steady,
+                    turn: service.turn,
                     ..place
                 };
             }

@@ -1,7 +1,7 @@
 -- An edge goes on by one event.
 use Rattle.std.proofs.Common.{◌≡◌, ◌≤◌, ◌<◌, ◌+◌, inl, inr, ℕ, List, [], ◌∷◌, ◌++◌, Bool, false, cond, Some, None, length, length-append, append_assoc, append-nil, drop, refl, ap, ◌∙◌, sym, subst, arith}
 use Rattle.http_edge.proofs.Names.{length-drop, drop-drop, drop-append-le, IsSome, option_map, Hosting, Event, with_changes, SeenServer, Outset, FitsServer, AreUnkept, Notes, NowNotes, Draws}
-use Rattle.http_edge.proofs.Names.{Message, messages_cut, nothing_has_none, AnsweredRequest, changes_made, mishaps_in, replies_of, World, Connection, Piece, AnsweredPiece, Happening, Opened, Came}
+use Rattle.http_edge.proofs.Names.{Message, messages_cut, nothing_has_none, AnsweredRequest, changes_made, mishaps_in, replies_of, ends_of, ends_from, SeenOutput, lane_output, with_faulty, World, Connection, Piece, AnsweredPiece, Happening, Opened, Came}
 use Rattle.http_edge.proofs.Names.{HasEnded, Taken, Forgotten, Kept, Happens, IsKeptOf, Run, ended, has_stream_ended, is_closing_phase, first_world, resumed, fresh, heard, with_connection, without_connection}
 use Rattle.http_edge.proofs.Names.{moment_after, faulty_if, SeenLane, lane_at, ShowsConnection, ShowsConnections, with_lane, without_lane, fresh_lane, AreMessagesRead, IsHeard, timed_bytes, hearing}
 use Rattle.http_edge.proofs.Names.{SeenEdge, Journey, Reached, BeginsOver, ResumesOver, GoesOn, HappeningLeads, PieceGoesOn, PieceLeads, GivenWithMore, IsBrought, WhereReached, supplied, draws_for}
@@ -12,6 +12,7 @@ use Rattle.endpoints.specs.Bounded.{IsBounded}
 use Rattle.endpoints.specs.BoundedLaws.{tokens_keep_their_bounds}
 use Rattle.http_edge.specs.declared.lane.Phase.{Phase}
 use Rattle.http_edge.specs.contracts.draw_list.DrawListDrawSource.TheImpl as list
+use Rattle.http_edge.proofs.Ends.{ends_further, ends_heard, whole_heard}
 use Rattle.http_edge.proofs.Showing.{shows_here, shows_none, shows_put, shows_without, shows_added, shows_length}
 use Rattle.http_edge.proofs.Drawing.{suffices_none}
 
@@ -53,7 +54,7 @@ goes_on hosting edge edge' journey connections e reached same shows happens =
     lead_on hosting edge edge' journey (changed journey.world connections) e reached happens (rw same reached.server) (rw same reached.notes) shows
 
 shows_fresh : (c : ℕ) → ShowsConnection (fresh_lane c) (fresh c)
-shows_fresh c = record { number = refl; phase = refl; within = omega arith; output = refl; rest = λ e. record { reads = refl; none = nothing_has_none }; nothing_held = λ e. refl }
+shows_fresh c = record { number = refl; phase = refl; within = omega arith; output = refl; ends = refl; whole = λ some. absurd (omega (arith, some)); rest = λ e. record { reads = refl; none = nothing_has_none }; nothing_held = λ e. refl }
 
 pub on_opened : {H : Type 0} (hosting : Hosting H) (edge edge' : SeenEdge H) (c : ℕ) → edge'.server ≡ edge.server → lane_at edge.lanes c ≡ None → length edge.lanes < 64 →
     edge'.lanes ≡ edge.lanes ++ fresh_lane c ∷ [] → HappeningLeads hosting edge edge' (Opened c)
@@ -64,7 +65,7 @@ on_opened hosting edge edge' c same none few lanes journey reached =
     (record { absent = shows_none edge.lanes journey.world.connections c reached.shows none; few = omega (arith, size, few); still = record { greatest = refl; history = refl; kept = refl }; connections = refl })
 
 pub on_ended : {H : Type 0} (hosting : Hosting H) (edge edge' : SeenEdge H) (c : ℕ) (lane : SeenLane) → edge'.server ≡ edge.server → lane_at edge.lanes c ≡ Some lane → has_stream_ended lane.phase ≡ false →
-    edge'.lanes ≡ with_lane c (record { number = lane.number; phase = ended lane.phase; rest = []; output = lane.output }) edge.lanes → HappeningLeads hosting edge edge' (HasEnded c)
+    edge'.lanes ≡ with_lane c (record { number = lane.number; phase = ended lane.phase; rest = []; output = lane.output; ends = lane.ends }) edge.lanes → HappeningLeads hosting edge edge' (HasEnded c)
 on_ended hosting edge edge' c lane same here not_ended lanes journey reached =
     let at = shows_here edge.lanes journey.world.connections c lane reached.shows here in
     let shows = at.2 in
@@ -76,13 +77,15 @@ on_ended hosting edge edge' c lane same here not_ended lanes journey reached =
       phase = ap ended shows.phase;
       within = shows.within;
       output = shows.output;
+      ends = shows.ends;
+      whole = shows.whole;
       rest = λ e. absurd (grind (arith, e));
       nothing_held = λ e. refl;
     })))
     (record { before = at.0; here = at.1; not_ended = sym (ap has_stream_ended shows.phase) ∙ not_ended; still = record { greatest = refl; history = refl; kept = refl }; connections = refl })
 
 pub on_taken : {H : Type 0} (hosting : Hosting H) (edge edge' : SeenEdge H) (c n : ℕ) (lane : SeenLane) → edge'.server ≡ edge.server → lane_at edge.lanes c ≡ Some lane → n ≤ length lane.output →
-    edge'.lanes ≡ with_lane c (record { number = lane.number; phase = lane.phase; rest = lane.rest; output = drop n lane.output }) edge.lanes → HappeningLeads hosting edge edge' (Taken c n)
+    edge'.lanes ≡ with_lane c (record { number = lane.number; phase = lane.phase; rest = lane.rest; output = drop n lane.output; ends = ends_from n lane.ends }) edge.lanes → HappeningLeads hosting edge edge' (Taken c n)
 on_taken hosting edge edge' c n lane same here fits lanes journey reached =
     let at = shows_here edge.lanes journey.world.connections c lane reached.shows here in
     let shows = at.2 in
@@ -94,7 +97,7 @@ on_taken hosting edge edge' c n lane same here fits lanes journey reached =
     let enough : x.taken + n ≤ length x.output = omega (arith, size, within, left, fits) in
     goes_on hosting edge edge' journey (with_connection c k journey.world.connections) _ reached same
     (rw lanes (shows_put edge.lanes journey.world.connections c _ k reached.shows
-    (record { number = shows.number; phase = shows.phase; within = enough; output = ap (drop n) shows.output ∙ drop-drop n x.taken x.output; rest = shows.rest; nothing_held = shows.nothing_held })))
+    (record { number = shows.number; phase = shows.phase; within = enough; output = ap (drop n) shows.output ∙ drop-drop n x.taken x.output; ends = ap (ends_from n) shows.ends ∙ ends_further x.taken n x.ends; whole = shows.whole; rest = shows.rest; nothing_held = shows.nothing_held })))
     (inl (record { before = x; here = at.1; fits = enough; still = record { greatest = refl; history = refl; kept = refl }; connections = refl }))
 
 pub on_taken_nothing : {H : Type 0} (hosting : Hosting H) (edge edge' : SeenEdge H) (c n : ℕ) → edge'.server ≡ edge.server → lane_at edge.lanes c ≡ None → n ≡ 0 → edge'.lanes ≡ edge.lanes →
@@ -182,10 +185,10 @@ on_passed hosting sources edge edge' piece lane source source' same lanes here c
     undrawn
 
 -- the lane after a piece shows the connection after it
-shows_heard : (lane lane' : SeenLane) (k : Connection) (piece : List ℕ) (messages : List Message) (requests : List AnsweredRequest) (middle : List ℕ) (closes : Bool) → k.phase ≡ Open →
+shows_heard : (lane lane' : SeenLane) (k : Connection) (piece : List ℕ) (messages : List Message) (requests : List AnsweredRequest) (middle : SeenOutput) (closes : Bool) → k.phase ≡ Open →
     ShowsConnection lane k → lane'.number ≡ lane.number → AreMessagesRead (lane.rest ++ piece) lane'.rest messages closes → lane'.phase ≡ cond closes Closing Open →
-    lane'.output ≡ middle ++ faulty_if closes → middle ≡ lane.output ++ replies_of requests → ShowsConnection lane' (heard k piece messages requests closes)
-shows_heard lane lane' k piece messages requests middle closes is_open shows number read phase output said =
+    lane_output lane' ≡ with_faulty middle closes → middle.bytes ≡ lane.output ++ replies_of requests → middle.ends ≡ lane.ends ++ ends_of (length lane.output) requests → ShowsConnection lane' (heard k piece messages requests closes)
+shows_heard lane lane' k piece messages requests middle closes is_open shows number read phase output said ends =
     let le = shows.within in
     let new : List ℕ = replies_of requests ++ faulty_if closes in
     let n = length-append k.output new in
@@ -194,8 +197,10 @@ shows_heard lane lane' k piece messages requests middle closes is_open shows num
       phase = phase;
       within = omega (arith, le, n);
       output =
-          output ∙ ap (λ o. o ++ faulty_if closes) (said ∙ ap (λ o. o ++ replies_of requests) shows.output)
+          ap (λ (o : SeenOutput). o.bytes) output ∙ ap (λ o. o ++ faulty_if closes) (said ∙ ap (λ o. o ++ replies_of requests) shows.output)
           ∙ append_assoc (drop k.taken k.output) (replies_of requests) (faulty_if closes) ∙ sym (drop-append-le k.taken k.output new le);
+      ends = ap (λ (o : SeenOutput). o.ends) output ∙ ends_heard lane k middle requests closes shows said ends;
+      whole = whole_heard k.output k.ends requests closes shows.whole;
       rest = λ now. let kept : lane'.rest ≡ read.rest = grind (arith, read.kept_is, now) in rw kept (messages_cut k.stream piece k.messages messages lane.rest read.rest (shows.rest is_open) read.reads);
       nothing_held = λ other. grind (arith, read.kept_is, other);
     }
@@ -247,7 +252,7 @@ leads_heard hosting sources edge edge' piece lane lane' source source' here is_o
       }),
     ) in
     let shown : ShowsConnection lane' k' =
-    shows_heard lane lane' k piece.bytes messages served.requests hears.middle closes opened shows hears.number_is hears.read (hears.phase_is ∙ ap (λ (p : Phase). cond closes Closing p) is_open) hears.output_is served.output_is in
+    shows_heard lane lane' k piece.bytes messages served.requests hears.middle closes opened shows hears.number_is hears.read (hears.phase_is ∙ ap (λ (p : Phase). cond closes Closing p) is_open) hears.output_is served.output_is served.ends_are in
     record {
       mishaps = mishaps_in served.requests;
       closes = closes;

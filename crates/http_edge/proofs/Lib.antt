@@ -1,6 +1,7 @@
 pub mod Serving
 pub mod Placing
 pub mod Showing
+pub mod Ends
 pub mod Going
 pub mod RefusingWorlds
 pub mod Connections

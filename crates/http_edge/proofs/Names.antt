@@ -9,13 +9,13 @@ pub use Rattle.endpoints.specs.Server.{AreUnkept, NowNotes, IsStep}
 pub use Rattle.heads.specs.Message.{BeginsWithMessage}
 pub use Rattle.heads.specs.ReadingLaws.{messages_cut, nothing_has_none, reads_push, reads_next, reads_same}
 pub use Rattle.heads.specs.WaitingLaws.{front_whole, waiting-append}
-pub use Rattle.http_edge.specs.Answers.{Answerer, answerer, next_answerer, AnsweredRequest, changes_made, mishaps_in, replies_of, IsOutcomeOfRequest, AreAnswered, AreAskedBy, draws_in}
+pub use Rattle.http_edge.specs.Answers.{Answerer, answerer, next_answerer, AnsweredRequest, changes_made, mishaps_in, replies_of, ends_of, IsOutcomeOfRequest, AreAnswered, AreAskedBy, draws_in}
 pub use Rattle.http_edge.specs.Edges.{SeenEdge}
 pub use Rattle.http_edge.specs.EdgesParts.{GivenWithMore, IsOpenRefusal, IsEndRefusal, IsBytesRefusal, MayHear}
 pub use Rattle.http_edge.specs.Heard.{AreMessagesRead, IsHeard, timed_bytes, hearing, IsHearingRefusal, AreMessagesServed, IsStillNone, before_messages, replying, AreFirst, first_requests}
-pub use Rattle.http_edge.specs.Heard.{ServesMessages, drawn_for}
-pub use Rattle.http_edge.specs.Lanes.{SeenLane, lane_at, output_in, ShowsConnections, ShowsConnection, rest_in}
-pub use Rattle.http_edge.specs.LanesParts.{with_lane, without_lane, fresh_lane, IsHearing}
+pub use Rattle.http_edge.specs.Heard.{ServesMessages, drawn_for, HasRoom, SeenOutput, seen_output, lane_output, taken_from, with_reply, with_faulty}
+pub use Rattle.http_edge.specs.Lanes.{SeenLane, lane_at, output_in, ends_from, ShowsConnections, ShowsConnection, rest_in}
+pub use Rattle.http_edge.specs.LanesParts.{with_lane, without_lane, fresh_lane, IsHearing, IsLeftIn}
 pub use Rattle.http_edge.specs.Pieces.{IsBrought, WhereReached, supplied}
 pub use Rattle.http_edge.specs.Places.{AreApart}
 pub use Rattle.http_edge.specs.PlacesParts.{IsPlace, IsPosition}
@@ -23,7 +23,7 @@ pub use Rattle.http_edge.specs.Reached.{Journey, Reached, BeginsOver, ResumesOve
 pub use Rattle.http_edge.specs.Refusals.{MaySend, Completes, IsPieceRefusal, IsOpeningRefusal, IsEndingRefusal}
 pub use Rattle.http_edge.specs.Rests.{SeenRest}
 pub use Rattle.http_edge.specs.Schedule.{Connection, connection_at, with_connection, without_connection, fresh, untaken, World, Piece, AnsweredPiece, Happening, Opened, Came, HasEnded, Taken}
-pub use Rattle.http_edge.specs.Schedule.{Forgotten, Kept, Happens, IsKeptOf, Run, ended, has_stream_ended, is_closing_phase, first_world, resumed, heard, moment_after, faulty_if, piece_of}
+pub use Rattle.http_edge.specs.Schedule.{Forgotten, Kept, Happens, IsKeptOf, Run, ended, has_stream_ended, is_closing_phase, first_world, resumed, heard, moment_after, faulty_if, end_if, piece_of, IsLeftOfReply, AreLeftOfReply}
 pub use Rattle.http_edge.specs.Sources.{demand_of, draws_for, draws_behind, wants_draws}
 pub use Rattle.http_edge.specs.Supply.{Suffices, one_fewer}
 pub use Rattle.http_edge.specs.declared.lane.Phase.TheVariants.{Open}

@@ -1,6 +1,6 @@
 -- The place of a lane.
 use Rattle.std.proofs.Common.{zero, suc, ◌≡◌, ◌≢◌, ◌<◌, ℕ, List, [], ◌∷◌, ◌++◌, Option, Some, None, Bor, true, nat_lt, length, drop, get_or, set, refl, sym, ap, ◌∙◌, inl, inr, arith}
-use Rattle.http_edge.proofs.Names.{slice_get, ◌==◌, is_some, IfSome, option_copied, eqb-true, ltb-true, leb_tells, eqb_tells, nat_tests, drop-nil, find-passes, SeenLane, lane_at, output_in}
+use Rattle.http_edge.proofs.Names.{slice_get, ◌==◌, is_some, IfSome, option_copied, eqb-true, ltb-true, leb_tells, eqb_tells, nat_tests, drop-nil, find-passes, SeenLane, lane_at, output_in, ends_from}
 use Rattle.http_edge.proofs.Names.{with_lane, without_lane, fresh_lane, AreApart, IsPlace, IsPosition}
 use Rattle.std.specs.List.{position, position_or_len}
 use Rattle.std.proofs.lemmas.List.Folds.{find_at}
@@ -43,7 +43,7 @@ put_at lanes c i p new x e = p.put new ∙ ap (λ y. with_lane c y lanes) e
 
 -- what was written there is the connection's lane
 pub output_put : (lanes : List SeenLane) (c n : ℕ) (lane : SeenLane) → lane_at lanes c ≡ Some lane →
-    output_in (lane_at (with_lane c (record { number = lane.number; phase = lane.phase; rest = lane.rest; output = drop n lane.output }) lanes) c) ≡ drop n (output_in (lane_at lanes c))
+    output_in (lane_at (with_lane c (record { number = lane.number; phase = lane.phase; rest = lane.rest; output = drop n lane.output; ends = ends_from n lane.ends }) lanes) c) ≡ drop n (output_in (lane_at lanes c))
 output_put [] c n lane here = sym (drop-nil n)
 output_put (x ∷ xs) c n lane here = let rest = output_put xs c n lane in grind (arith, nat_tests, rest, here)
 

@@ -1,8 +1,8 @@
 -- One more request is answered.
-use Rattle.std.proofs.Common.{◌≡◌, ℕ, List, [], ◌∷◌, ◌++◌, false, map, append_assoc, append-nil, refl, ap, subst, ◌∙◌, sym, arith}
+use Rattle.std.proofs.Common.{◌≡◌, ℕ, List, [], ◌∷◌, ◌++◌, ◌+◌, false, length, length-append, map, append_assoc, append-nil, refl, ap, subst, ◌∙◌, sym, arith}
 use Rattle.http_edge.proofs.Names.{map-append, max, Hosting, Event, Change, event_at, with_changes, Draws, Asked, Written, in_writing, reply_bytes, says_with, request_outcome, SeenServer, Outset}
 use Rattle.http_edge.proofs.Names.{Before, FitsServer, AreNoted, IsStep, Message, Messages, asked_of_message, AnsweredRequest, answerer, IsOutcomeOfRequest, AreAnswered, AreAskedBy, changes_made, draws_in}
-use Rattle.http_edge.proofs.Names.{replies_of, AreMessagesServed, IsStillNone, IsHeard, IsHearingRefusal, timed_bytes, hearing, before_messages, replying, SeenLane, Sources, Memory}
+use Rattle.http_edge.proofs.Names.{replies_of, ends_of, end_if, faulty_if, SeenOutput, lane_output, with_reply, with_faulty, AreMessagesServed, IsStillNone, IsHeard, IsHearingRefusal, timed_bytes, hearing, before_messages, replying, SeenLane, Sources, Memory}
 use Rattle.std.proofs.lemmas.List.Concat.{flat_map-append}
 use Rattle.std.specs.Prelude.{Option}
 use Rattle.answers.specs.Outcomes.{Outcome}
@@ -19,6 +19,18 @@ changes_push rs r = flat_map-append (λ x. x.outcome.changes) rs (r ∷ []) ∙ 
 replies_push : (rs : List AnsweredRequest) (r : AnsweredRequest) → replies_of (rs ++ r ∷ []) ≡ replies_of rs ++ reply_bytes (in_writing r.outcome.reply)
 replies_push rs r =
     flat_map-append (λ x. reply_bytes (in_writing x.outcome.reply)) rs (r ∷ []) ∙ ap (λ l. replies_of rs ++ l) (append-nil (reply_bytes (in_writing r.outcome.reply)))
+
+-- how long a reply is
+abbrev size_of : AnsweredRequest → ℕ
+size_of r = length (reply_bytes (in_writing r.outcome.reply))
+
+-- the end of one more reply is behind all the others
+ends_push : (start : ℕ) (rs : List AnsweredRequest) (r : AnsweredRequest) → ends_of start (rs ++ r ∷ []) ≡ ends_of start rs ++ (start + length (replies_of rs) + size_of r) ∷ []
+ends_push start [] r = ap (λ n. n ∷ []) (let is : start + size_of r ≡ start + 0 + size_of r = omega arith in is)
+ends_push start (x ∷ rs) r =
+    let size = length-append (reply_bytes (in_writing x.outcome.reply)) (replies_of rs) in
+    let is : start + size_of x + length (replies_of rs) + size_of r ≡ start + length (replies_of (x ∷ rs)) + size_of r = omega (arith, size) in
+    ap (λ l. (start + size_of x) ∷ l) (ends_push (start + size_of x) rs r ∙ ap (λ n. ends_of (start + size_of x) rs ++ n ∷ []) is)
 
 answered_push : {H : Type 0} (hosting : Hosting H) (outset : Outset H) (m : ℕ) (history : List Event) (host between after : H) (rs : List AnsweredRequest) (r : AnsweredRequest) →
     AreAnswered hosting (answerer outset history host m) rs between →
@@ -43,14 +55,14 @@ draws_push : (draws : List Draws) (rs : List AnsweredRequest) (r : AnsweredReque
 draws_push draws rs r are = ap (λ (l : List Draws). l ++ r.draws ∷ []) are ∙ sym (map-append (λ (x : AnsweredRequest). x.draws) rs (r ∷ []))
 
 -- it answers it after the others
-served_more : {H : Type 0} (hosting : Hosting H) (before : Before H) (server server' : SeenServer H) (output out : List ℕ) (g moment : ℕ) (messages : List Message) (draws : List Draws) (rs : List AnsweredRequest) (message : Message) (d : Draws) (reply : Written) (asked : Asked) →
+served_more : {H : Type 0} (hosting : Hosting H) (before : Before H) (server server' : SeenServer H) (output out : SeenOutput) (g moment : ℕ) (messages : List Message) (draws : List Draws) (rs : List AnsweredRequest) (message : Message) (d : Draws) (reply : Written) (asked : Asked) →
     asked ≡ asked_of_message message → max g moment ≡ before.moment → AreAskedBy messages rs → draws ≡ draws_in rs →
-    AreAnswered hosting (answerer before.outset before.history before.server.host before.moment) rs server.host → out ≡ output ++ replies_of rs →
+    AreAnswered hosting (answerer before.outset before.history before.server.host before.moment) rs server.host → out.bytes ≡ output.bytes ++ replies_of rs → out.ends ≡ output.ends ++ ends_of (length output.bytes) rs →
     FitsServer hosting server before.outset (with_changes before.history before.moment (changes_made rs)) g →
     AreNoted before.server server before.history (with_changes before.history before.moment (changes_made rs)) →
     Steps hosting server (record { asked = asked; moment = moment; draws = d }) reply server' →
-    AreMessagesServed hosting before output (record { messages = messages ++ message ∷ []; moment = moment; draws = draws ++ d ∷ [] }) (replying server' (out ++ reply_bytes reply))
-served_more hosting before server server' output out g moment messages draws rs message d reply asked asks later all are answered written_is fits noted steps =
+    AreMessagesServed hosting before output (record { messages = messages ++ message ∷ []; moment = moment; draws = draws ++ d ∷ [] }) (replying server' (with_reply out (reply_bytes reply)))
+served_more hosting before server server' output out g moment messages draws rs message d reply asked asks later all are answered written_is ends_are fits noted steps =
     let m = before.moment in
     let h = with_changes before.history m (changes_made rs) in
     let step = steps before.outset h g fits in
@@ -71,14 +83,21 @@ served_more hosting before server server' output out g moment messages draws rs 
       draws = draws_push draws rs r are;
       answered = answered_push hosting before.outset m before.history before.server.host server.host server'.host rs r answered is;
       output_is =
-          ap (λ x. x ++ reply_bytes reply) written_is ∙ append_assoc output (replies_of rs) (reply_bytes reply)
-          ∙ ap (λ x. output ++ (replies_of rs ++ reply_bytes x)) done.reply_is ∙ ap (λ x. output ++ x) (sym (replies_push rs r));
+          ap (λ x. x ++ reply_bytes reply) written_is ∙ append_assoc output.bytes (replies_of rs) (reply_bytes reply)
+          ∙ ap (λ x. output.bytes ++ (replies_of rs ++ reply_bytes x)) done.reply_is ∙ ap (λ x. output.bytes ++ x) (sym (replies_push rs r));
+      ends_are =
+          (let size = ap length written_is in
+          let parts = length-append output.bytes (replies_of rs) in
+          let same = ap (λ x. length (reply_bytes x)) done.reply_is in
+          let is : length out.bytes + length (reply_bytes reply) ≡ length output.bytes + length (replies_of rs) + size_of r = omega (arith, size, parts, same) in
+          ap (λ x. x ++ (length out.bytes + length (reply_bytes reply)) ∷ []) ends_are ∙ append_assoc output.ends (ends_of (length output.bytes) rs) _
+          ∙ ap (λ n. output.ends ++ (ends_of (length output.bytes) rs ++ n ∷ [])) is ∙ ap (λ x. output.ends ++ x) (sym (ends_push (length output.bytes) rs r)));
       fits = rw joined at done.fits;
       noted = λ kept notes. rw joined at (done.noted kept (noted kept notes));
     }
 
 -- no request is answered yet
-pub served_none : {H : Type 0} (hosting : Hosting H) (server : SeenServer H) (output : List ℕ) (moment : ℕ) (outset : Outset H) (history : List Event) (m : ℕ) →
+pub served_none : {H : Type 0} (hosting : Hosting H) (server : SeenServer H) (output : SeenOutput) (moment : ℕ) (outset : Outset H) (history : List Event) (m : ℕ) →
     FitsServer hosting server outset history m →
     AreMessagesServed hosting (record { server = server; outset = outset; history = history; moment = m }) output (record { messages = []; moment = moment; draws = [] }) (replying server output)
 served_none hosting server output moment outset history m fits = record {
@@ -86,7 +105,8 @@ served_none hosting server output moment outset history m fits = record {
   asked = refl;
   draws = refl;
   answered = refl;
-  output_is = sym (append-nil output);
+  output_is = sym (append-nil output.bytes);
+  ends_are = sym (append-nil output.ends);
   fits = rw append-nil fits;
   noted = λ kept notes. rw append-nil notes;
 }
@@ -96,33 +116,41 @@ none_asked [] asked = refl
 none_asked (r ∷ rs) asked = absurd (cc)
 
 -- one more message, which asks this, is answered
-pub served_push : {H : Type 0} (hosting : Hosting H) (first server server' : SeenServer H) (output out : List ℕ) (outset : Outset H) (history : List Event) (m moment : ℕ) (messages : List Message) (draws : List Draws) (message : Message) (d : Draws) (reply : Written) (asked : Asked) →
+pub served_push : {H : Type 0} (hosting : Hosting H) (first server server' : SeenServer H) (output out : SeenOutput) (outset : Outset H) (history : List Event) (m moment : ℕ) (messages : List Message) (draws : List Draws) (message : Message) (d : Draws) (reply : Written) (asked : Asked) →
     asked ≡ asked_of_message message →
     AreMessagesServed hosting (before_messages first outset history m (record { messages = messages; moment = moment; draws = draws })) output (record { messages = messages; moment = moment; draws = draws }) (replying server out) →
     Steps hosting server (record { asked = asked; moment = moment; draws = d }) reply server' →
     AreMessagesServed hosting (before_messages first outset history m (record { messages = messages ++ message ∷ []; moment = moment; draws = draws ++ d ∷ [] })) output
-    (record { messages = messages ++ message ∷ []; moment = moment; draws = draws ++ d ∷ [] }) (replying server' (out ++ reply_bytes reply))
+    (record { messages = messages ++ message ∷ []; moment = moment; draws = draws ++ d ∷ [] }) (replying server' (with_reply out (reply_bytes reply)))
 served_push hosting first server server' output out outset history m moment [] draws message d reply asked asks served steps =
     let none = none_asked served.requests served.asked in
-    let said : out ≡ output ++ [] = served.output_is ∙ ap (λ rs. output ++ replies_of rs) none in
+    let said : out.bytes ≡ output.bytes ++ [] = served.output_is ∙ ap (λ rs. output.bytes ++ replies_of rs) none in
+    let ends : out.ends ≡ output.ends ++ [] = served.ends_are ∙ ap (λ rs. output.ends ++ ends_of (length output.bytes) rs) none in
     served_more hosting (record { server = first; outset = outset; history = history; moment = max m moment }) server server' output out m moment [] draws [] message d reply asked asks refl refl
-    (served.draws ∙ ap draws_in none) (rw none at served.answered) said (rw none at served.fits) (rw none at served.noted) steps
+    (served.draws ∙ ap draws_in none) (rw none at served.answered) said ends (rw none at served.fits) (rw none at served.noted) steps
 served_push hosting first server server' output out outset history m moment (x ∷ messages) draws message d reply asked asks served steps =
     served_more hosting (record { server = first; outset = outset; history = history; moment = max m moment }) server server' output out (max m moment) moment (x ∷ messages) draws served.requests message d reply asked asks (omega arith)
-    served.asked served.draws served.answered served.output_is served.fits served.noted steps
+    served.asked served.draws served.answered served.output_is served.ends_are served.fits served.noted steps
+
+abbrev of_parts : List ℕ → List ℕ → SeenOutput
+of_parts bytes ends = record { bytes = bytes; ends = ends }
+
+-- no 400 of a faulty head is none more
+faulty_none : (output : SeenOutput) → output ≡ with_faulty output false
+faulty_none output = ap (λ bytes. of_parts bytes output.ends) (sym (append-nil output.bytes)) ∙ ap (of_parts (output.bytes ++ [])) (sym (append-nil output.ends))
 
 -- bytes in which there is no message are heard
 pub heard_none : {H S : Type 0} (hosting : Hosting H) (sources : Sources S) (server : SeenServer H) (source : S) (lane lane' : SeenLane) (bytes : List ℕ) (moment : ℕ) → IsStillNone bytes →
-    lane'.rest ≡ bytes → lane'.output ≡ lane.output → lane'.number ≡ lane.number → lane'.phase ≡ lane.phase →
+    lane'.rest ≡ bytes → lane_output lane' ≡ lane_output lane → lane'.number ≡ lane.number → lane'.phase ≡ lane.phase →
     IsHeard hosting sources (hearing server lane source) (timed_bytes bytes moment) (hearing server lane' source)
 heard_none hosting sources server source lane lane' bytes moment none same output number phase = record {
   messages = [];
   closes = false;
   read = record { rest = bytes; reads = record { reads = refl; none = none.none }; few = omega arith; kept_is = same; may_tell = λ e. absurd (cc); must_tell = λ must. absurd (none.untold must) };
   enough = suffices_none (sources.supply source);
-  middle = lane.output;
-  serves = λ outset history m fits. served_none hosting server lane.output moment outset history m fits;
-  output_is = output ∙ sym (append-nil lane.output);
+  middle = lane_output lane;
+  serves = λ outset history m fits. served_none hosting server (lane_output lane) moment outset history m fits;
+  output_is = output ∙ faulty_none (lane_output lane);
   number_is = number;
   phase_is = phase;
   source_is = refl;

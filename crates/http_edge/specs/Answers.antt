@@ -1,5 +1,5 @@
 -- Requests that are answered one after another.
-use Rattle.std.specs.Prelude.{◌≡◌, ℕ, List, [], ◌∷◌, Bool, Option, map}
+use Rattle.std.specs.Prelude.{◌≡◌, ◌+◌, ℕ, List, [], ◌∷◌, Bool, Option, map, length}
 use Rattle.http_edge.specs.Names.{Hosting, Change, with_changes, Draws, Asked, in_writing, reply_bytes, Outset, Message, asked_of_message}
 use Rattle.std.specs.List.{flat_map}
 use Rattle.clients.specs.RegistryRecord.{RegistryRecord}
@@ -75,3 +75,8 @@ changes_made requests = flat_map (λ r. r.outcome.changes) requests
 -- the bytes of all their replies
 abbrev pub replies_of : List AnsweredRequest → List ℕ
 replies_of requests = flat_map (λ r. reply_bytes (in_writing r.outcome.reply)) requests
+
+-- how many bytes there are up to the end of each of these replies, behind so many others
+abbrev pub ends_of : ℕ → List AnsweredRequest → List ℕ
+ends_of start [] = []
+ends_of start (r ∷ requests) = (start + length (reply_bytes (in_writing r.outcome.reply))) ∷ ends_of (start + length (reply_bytes (in_writing r.outcome.reply))) requests

@@ -1,16 +1,17 @@
 -- A piece that was read and answered.
-use Rattle.std.specs.Prelude.{◌≡◌, ◌≤◌, ◌<◌, ◌+◌, ◌*◌, ℕ, List, [], ◌++◌, Bool, true, Option, length, if◌then◌else◌}
+use Rattle.std.specs.Prelude.{◌≡◌, ◌≤◌, ◌<◌, ◌+◌, ◌*◌, ℕ, List, [], ◌∷◌, ◌++◌, Bool, true, Option, length, drop, if◌then◌else◌, vec_len, vec_capacity}
 use Rattle.http_edge.specs.Names.{Hosting, with_changes, Draws, SeenServer, Outset, Before, FitsServer, AreNoted, Message, HasNone, ReadsMessages, Messages, IsHopeless, MustTell, MayTell, Sources}
 use Rattle.http_edge.specs.Names.{Closing, EdgeFault, TooManyRequests, DrawsShort, Memory}
 use Rattle.consent.specs.History.{Event}
 use Rattle.messages.specs.Small.{reply_limit}
 use Rattle.heads.specs.declared.scan.Scan.{Scan}
 use Rattle.http_edge.specs.Limits.{request_limit}
-use Rattle.http_edge.specs.Answers.{AnsweredRequest, AreAnswered, answerer, AreAskedBy, draws_in, changes_made, replies_of}
-use Rattle.http_edge.specs.Schedule.{faulty_if, moment_after}
+use Rattle.http_edge.specs.Answers.{AnsweredRequest, AreAnswered, answerer, AreAskedBy, draws_in, changes_made, replies_of, ends_of}
+use Rattle.http_edge.specs.Schedule.{faulty_if, end_if, moment_after}
 use Rattle.http_edge.specs.Supply.{Suffices, FallsShort}
 use Rattle.http_edge.specs.Sources.{draws_for, draws_behind}
-use Rattle.http_edge.specs.Lanes.{SeenLane}
+use Rattle.http_edge.specs.Lanes.{SeenLane, ends_from}
+use Rattle.http_edge.specs.declared.output.Output.{Output}
 
 -- no message yet, and no faulty head that has to be told of
 pub record IsStillNone (bytes : List ℕ) : Type 0 where
@@ -28,12 +29,41 @@ pub record HasMessages (bytes : List ℕ) (count : ℕ) : Type 0 where
 abbrev pub reply_room : Scan → ℕ
 reply_room scan = scan.count * reply_limit + length (faulty_if scan.faulty)
 
+-- output, and up to how many of its bytes the ends of its replies are
+pub record SeenOutput : Type 0 where
+  pub bytes : List ℕ
+  pub ends : List ℕ
+
+abbrev pub seen_output : Output → SeenOutput
+seen_output output = record { bytes = output.bytes.items; ends = output.ends.items }
+
+-- that of a lane
+abbrev pub lane_output : SeenLane → SeenOutput
+lane_output lane = record { bytes = lane.output; ends = lane.ends }
+
+-- there is room for so many bytes more, and for the ends of so many replies
+pub record HasRoom (output : Output) (bytes replies : ℕ) : Type 0 where
+  pub bytes_fit : vec_len output.bytes + bytes ≤ vec_capacity output.bytes
+  pub ends_fit : vec_len output.ends + replies ≤ vec_capacity output.ends
+
+-- so many bytes fewer
+abbrev pub taken_from : SeenOutput → ℕ → SeenOutput
+taken_from output n = record { bytes = drop n output.bytes; ends = ends_from n output.ends }
+
+-- one reply more
+abbrev pub with_reply : SeenOutput → List ℕ → SeenOutput
+with_reply output reply = record { bytes = output.bytes ++ reply; ends = output.ends ++ (length output.bytes + length reply) ∷ [] }
+
+-- the 400 of a faulty head more, where it is given
+abbrev pub with_faulty : SeenOutput → Bool → SeenOutput
+with_faulty output closes = record { bytes = output.bytes ++ faulty_if closes; ends = output.ends ++ end_if closes (length (output.bytes ++ faulty_if closes)) }
+
 -- a server, and the output behind which it writes its replies
 pub record Replying (H : Type 0) : Type 0 where
   pub server : SeenServer H
-  pub output : List ℕ
+  pub output : SeenOutput
 
-abbrev pub replying : {H : Type 0} → SeenServer H → List ℕ → Replying H
+abbrev pub replying : {H : Type 0} → SeenServer H → SeenOutput → Replying H
 replying server output = record { server = server; output = output }
 
 -- messages that came at a moment, with the draws of their requests
@@ -48,12 +78,13 @@ drawn_for sources source messages moment = record { messages = messages; moment 
 
 -- the messages have outcomes, from the host before to the new one, whose replies were written behind the output, the server
 -- fits what they changed, and just that is noted
-pub record AreMessagesServed {H : Type 0} (hosting : Hosting H) (before : Before H) (output : List ℕ) (incoming : Incoming) (new : Replying H) : Type 0 where
+pub record AreMessagesServed {H : Type 0} (hosting : Hosting H) (before : Before H) (output : SeenOutput) (incoming : Incoming) (new : Replying H) : Type 0 where
   pub requests : List AnsweredRequest
   pub asked : AreAskedBy incoming.messages requests
   pub draws : incoming.draws ≡ draws_in requests
   pub answered : AreAnswered hosting (answerer before.outset before.history before.server.host before.moment) requests new.server.host
-  pub output_is : new.output ≡ output ++ replies_of requests
+  pub output_is : new.output.bytes ≡ output.bytes ++ replies_of requests
+  pub ends_are : new.output.ends ≡ output.ends ++ ends_of (length output.bytes) requests
   pub fits : FitsServer hosting new.server before.outset (with_changes before.history before.moment (changes_made requests)) before.moment
   pub noted : AreNoted before.server new.server before.history (with_changes before.history before.moment (changes_made requests))
 
@@ -73,7 +104,7 @@ pub record Answering (H S : Type 0) : Type 0 where
   pub replying : Replying H
   pub source : S
 
-abbrev pub answering : {H S : Type 0} → SeenServer H → List ℕ → S → Answering H S
+abbrev pub answering : {H S : Type 0} → SeenServer H → SeenOutput → S → Answering H S
 answering server output source = record { replying = replying server output; source = source }
 
 -- the first requests of bytes, so many, which came at a moment
@@ -130,10 +161,10 @@ pub record IsHeard {H S : Type 0} (hosting : Hosting H) (sources : Sources S) (o
   pub closes : Bool
   pub read : AreMessagesRead came.bytes new.lane.rest messages closes
   pub enough : Suffices (sources.supply old.source) (length messages)
-  pub middle : List ℕ
-  pub serves : ServesMessages hosting (replying old.server old.lane.output) (drawn_for sources old.source messages came.moment)
+  pub middle : SeenOutput
+  pub serves : ServesMessages hosting (replying old.server (lane_output old.lane)) (drawn_for sources old.source messages came.moment)
       (replying new.server middle)
-  pub output_is : new.lane.output ≡ middle ++ faulty_if closes
+  pub output_is : lane_output new.lane ≡ with_faulty middle closes
   pub number_is : new.lane.number ≡ old.lane.number
   pub phase_is : new.lane.phase ≡ (if closes then Closing else old.lane.phase)
   pub source_is : new.source ≡ draws_behind sources old.source messages

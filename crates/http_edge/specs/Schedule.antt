@@ -1,11 +1,11 @@
 -- What came and went on connections, what was kept, and what the server's outputs are then.
-use Rattle.std.specs.Prelude.{◌≡◌, ◌⊎◌, ◌≤◌, ◌<◌, ◌+◌, ℕ, List, [], ◌∷◌, ◌++◌, Bool, true, false, not, Option, Some, None, ◌==◌, if◌then◌else◌, find, filter, length, drop, max, ⊤}
+use Rattle.std.specs.Prelude.{◌≡◌, ◌⊎◌, ◌≤◌, ◌<◌, ◌+◌, ℕ, List, [], ◌∷◌, ◌++◌, Bool, true, false, not, Option, Some, None, ◌==◌, if◌then◌else◌, find, filter, length, drop, max, Contains, ⊤}
 use Rattle.http_edge.specs.Names.{Hosting, IsFrontOf, IsHistory, with_changes, Draws, faulty_bytes, AllRight, Outset, Message, Messages, IsHopeless, MustTell, MayTell, Phase, Closing, Ended, Closed}
 use Rattle.clients.specs.RegistryRecord.{RegistryRecord}
 use Rattle.consent.specs.History.{Event}
 use Rattle.http_edge.specs.Limits.{connection_limit, piece_limit, request_limit}
 use Rattle.endpoints.specs.Hosts.{HostRun}
-use Rattle.http_edge.specs.Answers.{Mishap, AnsweredRequest, AreAnswered, answerer, AreAskedBy, draws_in, mishaps_in, changes_made, replies_of}
+use Rattle.http_edge.specs.Answers.{Mishap, AnsweredRequest, AreAnswered, answerer, AreAskedBy, draws_in, mishaps_in, changes_made, replies_of, ends_of}
 use Rattle.http_edge.specs.declared.lane.Phase.TheVariants.{Open}
 
 -- a piece of a connection's stream, which came at a moment
@@ -55,14 +55,15 @@ is_closing_phase Closed = true
 abbrev pub ended : Phase → Phase
 ended phase = if is_closing_phase phase then Closed else Ended
 
--- a connection from its opening on: all that came, the messages that were answered, all its output, and how much of
--- that was taken
+-- a connection from its opening on: all that came, the messages that were answered, all its output, up to how many bytes of that
+-- the ends of its replies are, and how much of it was taken
 pub record Connection : Type 0 where
   pub number : ℕ
   pub phase : Phase
   pub stream : List ℕ
   pub messages : List Message
   pub output : List ℕ
+  pub ends : List ℕ
   pub taken : ℕ
 
 -- the connections that were not forgotten, in the order of their opening, the greatest moment that a request was
@@ -96,18 +97,33 @@ without_connection c connections = filter (λ k. not (k.number == c)) connection
 
 -- one that was just opened
 abbrev pub fresh : ℕ → Connection
-fresh c = record { number = c; phase = Open; stream = []; messages = []; output = []; taken = 0 }
+fresh c = record { number = c; phase = Open; stream = []; messages = []; output = []; ends = []; taken = 0 }
 
 -- what is to be taken of its output
 abbrev pub untaken : Option Connection → List ℕ
 untaken None = []
 untaken (Some k) = drop k.taken k.output
 
+-- so many bytes are left of it up to the next end of a reply: none right behind one
+pub record IsLeftOfReply (k : Connection) (n : ℕ) : Type 0 where
+  pub ends : Contains k.ends (k.taken + n)
+  pub within : k.taken + n ≤ length k.output
+  pub next : (m : ℕ) → m < n → ¬ (Contains k.ends (k.taken + m))
+
+-- of a connection that has output
+abbrev pub AreLeftOfReply : Option Connection → ℕ → Type 0
+AreLeftOfReply None n = n ≡ 0
+AreLeftOfReply (Some k) n = 0 < length k.output → IsLeftOfReply k n
+
 -- ONE EVENT
 
 -- the 400 of a faulty head, where it is given
 abbrev pub faulty_if : Bool → List ℕ
 faulty_if closes = if closes then faulty_bytes else []
+
+-- behind so many bytes it ends
+abbrev pub end_if : Bool → ℕ → List ℕ
+end_if closes n = if closes then n ∷ [] else []
 
 -- only requests move the greatest moment
 abbrev pub moment_after : ℕ → ℕ → List Message → ℕ
@@ -122,6 +138,7 @@ heard k bytes messages requests closes = record {
   stream = k.stream ++ bytes;
   messages = k.messages ++ messages;
   output = k.output ++ (replies_of requests ++ faulty_if closes);
+  ends = k.ends ++ (ends_of (length k.output) requests ++ end_if closes (length (k.output ++ (replies_of requests ++ faulty_if closes))));
   taken = k.taken;
 }
 

@@ -2,15 +2,15 @@
 ghost use Rattle.std.specs.Prelude.{◌≤◌, ◌+◌, ◌*◌, vec_len, vec_capacity};
 ghost use Rattle.messages.specs.Small.{reply_limit};
 ghost use Rattle.heads.specs.Front.{IsFront};
-ghost use Rattle.http_edge.specs.Heard.{HasMessages, AnswersFirst, answering, first_requests};
+ghost use Rattle.http_edge.specs.Heard.{HasMessages, HasRoom, AnswersFirst, answering, first_requests, seen_output};
 ghost use Rattle.http_edge.specs.Supply.{Suffices};
 
+use crate::output::Output;
 use crate::source::DrawSource;
 use crate::wanting::demand_of;
 use endpoints::{Moment, Server};
 use heads::{Front, front_of, lend};
 use hook_host::HookHost;
-use messages::Response;
 
 /// Answers the first requests of the bytes, each with the next draws of the source. What stands at their front was read
 /// before. There is room for the replies.
@@ -21,16 +21,18 @@ pub(crate) fn answer_all<H: HookHost, S: DrawSource>(
     count: usize,
     moment: Moment,
     source: &mut S,
-    output: &mut Vec<u8>,
+    output: &mut Output,
 )
     requires first { IsFront bytes.now first }
     requires messages { HasMessages bytes.now count }
     requires draws { Suffices (S.supply source.old) count }
-    requires room { vec_len output.old + count * reply_limit ≤ vec_capacity output.old }
-    ensures answered { AnswersFirst H.HookHost S.DrawSource (answering server.old output.old.items source.old) (first_requests bytes.now count moment)
-        (answering server.new output.new.items source.new) }
-    ensures room { vec_capacity output.old ≤ vec_capacity output.new }
-    ensures len { vec_len output.new ≤ vec_len output.old + count * reply_limit }
+    requires room { HasRoom output.old (count * reply_limit) count }
+    ensures answered { AnswersFirst H.HookHost S.DrawSource (answering server.old (seen_output output.old) source.old) (first_requests bytes.now count moment)
+        (answering server.new (seen_output output.new) source.new) }
+    ensures room { vec_capacity output.old.bytes ≤ vec_capacity output.new.bytes }
+    ensures len { vec_len output.new.bytes ≤ vec_len output.old.bytes + count * reply_limit }
+    ensures ends_room { vec_capacity output.old.ends ≤ vec_capacity output.new.ends }
+    ensures ends_len { vec_len output.new.ends ≤ vec_len output.old.ends + count }
 {
     let mut start = 0;
     for i in 0..count {
@@ -41,7 +43,7 @@ pub(crate) fn answer_all<H: HookHost, S: DrawSource>(
         let request = lend(here, &found);
         let draws = source.draw(demand_of(&request));
         let reply = server.step(&request, moment, &draws);
-        reply.push(output);
+        output.push(&reply);
         start += found.end;
     }
 }

@@ -4,9 +4,9 @@ ghost use Rattle.std.specs.Option.{option_copied};
 ghost use Rattle.std.specs.List.{position};
 ghost use Rattle.change_codec.specs.Batches.{facts_in};
 ghost use Rattle.endpoints.specs.Server.{AreUnkept};
-ghost use Rattle.http_edge.specs.Schedule.{HasEnded, Opened, Taken, Forgotten, Kept, connection_at, ended, piece_of, untaken};
-ghost use Rattle.http_edge.specs.Lanes.{lane_at, rest_in, output_in};
-ghost use Rattle.http_edge.specs.LanesParts.{fresh_lane, without_lane, is_closing_lane};
+ghost use Rattle.http_edge.specs.Schedule.{AreLeftOfReply, HasEnded, Opened, Taken, Forgotten, Kept, connection_at, ended, piece_of, untaken};
+ghost use Rattle.http_edge.specs.Lanes.{lane_at, rest_in, output_in, ends_from};
+ghost use Rattle.http_edge.specs.LanesParts.{AreLeftIn, fresh_lane, without_lane, is_closing_lane};
 ghost use Rattle.http_edge.specs.Places.{AreApart};
 ghost use Rattle.http_edge.specs.PlacesParts.{IsPosition};
 ghost use Rattle.http_edge.specs.Edges.{output_of, unkept_of};
@@ -23,8 +23,8 @@ use crate::fault::EdgeFault;
 use crate::hearing::hear;
 use crate::lane::{Lane, Phase};
 use crate::limits::{CONNECTION_LIMIT, PIECE_LIMIT, ROOM_TO_HEAR};
+use crate::output::Output;
 use crate::rest::Rest;
-use crate::room::{give_back, take_front};
 use crate::source::DrawSource;
 use change_codec::Batch;
 use endpoints::{Moment, Server};
@@ -117,7 +117,7 @@ fn output_in(lanes: &[Lane], c: ConnectionNo) -> &[u8]
     ensures { result.now ≡ output_in (lane_at lanes.now c) }
 {
     match lane_of(lanes, c) {
-        Some(lane) => lane.output.as_slice(),
+        Some(lane) => lane.output.bytes.as_slice(),
         None => &[],
     }
 }
@@ -139,7 +139,7 @@ fn new_lane(alloc: Global, c: ConnectionNo) -> Lane
         number: c,
         phase: Phase::Open,
         rest: Rest::new(alloc),
-        output: Vec::new(alloc),
+        output: Output::new(alloc),
     }
 }
 
@@ -172,10 +172,19 @@ fn end_lane(lane: &mut Lane)
 
 fn take_output(lane: &mut Lane, n: usize)
     requires { n ≤ length lane.old.output }
-    ensures { lane.new ≡ record lane.old { output = drop n lane.old.output } }
+    ensures { lane.new ≡ record lane.old { output = drop n lane.old.output; ends = ends_from n lane.old.ends } }
 {
-    take_front(&mut lane.output, n);
-    give_back(&mut lane.output);
+    lane.output.take(n);
+}
+
+fn left_in(lanes: &[Lane], c: ConnectionNo) -> usize
+    requires apart { AreApart lanes.now }
+    ensures { AreLeftIn (lane_at lanes.now c) result }
+{
+    match lane_of(lanes, c) {
+        Some(lane) => lane.output.left_of_reply(),
+        None => 0,
+    }
 }
 
 impl<H: HookHost> Edge<H> {
@@ -219,6 +228,14 @@ impl<H: HookHost> Edge<H> {
         ensures output { InEach H.HookHost self.now (λ world. result.now ≡ untaken (connection_at world.connections c)) }
     {
         output_in(&self.lanes, c)
+    }
+
+    /// How many bytes to the connection are left up to the next end of a reply: 0 right behind one, or where there is no output.
+    pub fn left_of_reply(&self, c: ConnectionNo) -> usize
+        ensures within { result ≤ length (output_of self.now c) }
+        ensures left { InEach H.HookHost self.now (λ world. AreLeftOfReply (connection_at world.connections c) result) }
+    {
+        left_in(&self.lanes, c)
     }
 
     /// How many bytes from the connection are kept: those that no message was made of yet. 0 where its stream has ended, or

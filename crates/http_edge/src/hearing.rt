@@ -1,11 +1,11 @@
 //! A piece is read and answered.
-ghost use Rattle.std.specs.Prelude.{◌≡◌, ◌≤◌, ◌<◌, ◌+◌, ℕ, List, [], ◌++◌, length, drop, vec_len, vec_capacity, OnOk, IfErr, OnErr, IsErrOf, if◌then◌else◌};
+ghost use Rattle.std.specs.Prelude.{◌≡◌, ◌≤◌, ◌<◌, ◌+◌, ◌⊎◌, ℕ, List, [], ◌++◌, length, drop, vec_len, vec_capacity, OnOk, IfErr, OnErr, IsErrOf, if◌then◌else◌};
 ghost use Rattle.heads.specs.Scan.{IsScan};
 ghost use Rattle.http_edge.specs.Limits.{piece_limit, request_limit, room_to_hear};
 ghost use Rattle.http_edge.specs.Schedule.{faulty_if};
 ghost use Rattle.http_edge.specs.Supply.{Suffices};
 ghost use Rattle.http_edge.specs.Rests.{seen_rest};
-ghost use Rattle.http_edge.specs.Heard.{IsHeard, IsHearingRefusal, timed_bytes, hearing, reply_room};
+ghost use Rattle.http_edge.specs.Heard.{HasRoom, IsHeard, IsHearingRefusal, timed_bytes, hearing, reply_room, seen_output, with_faulty};
 ghost use Rattle.http_edge.specs.declared.lane.Phase.TheVariants.{Closing};
 ghost use Rattle.http_edge.specs.declared.fault.EdgeFault.TheVariants.{Memory};
 
@@ -13,13 +13,13 @@ use crate::answering::answer_all;
 use crate::fault::EdgeFault;
 use crate::lane::{Lane, Phase};
 use crate::limits::{REPLY_LIMIT, REQUEST_LIMIT};
+use crate::output::Output;
 use crate::rest::Rest;
-use crate::room::{give_back, put};
+use crate::room::put;
 use crate::source::DrawSource;
 use endpoints::{Moment, Server};
 use heads::{Scan, read_front, scan_behind};
 use hook_host::HookHost;
-use messages::push_faulty;
 use std::alloc::AllocError;
 
 // So many bytes has the 400 of a faulty head.
@@ -38,13 +38,14 @@ fn room_for(scan: &Scan) -> usize
 }
 
 // Whether so many requests are answered: room is made for all their replies, before the first is decided.
-fn make_room<S: DrawSource>(output: &mut Vec<u8>, scan: &Scan, source: &S) -> Result<(), EdgeFault>
+fn make_room<S: DrawSource>(output: &mut Output, scan: &Scan, source: &S) -> Result<(), EdgeFault>
     ensures few { OnOk result (scan.now.count ≤ request_limit) }
     ensures enough { OnOk result (Suffices (S.supply source.now) scan.now.count) }
-    ensures room { OnOk result (vec_len output.new + reply_room scan.now ≤ vec_capacity output.new) }
+    ensures room { OnOk result (HasRoom output.new (reply_room scan.now) (scan.now.count + 1)) }
     ensures refused { (bytes : List ℕ) → IsScan bytes scan.now → IfErr result (λ fault. IsHearingRefusal fault bytes (S.supply source.now)) }
-    ensures missing { IsErrOf result Memory → vec_capacity output.old < vec_len output.old + reply_room scan.now }
-    ensures items { output.new.items ≡ output.old.items }
+    ensures missing { IsErrOf result Memory → (vec_capacity output.old.bytes < vec_len output.old.bytes + reply_room scan.now)
+        ⊎ (vec_capacity output.old.ends < vec_len output.old.ends + (scan.now.count + 1)) }
+    ensures same { seen_output output.new ≡ seen_output output.old }
 {
     if scan.count > REQUEST_LIMIT {
         return Err(EdgeFault::TooManyRequests);
@@ -52,7 +53,7 @@ fn make_room<S: DrawSource>(output: &mut Vec<u8>, scan: &Scan, source: &S) -> Re
     if !source.suffices(scan.count) {
         return Err(EdgeFault::DrawsShort);
     }
-    let Ok(()) = output.reserve_exact(room_for(scan)) else {
+    let Ok(()) = output.reserve(room_for(scan), scan.count + 1) else {
         return Err(EdgeFault::Memory);
     };
     Ok(())
@@ -71,12 +72,12 @@ fn keep_rest(rest: &mut Rest, bytes: &[u8], scan: &Scan) -> Result<(), AllocErro
     rest.replace(&bytes[scan.end..], scan.waits)
 }
 
-fn tell(output: &mut Vec<u8>, faulty: bool)
-    requires { vec_len output.old + length (faulty_if faulty) ≤ vec_capacity output.old }
-    ensures { output.new.items ≡ output.old.items ++ faulty_if faulty }
+fn tell(output: &mut Output, faulty: bool)
+    requires { HasRoom output.old (length (faulty_if faulty)) 1 }
+    ensures { seen_output output.new ≡ with_faulty (seen_output output.old) faulty }
 {
     if faulty {
-        push_faulty(output);
+        output.push_faulty();
     }
 }
 
@@ -120,7 +121,7 @@ fn answer_bytes<H: HookHost, S: DrawSource>(
         &mut lane.output,
     );
     tell(&mut lane.output, scan.faulty);
-    give_back(&mut lane.output);
+    lane.output.give_back();
     lane.phase = phase_after(lane.phase, &scan);
     Ok(())
 }

@@ -3,6 +3,7 @@ ghost use Rattle.std.specs.Prelude.{◌≡◌};
 ghost use Rattle.http_edge.specs.Schedule.{ended, has_stream_ended, is_closing_phase};
 
 use crate::connection::ConnectionNo;
+use crate::output::Output;
 use crate::rest::Rest;
 use std::marker::Model;
 
@@ -58,7 +59,7 @@ pub struct Lane {
     pub(crate) number: ConnectionNo,
     pub(crate) phase: Phase,
     pub(crate) rest: Rest,
-    pub(crate) output: Vec<u8>,
+    pub(crate) output: Output,
 }
 
 impl Model for Lane {
@@ -66,7 +67,7 @@ impl Model for Lane {
 
     ghost Value = { SeenLane };
 
-    ghost view = { λ l. record { number = l.number; phase = l.phase; rest = l.rest.bytes; output = l.output.items } };
+    ghost view = { λ l. record { number = l.number; phase = l.phase; rest = l.rest.bytes; output = l.output.bytes.items; ends = l.output.ends.items } };
 }
 
 impl Lane {
@@ -81,6 +82,6 @@ impl Lane {
     pub fn output(&self) -> &[u8]
         ensures { result.now ≡ self.now.output }
     {
-        self.output.as_slice()
+        self.output.bytes.as_slice()
     }
 }

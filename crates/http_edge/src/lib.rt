@@ -11,6 +11,7 @@ mod fault;
 mod hearing;
 mod lane;
 mod limits;
+mod output;
 mod rest;
 mod room;
 mod source;

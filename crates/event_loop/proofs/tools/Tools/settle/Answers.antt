@@ -12,7 +12,7 @@ returns-in-Close-clause-tidies g c = λ first found past h reached.
     let k = c.args.k in
     let place = c.place_at-place.result in
     let away = c.leave.ensures.away found past reached in
-    let over : IsOver place (connection_at past.journey.world.connections k) = c.in-Close.ensures.due (connection_at past.journey.world.connections k) (told_as (length c.output-output.result.now) c.closing-closing.result c.output-output.result.now (connection_at past.journey.world.connections k) refl (rw c.new-connection.ensures at (c.output-output.ensures.output past.journey reached)) (rw c.new-connection.ensures at (c.closing-closing.ensures past.journey reached))) in
+    let over : IsOver place (connection_at past.journey.world.connections k) = c.in-Close.ensures.due (connection_at past.journey.world.connections k) (told_as c.place_at-place.result.stage (length c.offer-output.result.now) c.closing-closing.result c.output.result.now c.offer-output.result.now (connection_at past.journey.world.connections k) refl c.offer-output.ensures.offer (rw c.new-connection.ensures at (c.output.ensures.output past.journey reached)) (rw c.new-connection.ensures at (c.closing-closing.ensures past.journey reached))) in
     let places : c.leave.new.service.places ≡ slice_set c.args.service.now.places k (record place { stage = Free }) = ap (λ (s : Service). s.places) c.leave.ensures.rest in
     let due : c.leave.new.service.due ≡ slice_set c.args.service.now.due k false = ap (λ (s : Service). s.due) c.leave.ensures.rest ∙ c.remove.ensures in
     let settled = put_settled k c.args.service.now c.leave.new.service (record place { stage = Free }) away.next places (free_rests _ _ refl) (λ e. closes_some _ k place _ _ away.closes) in
@@ -39,7 +39,7 @@ pub returns-in-Work-clause-tidies : goal.returns-in-Work-clause-tidies
 returns-in-Work-clause-tidies g c = λ first found past h reached.
     let due = c.args.service.now.due in
     let k = c.args.k in
-    let work = c.in-Work.ensures.due (connection_at past.journey.world.connections k) (told_as (length c.output-output.result.now) c.closing-closing.result c.output-output.result.now (connection_at past.journey.world.connections k) refl (rw c.new-connection.ensures at (c.output-output.ensures.output past.journey reached)) (rw c.new-connection.ensures at (c.closing-closing.ensures past.journey reached))) in
+    let work = c.in-Work.ensures.due (connection_at past.journey.world.connections k) (told_as c.place_at-place.result.stage (length c.offer-output.result.now) c.closing-closing.result c.output.result.now c.offer-output.result.now (connection_at past.journey.world.connections k) refl c.offer-output.ensures.offer (rw c.new-connection.ensures at (c.output.ensures.output past.journey reached)) (rw c.new-connection.ensures at (c.closing-closing.ensures past.journey reached))) in
     rw c.add.ensures (stays_tidy _ first found k c.args.service.now c.args.self.now past c.place_at-place.result (slice_set due k true) c.place_at-place.ensures
     work.1 (λ j other. set_other due k j true other) (λ none. absurd (not_rested due k none)) (λ e. work.0) h)
 
@@ -47,6 +47,6 @@ pub returns-in-Rest-clause-tidies : goal.returns-in-Rest-clause-tidies
 returns-in-Rest-clause-tidies g c = λ first found past h reached.
     let due = c.args.service.now.due in
     let k = c.args.k in
-    let rests = c.in-Rest.ensures.due (connection_at past.journey.world.connections k) (told_as (length c.output-output.result.now) c.closing-closing.result c.output-output.result.now (connection_at past.journey.world.connections k) refl (rw c.new-connection.ensures at (c.output-output.ensures.output past.journey reached)) (rw c.new-connection.ensures at (c.closing-closing.ensures past.journey reached))) in
+    let rests = c.in-Rest.ensures.due (connection_at past.journey.world.connections k) (told_as c.place_at-place.result.stage (length c.offer-output.result.now) c.closing-closing.result c.output.result.now c.offer-output.result.now (connection_at past.journey.world.connections k) refl c.offer-output.ensures.offer (rw c.new-connection.ensures at (c.output.ensures.output past.journey reached)) (rw c.new-connection.ensures at (c.closing-closing.ensures past.journey reached))) in
     rw c.remove-in-Rest.ensures (stays_tidy _ first found k c.args.service.now c.args.self.now past c.place_at-place.result (slice_set due k false) c.place_at-place.ensures
     rests.goes_on (λ j other. set_other due k j false other) (λ none. rests) (λ e. absurd (not_due due k e)) h)

@@ -13,7 +13,7 @@ returns-clause-done g c = λ journey reached.
     let read = lane_is lanes c.args.c c.in-Some.i c.index.result.now place c.index.ensures in
     let seen : c.behind-self.inside.phase ≡ place.lane.phase = ap (λ (l : SeenLane). l.phase) c.behind-self.view_is ∙ ap (λ (l : SeenLane). l.phase) (sym read) in
     let not_ended : has_stream_ended place.lane.phase ≡ false = rw seen at (sym c.has_ended.ensures ∙ c.if-has_ended.false) in
-    let new = c.end_lane.ensures ∙ ap (λ (l : SeenLane). record { number = l.number; phase = ended l.phase; rest = []; output = l.output }) (sym same) in
+    let new = c.end_lane.ensures ∙ ap (λ (l : SeenLane). record { number = l.number; phase = ended l.phase; rest = []; output = l.output; ends = l.ends }) (sym same) in
     on_ended g.H.HookHost _ _ c.args.c place.lane refl place.here not_ended (put_at lanes c.args.c c.in-Some.i place _ _ new) journey now
 
 pub invariant_of-self : goal.invariant_of-self

@@ -1,5 +1,5 @@
 use Rattle.std.proofs.Common.{◌≡◌, ◌≤◌, ◌∙◌, None, drop, length, refl, sym, ap, arith}
-use Rattle.http_edge.proofs.Names.{drop-nil, SeenLane, lane_at, output_in, IsPlace}
+use Rattle.http_edge.proofs.Names.{drop-nil, ends_from, SeenLane, lane_at, output_in, IsPlace}
 use Rattle.http_edge.proofs.Placing.{lane_is, put_at, output_put, apart_put}
 use Rattle.http_edge.proofs.Going.{on_taken, on_taken_nothing}
 use Rattle.http_edge.proofs.edge.Edge.take.Goals as goal
@@ -11,7 +11,7 @@ returns-in-Some g c =
     let whole : c.args.n ≤ length (output_in (lane_at lanes c.args.c)) = rw (← c.self.view_is) at c.requires in
     let fits : c.args.n ≤ length place.lane.output = rw place.here at whole in
     let same = lane_is lanes c.args.c c.in-Some.i c.index_mut.result.now place c.index_mut.ensures.value in
-    let new = c.take_output.ensures ∙ ap (λ (l : SeenLane). record { number = l.number; phase = l.phase; rest = l.rest; output = drop c.args.n l.output }) (sym same) in
+    let new = c.take_output.ensures ∙ ap (λ (l : SeenLane). record { number = l.number; phase = l.phase; rest = l.rest; output = drop c.args.n l.output; ends = ends_from c.args.n l.ends }) (sym same) in
     let put = put_at lanes c.args.c c.in-Some.i place _ _ new in
     record {
       taken = λ journey reached. on_taken g.H.HookHost _ _ c.args.c c.args.n place.lane refl place.here fits put journey (rw (← c.self.view_is) at reached);

@@ -1,6 +1,0 @@
-use Rattle.std.proofs.Common.{◌≡◌, ◌<◌, ℕ, Some, slice_get}
-use Rattle.event_loop.proofs.Names.{Place, Ended}
-use Rattle.event_loop.proofs.service.Service.is_one_ending.Given as goal
-
-abbrev pub invariant-loop-k : goal.invariant-loop-k
-invariant-loop-k l = (j : ℕ) (place : Place) → j < l.k → slice_get l.self.places j ≡ Some place → ¬ (place.stage ≡ Ended)
