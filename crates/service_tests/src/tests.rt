@@ -333,7 +333,7 @@ fn a_token_outlives_its_server(rt: HostRuntime) -> Result<(), Fail> {
     remove_state(&rt, &path)
 }
 
-/// What each state file begins with, and the closed latch of one that has no batch.
+/// A state file without a batch: what each begins with, and a zero.
 const EMPTY_STATE: &[u8] = b"oauthd state v3\n\0";
 
 #[test]
@@ -356,11 +356,11 @@ fn what_an_unfinished_write_left_is_put_aside(rt: HostRuntime) -> Result<(), Fai
     // It can't tell where it listens, and so it ends.
     let words = ["start", "127.0.0.1:0", &config, "--state", &path];
     let told = format!(in alloc;
-        "oauthd: state: 3 bytes of an unfinished write are in {path}.torn\noauthd: cannot write\n"
+        "oauthd: state: 4 bytes of an unfinished write are in {path}.torn\noauthd: cannot write\n"
     )?;
     done_with(&rt, &words, 0, false)?.assert_silent(&rt, 2, &told);
     let torn = format!(in alloc; "{path}.torn")?;
-    assert!(rt; fs::read(&rt, &torn)?.as_slice() == b"abc".as_slice());
+    assert!(rt; fs::read(&rt, &torn)?.as_slice() == b"\0abc".as_slice());
     let listed = done(&rt, &["state", &path])?;
     assert!(rt; listed.out.text().contains("\"batches\":1,\"torn\":0,"));
     fs::remove_file(&rt, &torn)?;

@@ -81,9 +81,11 @@ fn servers_that_stop(rt: HostRuntime) -> Result<(), Fail> {
         assert_told(&rt, CommandFault::Stopped(fault, None), text)?;
     }
     let full = BatchFault::Failed(SystemFault::StorageFull);
+    let no_room = BatchFault::NoRoom(SystemFault::StorageFull);
     for (cause, text) in [
         (BatchFault::Memory, "stopped: State: Memory"),
         (full, "stopped: State: no storage space"),
+        (no_room, "stopped: State: NoRoom: no storage space"),
         (BatchFault::Full, "stopped: State: Full"),
         (BatchFault::TooLong, "stopped: State: TooLong"),
         (BatchFault::Displaced, "stopped: State: Displaced"),

@@ -1,5 +1,7 @@
 //! A file of batches over files without a system: which calls are made of them, and in which order.
 
+ghost use Rattle.std.specs.Prelude.{◌≡◌, IfOk};
+
 use batch_file::appending::BatchFile;
 use batch_file::device::{Device, ReplaceFault};
 use batch_file::frames::Frames;
@@ -15,11 +17,16 @@ use std::process::Abort;
 use std::rt::Files;
 use std::test::Fail;
 
-/// The calls that were made, a row each, and how many syncs and reads are to succeed before one is refused.
+/// The calls that were made, a row each, and how many syncs and reads are to succeed before one is refused. Zeros that are written
+/// one behind the other are two rows, where they begin and where they end.
 #[derive(Drop)]
 struct Calls {
     rows: RefCell<String>,
     successes: Cell<usize>,
+    /// Where zeros end that were written just now.
+    zeros: Cell<u64>,
+    /// There is no room for more.
+    is_full: Cell<bool>,
 }
 
 /// A machine on whose disk there is an empty file at each path.
@@ -100,8 +107,9 @@ impl OpenFile for Open<'_> {
         Ok(Metadata::of_file(THERE.len() as u64))
     }
 
-    fn set_len(&self, _size: u64) -> io::Result<()> {
-        Err(io::Error::from(ErrorKind::Unsupported))
+    fn set_len(&self, size: u64) -> io::Result<()> {
+        let call = format!(in self.machine.alloc; "cut to {size}")?;
+        self.machine.try_call(&call, &self.path)
     }
 
     fn sync_all(&self) -> io::Result<()> {
@@ -109,6 +117,12 @@ impl OpenFile for Open<'_> {
     }
 
     fn sync_data(&self) -> io::Result<()> {
+        let end = self.machine.calls.zeros.get();
+        if end > 0 {
+            let call = format!(in self.machine.alloc; "zeros to {end}")?;
+            self.machine.note(&call, &self.path, b"")?;
+            self.machine.calls.zeros.set(0);
+        }
         self.machine.try_call("sync_data", &self.path)
     }
 
@@ -128,9 +142,30 @@ impl FileExt for Open<'_> {
     }
 
     fn write_at(&self, buf: &[u8], offset: u64) -> io::Result<usize> {
+        if buf.iter().all(|byte| *byte == 0) {
+            return self.write_zeros(buf.len(), offset);
+        }
         let call = format!(in self.machine.alloc; "write at {offset}")?;
         self.machine.note(&call, &self.path, buf)?;
         Ok(buf.len())
+    }
+}
+
+impl Open<'_> {
+    /// Notes zeros, or refuses them where there is no room.
+    fn write_zeros(&self, size: usize, offset: u64) -> io::Result<usize>
+        ensures { IfOk result (λ count. count ≡ size) }
+    {
+        let calls = self.machine.calls;
+        if calls.zeros.get() != offset {
+            let call = format!(in self.machine.alloc; "zeros from {offset}")?;
+            self.machine.note(&call, &self.path, b"")?;
+        }
+        if calls.is_full.get() {
+            return Err(io::Error::from_raw_os_error(28));
+        }
+        calls.zeros.set(offset.saturating_add(size as u64));
+        Ok(size)
     }
 }
 
@@ -205,6 +240,8 @@ impl<'c> Files for Machine<'c> {
 enum Call {
     Open,
     Append,
+    AppendMore,
+    AppendNoMore,
     Read,
     Replace,
     PutNext,
@@ -276,7 +313,20 @@ fn ended(machine: Machine<'_>, call: Call, successes: usize) -> Result<String, F
     begin_anew(calls, successes);
     Ok(match call {
         Call::Open | Call::ReadAll => String::new(alloc),
-        Call::Append => told(alloc, file.append(b"abc"))?,
+        Call::Append => told(alloc, file.append(alloc, b"abc"))?,
+        Call::AppendMore => {
+            begin_anew(calls, 9);
+            let Ok(()) = file.append(alloc, b"abc") else {
+                return Err(Fail::from("no batch is added"));
+            };
+            begin_anew(calls, successes);
+            calls.is_full.set(true);
+            told(alloc, file.append(alloc, b"abc"))?
+        }
+        Call::AppendNoMore => {
+            calls.is_full.set(true);
+            told(alloc, file.append(alloc, b"abc"))?
+        }
         Call::Read => told_bytes(alloc, file.read_batch(alloc, 16))?,
         Call::Replace => told(alloc, file.replace(Frames::new(alloc)?))?,
         Call::PutNext => told(alloc, put_next(&mut file.device))?,
@@ -288,14 +338,26 @@ fn ended(machine: Machine<'_>, call: Call, successes: usize) -> Result<String, F
 /// The lock is held before the file is opened, and nothing is written.
 const OPENED: [&str; 4] = ["open .", "open state.lock", "lock state.lock", "open state"];
 
-/// Behind the header of 16 bytes and a closed latch: the batch's length, the first 16 bytes of the SHA-256 of header, length and
-/// batch, the batch, and a closed latch; and once they are on the disk, the open latch before them.
-const APPENDED: [&str; 6] = [
-    "write at 17 state.next 0000000355704a4f5f04acab6036b0847d662aba",
-    "write at 37 state.next 616263",
-    "write at 40 state.next 00",
+/// Where the file has no zeros, they are on the disk first. Then comes, behind the header of 16 bytes, a byte 255, the batch's length,
+/// the first 16 bytes of the SHA-256 of header, length and batch, and the batch, by one write, and one sync.
+const APPENDED: [&str; 5] = [
+    "zeros from 17 state.next",
+    "zeros to 1048632 state.next",
     "sync_data state.next",
-    "write at 16 state.next ff",
+    "write at 16 state.next ff0000000355704a4f5f04acab6036b0847d662aba616263",
+    "sync_data state.next",
+];
+
+/// What was written of the zeros is cut off again, and that is on the disk, before it is told that there is no room.
+const NO_ROOM: [&str; 3] = [
+    "zeros from 17 state.next",
+    "cut to 17 state.next",
+    "sync_data state.next",
+];
+
+/// Where it has zeros, one batch more takes one write and one sync, though there is no room for others.
+const MORE: [&str; 2] = [
+    "write at 40 state.next ff00000003e802f6e781d48b4d8c5064851968f5bc616263",
     "sync_data state.next",
 ];
 
@@ -364,11 +426,16 @@ const UNMADE: &str = "remove other\nMake(InputOutput)";
 #[test]
 fn what_is_acknowledged_is_on_the_disk(rt: HostRuntime) -> Result<(), Fail> {
     let alloc = rt.alloc();
-    let cases: [(Call, usize, &[&str], &str); 23] = [
+    let cases: [(Call, usize, &[&str], &str); 28] = [
         (Call::Open, 9, &OPENED, "done"),
         (Call::Append, 9, &APPENDED, "done"),
-        (Call::Append, 0, &APPENDED[..4], FAILED),
+        (Call::Append, 0, &APPENDED[..3], FAILED),
         (Call::Append, 1, &APPENDED, FAILED),
+        (Call::AppendMore, 9, &MORE, "done"),
+        (Call::AppendMore, 0, &MORE, FAILED),
+        (Call::AppendNoMore, 9, &NO_ROOM, "NoRoom(StorageFull)"),
+        (Call::AppendNoMore, 0, &NO_ROOM[..2], FAILED),
+        (Call::AppendNoMore, 1, &NO_ROOM, FAILED),
         (Call::Read, 9, &READ, "616263"),
         (Call::Read, 0, &READ[..1], FAILED),
         (Call::Read, 1, &READ, FAILED),
@@ -393,6 +460,8 @@ fn what_is_acknowledged_is_on_the_disk(rt: HostRuntime) -> Result<(), Fail> {
         let calls = Calls {
             rows: RefCell::new(String::new(alloc)),
             successes: Cell::new(9),
+            zeros: Cell::new(0),
+            is_full: Cell::new(false),
         };
         let machine = Machine {
             alloc,

@@ -182,7 +182,19 @@ fn those_that_are_owed_without_end_make_room_too(rt: HostRuntime) -> Result<(), 
     let (crowd, fault) = serve_crowd(rt.alloc(), 20)?;
     assert_eq!(rt; fault, LoopFault::Wait);
     assert_eq!(rt; crowd.cut, 0);
-    // One is read no more from round 7 on, and takes the rest of its 270 bytes.
-    assert_eq!(rt; crowd.first_room, 15);
+    // One is chosen in round 7, takes the rest of the reply that it is taking, and none of the five behind it.
+    assert_eq!(rt; crowd.first_room, 8);
+    Ok(())
+}
+
+#[test]
+fn one_that_takes_a_reply_slowly_is_not_the_only_one_chosen(rt: HostRuntime) -> Result<(), Fail> {
+    let (crowd, fault) = serve_crowd(rt.alloc(), 1)?;
+    assert_eq!(rt; fault, LoopFault::Wait);
+    assert_eq!(rt; crowd.cut, 0);
+    // From round 2 on each takes a byte of 45 in a round. From round 7 on one more is chosen in each sixth: seven until these have the
+    // first reply.
+    assert_eq!(rt; crowd.first_room, 46);
+    assert_eq!(rt; crowd.waiting, 9);
     Ok(())
 }
