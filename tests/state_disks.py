@@ -10,11 +10,13 @@ import threading
 import time
 
 from crashes import Client, Gone, consents
-from state_format import batches_of
+from state_format import batches_of, size_of
 from state_trials import bytes_of, is_named
 
 # It is told once that the file cannot be shortened.
 LONG = "oauthd: state: the file cannot be shortened; it grows until that works"
+# It ends where there is no room for one batch more.
+NO_ROOM = "oauthd: stopped: State: NoRoom: no storage space"
 # In so many seconds a server that nobody asks has gone over a file of a megabyte.
 SLICES = 5
 
@@ -99,7 +101,7 @@ def tries_copies(trials, _):
     for worker in workers:
         worker.start()
     copies, refused = [], 0
-    while os.path.getsize(path) < 400000:
+    while size_of(bytes_of(path)) < 400000:
         before = len(batches_of(bytes_of(path)))
         subprocess.run(["cp", path, copy], check=True)
         done = trials.run("state", copy)
@@ -130,56 +132,59 @@ def removes(client, name):
 
 
 def grows_to(client, path, size):
-    """The file is as long, by a hook that comes and goes."""
-    while os.path.getsize(path) < size:
+    """The file's frames are as long, by a hook that comes and goes."""
+    while size_of(bytes_of(path)) < size:
         installs(client, "passing")
         removes(client, "passing")
 
 
 def gets_short(trials, what, path, size):
-    """A server on the file shortens it, some of it in each round, to fewer bytes."""
+    """A server on the file shortens it, some of it in each round, to frames of fewer bytes."""
     begun, _ = trials.served(what, path)
     until = time.monotonic() + 20
-    while os.path.getsize(path) > size and time.monotonic() < until:
+    while size_of(bytes_of(path)) > size and time.monotonic() < until:
         time.sleep(0.1)
     told = begun.end()
-    if told or os.path.getsize(path) > size or os.path.exists(f"{path}.next"):
-        trials.wrong(what, f"{told!r}, still {os.path.getsize(path)} bytes")
+    if told or size_of(bytes_of(path)) > size or os.path.exists(f"{path}.next"):
+        trials.wrong(what, f"{told!r}, still {size_of(bytes_of(path))} bytes")
 
 
 def tries_a_full_disk(trials, _):
-    """On a full disk the server stops, says so, and what it acknowledged is there once there is room."""
-    with disk_of(trials, "64k") as disk:
+    """On a full disk the zeros serve that were written ahead; then the server stops, says so, and what it acknowledged is there once there
+    is room."""
+    with disk_of(trials, "1100k") as disk:
         path = trials.make(f"{disk}/state")
         begun, client = trials.served("a small disk", path)
         consents(client, "read")
+        grows_to(client, path, 900000)
         status, told = until_it_stops(begun, client)
-        if status != 2 or len(told) != 1 or not told[0].startswith("oauthd: stopped: State") or "no storage space" not in told[0]:
+        if status != 2 or told[-1:] != [NO_ROOM] or told[:-1] not in ([], [LONG]):
             trials.wrong("a full disk", f"status {status}, {told}")
         full = bytes_of(path)
+        if len(full) - size_of(full) > 500:
+            trials.wrong("a full disk", f"{len(full) - size_of(full)} bytes behind the frames did not serve")
         trials.path_refused("a start on a full disk", path, "Device")
         if bytes_of(path) != full or sorted(os.listdir(disk)) != ["state", "state.lock"]:
             trials.wrong("a start on a full disk", f"something was written: {os.listdir(disk)}")
-        resize(disk, "1m")
+        resize(disk, "4m")
         asks_again(trials, "a disk that was full", path, client)
 
 
 def tries_no_room_to_shorten(trials, _):
     """Where there is no room for a shorter file, the server says so once and goes on appending; once there is room, it gets short."""
-    with disk_of(trials, "1200k") as disk:
+    with disk_of(trials, "2200k") as disk:
         path = trials.make(f"{disk}/state")
         begun, client = trials.served("a disk for a shorter file", path)
         consents(client, "read")
         for number in range(7):
             installs(client, f"kept-{number}")
-        grows_to(client, path, (1 << 20) + 1)
-        begun_at = os.path.getsize(path)
+        grows_to(client, path, 2000000)
         status, told = until_it_stops(begun, client)
-        if status != 2 or len(told) != 2 or told[0] != LONG or not told[1].startswith("oauthd: stopped: State"):
+        if status != 2 or told != [LONG, NO_ROOM]:
             trials.wrong("no room to shorten", f"status {status}, {told}")
-        if os.path.getsize(path) < begun_at + 50000 or os.path.exists(f"{path}.next"):
-            trials.wrong("no room to shorten", f"{begun_at} bytes, then {os.path.getsize(path)}; {os.listdir(disk)}")
-        resize(disk, "4m")
+        if size_of(bytes_of(path)) < 2000000 or os.path.exists(f"{path}.next"):
+            trials.wrong("no room to shorten", f"{size_of(bytes_of(path))} bytes; {os.listdir(disk)}")
+        resize(disk, "8m")
         asks_again(trials, "no room to shorten, and then room", path, client)
         gets_short(trials, "room to shorten", path, 500000)
 
@@ -203,8 +208,8 @@ def tries_a_file_mounted_by_itself(trials, content):
         time.sleep(SLICES)
         subprocess.run(["umount", path], check=True)
         told = begun.end().splitlines()
-        if told != [LONG] or os.path.getsize(path) < 1300000 or os.path.exists(f"{path}.next"):
-            trials.wrong("a file mounted while it is in use", f"{told}, {os.path.getsize(path)} bytes")
+        if told != [LONG] or size_of(bytes_of(path)) < 1300000 or os.path.exists(f"{path}.next"):
+            trials.wrong("a file mounted while it is in use", f"{told}, {size_of(bytes_of(path))} bytes")
         gets_short(trials, "a file that was mounted by itself", path, 100000)
         asks_again(trials, "a file that was mounted by itself", path, client)
 

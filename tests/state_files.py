@@ -18,7 +18,7 @@ import state_clocks
 import state_disks
 import state_paths
 from crashes import consents
-from state_format import (HEADER, batches_of, changes_of, code_given, consented, file_of, first_kind_of, mark_of, next_body, numbered, rules_of, spent,
+from state_format import (HEADER, batches_of, changes_of, code_given, consented, file_of, first_kind_of, mark_of, next_frame, numbered, rules_of, spent,
                           token_issued)
 from state_trials import LIFE, NotServed, Trials, bytes_of, is_named, without_marks
 
@@ -31,7 +31,8 @@ OF_BYTES = ["NotState", "Version", "Damaged"]
 
 
 def worked_on(trials):
-    """The bytes of a state file after some grants, refreshes, revocations, consents and tokens of a client's own: 50 batches."""
+    """The bytes of a state file after some grants, refreshes, revocations, consents and tokens of a client's own: 50 batches, and one
+    zero behind."""
     path = trials.make(f"{trials.room}/state")
     begun, client = trials.served("a new file", path)
     consents(client, "read")
@@ -46,11 +47,11 @@ def worked_on(trials):
     while len(batches_of(bytes_of(path))) < 50:
         client.own_token()
     begun.end()
-    return bytes_of(path)
+    return file_of(batches_of(bytes_of(path)))
 
 
 def places(content):
-    """Where the frames of a file begin, and at last its closed latch."""
+    """Where the frames of a file begin, and at last where they end."""
     at = [len(HEADER)]
     for batch in batches_of(content):
         at.append(at[-1] + 21 + len(batch))
@@ -59,9 +60,9 @@ def places(content):
 
 def tries_every_byte(trials, content):
     """Every byte of a file is changed once, one bit and all eight. Where that is told from what a crash leaves, the file is
-    refused and stays as it is; else what it says is right, and what is cut off is put aside."""
+    refused and stays as it is; else what it says is right, and what is cut off is put aside: the last batch, where zeros that were
+    written ahead stand behind it."""
     batches, begins = batches_of(content), places(content)
-    frame_of = {at: number for number, at in enumerate(begins[:-1])}
     for_one, for_all = [], []
     for at in range(len(content)):
         for change in (1 << at % 8, 255):
@@ -70,12 +71,12 @@ def tries_every_byte(trials, content):
             if at < len(HEADER):
                 digit = at == len(HEADER) - 2 and chr(changed[at]).isascii() and chr(changed[at]).isdigit()
                 for_one.append((what, changed, f"Version {chr(changed[at])}" if digit else "NotState"))
-            elif at not in frame_of or (changed[at] == 0 and at != begins[-2]):
+            elif at != begins[-2] or changed[at]:
                 for_one.append((what, changed, f"Damaged {sum(1 for end in begins[1:] if end <= at)}"))
-            elif changed[at]:
-                for_all.append((what, changed, batches))
             else:
-                for_all.append((what, changed, batches[:-1], changed[at + 1:]))
+                for_all.append((what, changed, batches[:-1], changed[at:].rstrip(b"\0")))
+            if begins[-2] <= at < begins[-1]:
+                for_all.append((f"{what}, with zeros behind", changed + bytes(15), batches[:-1], changed[begins[-2]:].rstrip(b"\0")))
     trials.all(trials.refused, for_one)
     trials.all(trials.taken, for_all)
     print(f"{len(content)} bytes changed: {len(for_one)} files were to be refused, {len(for_all)} to be read rightly", flush=True)
@@ -88,11 +89,14 @@ def tries_every_front(trials, content):
                for length in range(len(HEADER), len(content)))
     trials.all(trials.refused, damaged)
     trials.all(trials.refused, ((f"the first {length} bytes", content[:length], "NotState") for length in range(len(HEADER))))
-    torn = next_body(content, changes_of([(1, consented(1, 1, 1))]))
-    trials.all(trials.taken, ((f"an append cut off after {length} bytes", content + torn[:length], batches, torn[:length])
-                              for length in range(len(torn) + 1)))
-    trials.all(trials.taken, ((f"byte {at} of an append changed", content + torn[:at] + bytes([torn[at] ^ 255]) + torn[at + 1:], batches,
-                               torn[:at] + bytes([torn[at] ^ 255]) + torn[at + 1:]) for at in range(len(torn) - 1)))
+    frame = next_frame(content, changes_of([(1, consented(1, 1, 1))]))
+
+    def torn(what, left):
+        """An append of which this is left, over zeros."""
+        return what, content[:-1] + left + bytes(len(frame) - len(left) + 16), batches, left.rstrip(b"\0")
+
+    trials.all(trials.taken, (torn(f"an append cut off after {length} bytes", frame[:length]) for length in range(len(frame))))
+    trials.all(trials.taken, (torn(f"byte {at} of an append changed", frame[:at] + bytes([frame[at] ^ 255]) + frame[at + 1:]) for at in range(len(frame))))
 
 
 def tries_a_damaged_front(trials, content):
@@ -139,7 +143,7 @@ def tries_draws(trials, content, chance, draws):
         taken.append(what)
         found, kept = without_marks(batches_of(came.files["state"])), without_marks(batches_of(content))
         front = next((n for n, pair in enumerate(zip(found, kept)) if pair[0] != pair[1]), min(len(found), len(kept)))
-        if front < len(kept) and not changed.endswith(came.files.get("state.torn") or b"none"):
+        if front < len(kept) and not changed.rstrip(b"\0").endswith(came.files.get("state.torn") or b"none"):
             trials.wrong(what, f"{front} of {len(kept)} batches, and the rest is nowhere")
 
     taken = []

@@ -1,19 +1,19 @@
 """The bytes of a state file, read and written by a second hand: the trials of state files spell and take apart files by it.
 
-A file is a header, a frame for each batch, and a closed latch. A frame is a latch, the batch's length in four bytes, the first
-16 bytes of the SHA-256 of what vouches for all before it, of the length and of the batch, and the batch itself."""
+A file is a header, a frame for each batch, and zeros. A frame is a byte 255, the batch's length in four bytes, the first 16 bytes
+of the SHA-256 of what vouches for all before it, of the length and of the batch, and the batch itself."""
 
 import hashlib
 
 HEADER = b"oauthd state v3\n"
-CLOSED, OPEN = b"\0", b"\xff"
+MARK_OF_FRAME = b"\xff"
 
 # The first byte of a batch tells what it is.
 RULES, CHANGES, MARK = 0, 1, 3
 
 
 def body(before, batch):
-    """What stands behind the latch of a batch, and the digest that vouches for it."""
+    """What stands behind the first byte of a frame, and the digest that vouches for it."""
     length = len(batch).to_bytes(4, "big")
     digest = hashlib.sha256(before + length + batch).digest()[:16]
     return length + digest + batch, digest
@@ -24,33 +24,40 @@ def file_of(batches):
     parts, before = [HEADER], HEADER
     for batch in batches:
         text, before = body(before, batch)
-        parts += [OPEN, text]
-    return b"".join([*parts, CLOSED])
+        parts += [MARK_OF_FRAME, text]
+    return b"".join([*parts, b"\0"])
 
 
 def batches_of(content):
-    """The batches of a file, up to the first closed latch."""
-    at, batches = len(HEADER), []
-    while content[at]:
+    """The batches of a file, as long as each has its digest."""
+    at, batches, before = len(HEADER), [], HEADER
+    while content[at:at + 1] == MARK_OF_FRAME:
         length = int.from_bytes(content[at + 1:at + 5], "big")
+        text, before = body(before, content[at + 21:at + 21 + length])
+        if content[at + 1:at + 21 + length] != text:
+            break
         batches.append(content[at + 21:at + 21 + length])
         at += 21 + length
     return batches
 
 
-def next_body(content, batch):
-    """What an append of this batch writes behind the closed latch of a file: the batch's length, digest and bytes, and the next
-    closed latch."""
+def size_of(content):
+    """Where the frames of a file end."""
+    return len(HEADER) + sum(21 + len(batch) for batch in batches_of(content))
+
+
+def next_frame(content, batch):
+    """What an append of this batch writes behind the frames of a file."""
     before = HEADER
     for known in batches_of(content):
         before = body(before, known)[1]
-    return body(before, batch)[0] + CLOSED
+    return MARK_OF_FRAME + body(before, batch)[0]
 
 
 def first_kind_of(batches):
     """The file of these batches as the first version of the program wrote it: a latch of 1, a length and the batch for each."""
     frames = (b"\1" + len(batch).to_bytes(4, "big") + batch for batch in batches if batch[0] != MARK)
-    return b"".join(frames) + CLOSED
+    return b"".join(frames) + b"\0"
 
 
 def mark_of(moment):

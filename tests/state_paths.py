@@ -5,14 +5,14 @@ import shutil
 import signal
 import sqlite3
 
-from state_format import CLOSED, HEADER
+from state_format import HEADER
 from state_trials import bytes_of, gone, is_named
 
 
 def tries_new_files(trials):
     """`--new` makes a file where nothing is, and nothing else; a server starts on it, and on nothing that `--new` has not made."""
     path = trials.make(f"{trials.room}/made")
-    if bytes_of(path) != HEADER + CLOSED or os.stat(path).st_mode & 0o7777 != 0o600:
+    if bytes_of(path) != HEADER + b"\0" or os.stat(path).st_mode & 0o7777 != 0o600:
         trials.wrong("a new file", f"{bytes_of(path)!r}, mode {os.stat(path).st_mode:o}")
     trials.served("a new file", path)[0].end()
     kept = bytes_of(path)
@@ -172,7 +172,7 @@ def tries_order(trials):
     begun.process.wait()
     calls = [deed for deed in map(deed_of, lines) if deed]
     wanted = {"a start": ["write next", "fsync next", "rename", "fsync folder", "listening"],
-              "an append": ["pwrite state", "pwrite state", "pwrite state", "fdatasync state", "pwrite latch", "fdatasync state", "reply"]}
+              "an append": ["fdatasync state", "pwrite state", "fdatasync state", "reply"]}
     for what, order in wanted.items():
         if not any(calls[at:at + len(order)] == order for at in range(len(calls))):
             trials.wrong(f"the order of calls of {what}", f"wanted {order} among {calls}")
@@ -189,5 +189,5 @@ def deed_of(line):
         return "listening"
     for end, what in [("traced.next>", "next"), ("traced>", "state")]:
         if end in line:
-            return f"{name.removesuffix('64')} {'latch' if name == 'pwrite64' and chr(92) + '377' + chr(34) + ', 1,' in line else what}"
+            return f"{name.removesuffix('64')} {what}"
     return "fsync folder" if name == "fsync" else None

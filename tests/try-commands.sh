@@ -164,7 +164,7 @@ ends 'a new state file' 0 '' '' state --new own.state
 ends 'the same once more' 2 '' 'oauthd: State Exists: own.state\n' state --new own.state
 lists 'a new state file, listed' own.state 17 0
 printf abc >>own.state
-lists 'a torn state file' own.state 20 3
+lists 'a torn state file' own.state 20 4
 printf '{}' >other.state
 ends 'a state file of another program' 2 '' 'oauthd: State NotState: other.state; oauthd state --new FILE makes one\n' state other.state
 printf '\1\0\0\0\1\7' >old.state
