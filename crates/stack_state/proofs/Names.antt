@@ -2,7 +2,7 @@
 pub use Rattle.insn.specs.Instruction.{size_bytes}
 pub use Rattle.insn.specs.Memory.{low_bytes, number_spelled, value_in, parts_of, written, are_parts, is_unset, may_hold}
 pub use Rattle.insn.specs.MemoryLaws.{unset_holds, length-low_bytes, length-written}
-pub use Rattle.insn.specs.Outcomes.{failed, value_at, stored_state, Tested, all_set, and_then, or_fault}
+pub use Rattle.insn.specs.Outcomes.{Passes, failed, value_at, stored_state, Tested, all_set, and_then, or_fault}
 pub use Rattle.insn.specs.Values.{State, at}
 pub use Rattle.insn.specs.declared.layout.Layout.{Layout}
 pub use Rattle.insn.specs.declared.operation.BinOp.TheVariants.{Add, And, Lsh, Rsh}

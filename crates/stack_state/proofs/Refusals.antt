@@ -87,6 +87,14 @@ module _ (stack : Stack) (cells : List Cell) (k : ℕ) (c : Cell) (inside : k < 
               rw (part_item (with_cell cells k c) (8 * (k / 8)) 8 j cell.Unset lt, changed_else (8 * (k / 8) + j) other, ← part_item cells (8 * (k / 8)) 8 j cell.Unset lt) (f.2 j lt e),
         )
 
+    -- a block in which a value stands whole stays
+    whole_kept : (b : ℕ) (value : Reg) → b < 64 → block_at stack b ≡ block.Whole value → block_cells (with_cell cells k c) b ≡ block_cells cells b
+    unfolding with_cell
+    whole_kept b value lt e =
+        let long = fits.long in
+        let ne : b ≢ k / 8 = λ q. (let a : IsNotWhole (block_at stack b) = rw q apart in rw e at a) in
+        part_kept cells (c ∷ []) k (8 * b) 8 (omega arith) (omega arith) (grind (arith, ne))
+
     cell_changed : StackFits false stack (with_cell cells k c)
     unfolding with_cell
     cell_changed = record {
@@ -100,10 +108,15 @@ module _ (stack : Stack) (cells : List Cell) (k : ℕ) (c : Cell) (inside : k < 
 
 -- ---- loads
 
+-- blocks in which a value stands whole stay
+abbrev pub AreWholeKept : Stack → List Cell → List Cell → Type 0
+AreWholeKept stack old new = (b : ℕ) (value : Reg) → b < 64 → block_at stack b ≡ block.Whole value → block_cells new b ≡ block_cells old b
+
 pub record FailsLoad (stack : Stack) (span : Span) (size : Size) (s : State) (fault : WalkFault) : Type 0 where
   pub cells : List Cell
   pub from : ℕ
   pub fits : StackFits false stack cells
+  pub kept : AreWholeKept stack s.stack cells
   pub place : SpanFits false span from
   pub fails : failed (value_at (record s { stack = cells }) (at InStack from) size) ≡ Some fault
 
@@ -131,21 +144,23 @@ module _ (stack : Stack) (span : Span) (size : Size) (s : State) (inside : span.
         cells = with_cell s.stack k cell.Unset;
         from = t.at;
         fits = cell_changed stack s.stack k cell.Unset (omega arith) fits (apart_unset (block_at stack (k / 8)) (block_cells s.stack (k / 8)) (k % 8) (fits.blocks (k / 8) (omega arith)) mark) (λ e. cc) (rw mark tt);
+        kept = whole_kept stack s.stack k cell.Unset (omega arith) fits (apart_unset (block_at stack (k / 8)) (block_cells s.stack (k / 8)) (k % 8) (fits.blocks (k / 8) (omega arith)) mark) (λ e. cc) (rw mark tt);
         place = t.place;
         fails = unset_read (with_cell s.stack k cell.Unset) t.at (size_bytes size) k (let p = t.place.1 in omega arith) t.below t.above (changed_here stack s.stack k cell.Unset (omega arith) fits);
       }
 
   -- the eight parts of no pointer are read
   module _ (set : (k : ℕ) → IsTouched span size k → mark_at stack k ≢ Unset) where
-    torn_seen : (cells : List Cell) (at k : ℕ) → StackFits false stack cells → SpanFits false span at → at ≤ k → k < at + size_bytes size → mark_at stack k ≡ Part
+    torn_seen : (cells : List Cell) (at k : ℕ) → StackFits false stack cells → AreWholeKept stack s.stack cells → SpanFits false span at → at ≤ k → k < at + size_bytes size → mark_at stack k ≡ Part
         → (size_bytes size ≡ 8 → at % 8 ≡ 0 → NoPointer (take (size_bytes size) (drop at cells))) → FailsLoad stack span size s PointerMisuse
-    torn_seen cells at k fits place below above mark lost =
+    torn_seen cells at k fits kept place below above mark lost =
         let p0 : span.least ≤ at = place.0 in
         let p1 : at ≤ span.greatest = place.1 in
         record {
           cells = cells;
           from = at;
           fits = fits;
+          kept = kept;
           place = place;
           fails = torn_read false stack cells at (size_bytes size) k (record {
             fits = fits;
@@ -163,9 +178,9 @@ module _ (stack : Stack) (span : Span) (size : Size) (s : State) (inside : span.
       beside : (at k : ℕ) (value : Reg) → SpanFits false span at → at % 8 ≡ 0 → k / 8 ≡ at / 8 → mark_at stack k ≡ Part → block_at stack (at / 8) ≡ block.Whole value → FailsLoad stack span size s PointerMisuse
       beside at k value place aligned same mark held =
           elim (cases_lt span.least at) [
-            | inl lt ↦ torn_seen s.stack (at - 1) at fits (omega arith, let p = place.1 in omega arith) (omega arith) (omega arith) (parts at (omega arith)) (λ e f. absurd (omega arith))
+            | inl lt ↦ torn_seen s.stack (at - 1) at fits (λ b v lt e. refl) (omega arith, let p = place.1 in omega arith) (omega arith) (omega arith) (parts at (omega arith)) (λ e f. absurd (omega arith))
             | inr ge ↦ elim (cases_lt at span.greatest) [
-              | inl lt ↦ torn_seen s.stack (at + 1) (at + 1) fits (let p = place.0 in omega arith, omega arith) (omega arith) (omega arith) (parts (at + 1) (omega arith)) (λ e f. absurd (omega arith))
+              | inl lt ↦ torn_seen s.stack (at + 1) (at + 1) fits (λ b v lt e. refl) (let p = place.0 in omega arith, omega arith) (omega arith) (omega arith) (parts (at + 1) (omega arith)) (λ e f. absurd (omega arith))
               | inr le ↦
                   let p = place.0 in
                   let q = place.1 in
@@ -187,7 +202,8 @@ module _ (stack : Stack) (span : Span) (size : Size) (s : State) (inside : span.
       changed_part : (at k : ℕ) → SpanFits false span at → at % 8 ≡ 0 → at ≤ k → k < at + 8 → mark_at stack k ≡ Part → IsNotWhole (block_at stack (k / 8)) → FailsLoad stack span size s PointerMisuse
       unfolding pointer_of another
       changed_part at k place aligned below above mark apart =
-          torn_seen cells at k (cell_changed stack s.stack k (cell.Part q (k % 8)) low fits apart (λ e. let m = mark in absurd cc) (rw mark (q, refl))) place below (omega arith) mark (λ e f. differs) where
+          torn_seen cells at k (cell_changed stack s.stack k (cell.Part q (k % 8)) low fits apart (λ e. let m = mark in absurd cc) (rw mark (q, refl)))
+          (whole_kept stack s.stack k (cell.Part q (k % 8)) low fits apart (λ e. let m = mark in absurd cc) (rw mark (q, refl))) place below (omega arith) mark (λ e f. differs) where
             low : k < 512
             low = let p = place.1 in omega arith
 
@@ -225,9 +241,9 @@ module _ (stack : Stack) (span : Span) (size : Size) (s : State) (inside : span.
     part_seen : (k : ℕ) → IsTouched span size k → mark_at stack k ≡ Part → HoldsNone stack span size → StackFits false stack s.stack → FailsLoad stack span size s PointerMisuse
     part_seen k touch mark none fits =
         elim (cases_eq (size_bytes size) 8) [
-          | inr few ↦ torn_seen s.stack t.at k fits t.place t.below t.above mark (λ e f. absurd (few e))
+          | inr few ↦ torn_seen s.stack t.at k fits (λ b v lt e. refl) t.place t.below t.above mark (λ e f. absurd (few e))
           | inl eight ↦ elim (cases_eq (t.at % 8) 0) [
-            | inr odd ↦ torn_seen s.stack t.at k fits t.place t.below t.above mark (λ e f. absurd (odd f))
+            | inr odd ↦ torn_seen s.stack t.at k fits (λ b v lt e. refl) t.place t.below t.above mark (λ e f. absurd (odd f))
             | inl aligned ↦ whole_seen none fits eight t.at k t.place aligned t.below (let a = t.above in omega arith) mark
           ]
         ] where

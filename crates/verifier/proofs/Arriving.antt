@@ -17,6 +17,8 @@ use Rattle.verifier.specs.declared.known.Flow.TheVariants.{Branch, Exit, Jump, N
 use Rattle.verifier.specs.declared.explain.Refusal.{Refusal}
 use Rattle.verifier.specs.declared.walk.Upshot.TheVariants.{Passed, Refused}
 use Rattle.verifier.proofs.ShapeLaws.{bind_some}
+use Rattle.verifier.specs.Waits.{passed_by}
+use Rattle.verifier.specs.WaitsParts.{all_beside}
 use Rattle.verifier.proofs.Waits.{has_first, has_later, has_middle, has_none, middle_or_around}
 use Rattle.verifier.proofs.Ways.{Typed, later, never_refused, none_first, none_verdict, same_reached, writes_low}
 use Rattle.verifier.specs.declared.walk.Passage.TheVariants as passage
@@ -224,11 +226,13 @@ module _ (layout : Layout) (program : List Insn) (slot : ℕ) (rest : List Insn)
         named x (inl e) = rw (← e) (has_first known (before ++ after))
         named x (inr h) = has_later known x (before ++ after) h
 
--- a walk has come there, by which these slots are unreached, and it is told where it went on
-pub record Came (layout : Layout) (program : List Insn) (slot : ℕ) (rest : List Insn) (w : List (List Known)) (noted : List ℕ) (onward : List Onward) : Type 0 where
+-- a walk has come there, by which these slots are unreached, and it is told where it went on; so often a case may still come to
+-- stand beside others
+pub record Came (layout : Layout) (program : List Insn) (slot : ℕ) (rest : List Insn) (w : List (List Known)) (noted : List ℕ) (onward : List Onward) (apart : ℕ) : Type 0 where
   pub walked : HasWalked layout program slot rest w
   pub unreached : noted ≡ unreached_by walked
   pub told : IsToldOnward onward walked
+  pub counted : passed_by walked + all_beside w + apart ≤ slot + 2048
 
 -- where a walk went on stays told where more is told from the slot on that it has come to
 told_more : (layout : Layout) (program : List Insn) (slot : ℕ) (rest : List Insn) (w : List (List Known)) (onward : List Onward) (at : ℕ) (here : Onward) (h : HasWalked layout program slot rest w) → slot ≤ at → IsToldOnward onward h → IsToldOnward (set onward at here) h
@@ -238,23 +242,24 @@ told_more layout program slot rest w onward at here (Visited {slot = k} {i = i} 
     (told_more layout program k (i ∷ rest) _ onward at here before (omega arith) told, get_or-set_other onward at k here nowhere (λ e. omega arith) ∙ one)
 
 -- what the loop keeps: a walk that came there, whose unreached slots it notes, to which no run comes
-pub record Exploring (layout : Layout) (program : List Insn) (slot : ℕ) (rest : List Insn) (w : List (List Known)) (unreached : List ℕ) (onward : List Onward) : Type 0 where
+pub record Exploring (layout : Layout) (program : List Insn) (slot : ℕ) (rest : List Insn) (w : List (List Known)) (unreached : List ℕ) (onward : List Onward) (apart : ℕ) : Type 0 where
   pub walked : Walked layout program slot rest w
   pub fine : first_found (look_fault program) slot rest ≡ None
-  pub came : Came layout program slot rest w unreached onward
+  pub came : Came layout program slot rest w unreached onward apart
   pub none : All (NoneComesTo layout program) unreached
   pub long : length onward ≡ slot_count program
 
-pub begins_exploring : (layout : Layout) (program : List Insn) (w : List (List Known)) (onward : List Onward) → 1 ≤ slot_count program → look_verdict program ≡ None → IsBegun (slot_count program) w → length onward ≡ slot_count program → Exploring layout program 0 program w [] onward
-begins_exploring layout program w onward some none b long = record {
+pub begins_exploring : (layout : Layout) (program : List Insn) (w : List (List Known)) (onward : List Onward) (apart : ℕ) → 1 ≤ slot_count program → look_verdict program ≡ None → IsBegun (slot_count program) w → all_beside w + apart ≤ 2048 → length onward ≡ slot_count program
+    → Exploring layout program 0 program w [] onward apart
+begins_exploring layout program w onward apart some none b few long = record {
   walked = walk_start layout program w some b;
   fine = none_verdict _ none;
-  came = record { walked = Begun b; unreached = refl; told = tt };
+  came = record { walked = Begun b; unreached = refl; told = tt; counted = omega (arith, few) };
   none = λ k d lt. absurd (omega arith);
   long = long;
 }
 
-module _ (layout : Layout) (program : List Insn) (slot : ℕ) (rest : List Insn) (w : List (List Known)) (d : Insn) (some : 1 ≤ length rest) (unreached : List ℕ) (onward : List Onward) (h : Exploring layout program slot rest w unreached onward) where
+module _ (layout : Layout) (program : List Insn) (slot : ℕ) (rest : List Insn) (w : List (List Known)) (d : Insn) (some : 1 ≤ length rest) (unreached : List ℕ) (onward : List Onward) (apart : ℕ) (h : Exploring layout program slot rest w unreached onward apart) where
   abbrev pub now : Insn
   now = get_or rest 0 d
 
@@ -264,7 +269,7 @@ module _ (layout : Layout) (program : List Insn) (slot : ℕ) (rest : List Insn)
   walked_here : Walked layout program slot (now ∷ others) w
   walked_here = rw (first_rest rest d some) h.walked
 
-  came_here : Came layout program slot (now ∷ others) w unreached onward
+  came_here : Came layout program slot (now ∷ others) w unreached onward apart
   came_here = rw (first_rest rest d some) h.came
 
   fine_here : (look_fault program (slot + slots_of now) now ≡ None) × (first_found (look_fault program) (slot + slots_of now) others ≡ None)
@@ -299,14 +304,16 @@ module _ (layout : Layout) (program : List Insn) (slot : ℕ) (rest : List Insn)
   noted [] here = All-push (NoneComesTo layout program) unreached slot h.none (none_comes layout program slot rest w h.walked here)
   noted (known ∷ others) here = rw (append-nil unreached) h.none
 
-  pub one_explored : (w' : List (List Known)) (here : Onward) (after : List ℕ) → IsVisit layout now slot w w' (Passed here) → after ≡ unreached ++ slot_unless slot (get_or w slot []) → Exploring layout program (slot + slots_of now) others w' after (set onward slot here)
-  one_explored w' here after v n = record {
+  pub one_explored : (w' : List (List Known)) (apart' : ℕ) (here : Onward) (after : List ℕ) → IsVisit layout now slot w w' (Passed here) → after ≡ unreached ++ slot_unless slot (get_or w slot []) → all_beside w' + apart' + (length (get_or w slot []) - 1) ≤ all_beside w + apart
+      → Exploring layout program (slot + slots_of now) others w' after (set onward slot here) apart'
+  one_explored w' apart' here after v n spent = record {
     walked = passed layout program slot now others w v.0.between w' v.0.there fine_here.0 walked_here v.0.taken v.0.goes;
     fine = fine_here.1;
     came = record {
       walked = Visited came_here.walked v.0;
       unreached = n ∙ ap (λ (l : List ℕ). l ++ slot_unless slot (get_or w slot [])) came_here.unreached ∙ ap (λ (cases : List Known). unreached_by came_here.walked ++ slot_unless slot cases) v.0.taken.here;
       told = (told_more layout program slot (now ∷ others) w onward slot here came_here.walked (omega arith) came_here.told, get_or-set_same onward slot here nowhere told_inside ∙ v.1);
+      counted = let there = ap (length {A = Known}) v.0.taken.here in let some = slots_of_bounds now in omega (arith, came_here.counted, spent, there);
     };
     none = rw n (noted (get_or w slot []) refl);
     long = length-set onward slot here ∙ h.long;
@@ -322,6 +329,7 @@ module _ (layout : Layout) (program : List Insn) (slot : ℕ) (rest : List Insn)
     rest = others;
     waiting = w;
     walked = came_here.walked;
+    short = omega (arith, came_here.counted);
     refused = r;
     runs = λ bytes is. so_far bytes (walked_here.runs bytes is);
     right = λ u. refused_right layout program slot now others w r.known walked_here waits writes u r.wrong r.refused;
@@ -346,6 +354,6 @@ module _ (layout : Layout) (program : List Insn) (slot : ℕ) (rest : List Insn)
     onward = rw onwards came_here.told;
   })
 
-pub ends_exploring : (layout : Layout) (program : List Insn) (slot : ℕ) (rest : List Insn) (w : List (List Known)) (unreached : List ℕ) (onward : List Onward) → length rest < 1 → Exploring layout program slot rest w unreached onward → IsAcceptance layout program unreached
-ends_exploring layout program slot [] w unreached onward none h = record { safe = walk_end layout program slot w h.walked; passed = record { slot = slot; waiting = w; walked = h.came.walked }; unreached = h.came.unreached; none = h.none }
-ends_exploring layout program slot (i ∷ rest) w unreached onward none h = absurd (omega arith)
+pub ends_exploring : (layout : Layout) (program : List Insn) (slot : ℕ) (rest : List Insn) (w : List (List Known)) (unreached : List ℕ) (onward : List Onward) (apart : ℕ) → length rest < 1 → Exploring layout program slot rest w unreached onward apart → IsAcceptance layout program unreached
+ends_exploring layout program slot [] w unreached onward apart none h = record { safe = walk_end layout program slot w h.walked; passed = record { slot = slot; waiting = w; walked = h.came.walked; short = omega (arith, h.came.counted) }; unreached = h.came.unreached; none = h.none }
+ends_exploring layout program slot (i ∷ rest) w unreached onward apart none h = absurd (omega arith)

@@ -18,10 +18,11 @@ use Rattle.std.specs.Prelude.{if◌then◌else◌}
 use Rattle.std.proofs.lemmas.Bool.Decides.{nat_tests}
 use Rattle.insn.specs.declared.action.Action.TheVariants.{Branch}
 use Rattle.reg_kind.specs.Spans.{move_of, span_between, span_raised}
-use Rattle.stack_state.proofs.Refusals.{FailsLoad, FailsStore, load_seen, store_seen}
+use Rattle.stack_state.proofs.Refusals.{AreWholeKept, FailsLoad, FailsStore, load_seen, store_seen}
 use Rattle.verifier.proofs.Steps.{no_value, unset_compared, of_err, of_ok, set_holds, unset_or_not, Gives, fails_then, given_by, loaded_by, loaded_right, operand_fits, converts_put, loads_put, both_named}
-use Rattle.verifier.proofs.Linked.{IsNoNumber, changed_holds}
-use Rattle.verifier.proofs.States.{reg_below, reg_fits}
+use Rattle.links.proofs.Linked.{IsNoNumber, changed_holds}
+use Rattle.verifier.proofs.States.{reg_fits}
+use Rattle.links.proofs.Linked.{reg_below}
 use Rattle.insn.specs.declared.state.Region.TheVariants as region
 use Rattle.reg_kind.specs.declared.reg.Reg.TheVariants as kind
 
@@ -79,9 +80,9 @@ module _ (layout : Layout) (old : Known) (s : State) (f : StateFits InStates lay
   pub there : (r : RegNo) (o : Option Value) → get_or (set s.registers (reg_number r) o) (reg_number r) None ≡ o
   there r o = get_or-set_same s.registers (reg_number r) o None (let l = f.long in let b = reg_below r in omega arith)
 
-  changed_fits : (r : RegNo) (o : Option Value) (cells : List Cell) → IsNoNumber o → RegFits false (reg_of old r) o → StackFits false old.stack cells → StateFits InStates layout old (changed s r o cells)
-  changed_fits r o cells none h stack = record {
-    links = changed_holds old.links s.registers (reg_number r) o (let l = f.long in let b = reg_below r in omega arith) none f.links;
+  changed_fits : (r : RegNo) (o : Option Value) (cells : List Cell) → IsNoNumber o → RegFits false (reg_of old r) o → StackFits false old.stack cells → AreWholeKept old.stack s.stack cells → StateFits InStates layout old (changed s r o cells)
+  changed_fits r o cells none h stack kept = record {
+    links = changed_holds old.links old.stack s.registers s.stack cells (reg_number r) o (let l = f.long in let b = reg_below r in omega arith) none kept f.links;
     long = length-set s.registers (reg_number r) o ∙ f.long;
     record_fits = f.record_fits;
     registers = λ k lt.
@@ -94,14 +95,14 @@ module _ (layout : Layout) (old : Known) (s : State) (f : StateFits InStates lay
 
   -- a register of which nothing is known may be unset
   pub unset_there : (r : RegNo) → reg_of old r ≡ kind.Unset → StateFits InStates layout old (changed s r None s.stack)
-  unset_there r e = changed_fits r None s.stack tt (subst (λ (k : Kind). RegFits false k None) (sym e) tt) f.stack
+  unset_there r e = changed_fits r None s.stack tt (subst (λ (k : Kind). RegFits false k None) (sym e) tt) f.stack (λ b v lt q. refl)
 
   -- one that is a pointer may be at each of its offsets
   pointer_fits : (g : Region) (span : Span) (o : ℕ) → SpanFits false span o → RegFits false (pointer_to g span) (Some (Address (at g o)))
   pointer_fits g span o h1 = grind (arith)
 
-  pointer_there : (r : RegNo) (g : Region) (span : Span) (o : ℕ) (cells : List Cell) → reg_of old r ≡ pointer_to g span → SpanFits false span o → StackFits false old.stack cells → StateFits InStates layout old (changed s r (Some (Address (at g o))) cells)
-  pointer_there r g span o cells e h stack = changed_fits r (Some (Address (at g o))) cells tt (subst (λ (k : Kind). RegFits false k (Some (Address (at g o)))) (sym e) (pointer_fits g span o h)) stack
+  pointer_there : (r : RegNo) (g : Region) (span : Span) (o : ℕ) (cells : List Cell) → reg_of old r ≡ pointer_to g span → SpanFits false span o → StackFits false old.stack cells → AreWholeKept old.stack s.stack cells → StateFits InStates layout old (changed s r (Some (Address (at g o))) cells)
+  pointer_there r g span o cells e h stack kept = changed_fits r (Some (Address (at g o))) cells tt (subst (λ (k : Kind). RegFits false k (Some (Address (at g o)))) (sym e) (pointer_fits g span o h)) stack kept
 
   -- what registers hold
   is_number : (r : RegNo) (a : Scalar) → reg_of old r ≡ kind.Number a → (n : ℕ) × (value_of s.registers r ≡ Some (Number n))
@@ -141,7 +142,7 @@ module _ (layout : Layout) (old : Known) (s : State) (f : StateFits InStates lay
       Hits : (g : Region) (span t : Span) → reg_of old r ≡ pointer_to g span → HasEnds (region_size layout g) (size_bytes size) (pos span.least +ℤ offset) (pos span.greatest +ℤ offset) t → Accesses (Ok (record { region = g; span = t }))
 
     outside : (g : Region) (span : Span) (o : ℕ) → reg_of old r ≡ pointer_to g span → SpanFits false span o → within (region_size layout g) (pos o +ℤ offset) (size_bytes size) ≡ None → Sees layout old access_at OutOfRegion
-    outside g span o e h out = record { state = changed s r (Some (Address (at g o))) s.stack; fits = pointer_there r g span o s.stack e h f.stack; fails = rw (there, out) refl }
+    outside g span o e h out = record { state = changed s r (Some (Address (at g o))) s.stack; fits = pointer_there r g span o s.stack e h f.stack (λ b v lt q. refl); fails = rw (there, out) refl }
 
     pointer_accesses : (g : Region) (span : Span) → reg_of old r ≡ pointer_to g span → Accesses (place_in layout g span offset (size_bytes size))
     pointer_accesses g span e = by (span_raised (region_size layout g - size_bytes size) span offset offset) refl where
@@ -169,7 +170,7 @@ module _ (layout : Layout) (old : Known) (s : State) (f : StateFits InStates lay
     load_stack : (span t : Span) (fault : WalkFault) → reg_of old src ≡ kind.Stack span → HasEnds 512 (size_bytes size) (pos span.least +ℤ offset) (pos span.greatest +ℤ offset) t → IsGiven old.stack t size (Err fault) → Sees layout old read_at fault
     load_stack span t fault e ends given = record {
       state = changed s src (Some (Address (at region.Stack c.from))) x.cells;
-      fits = pointer_there src region.Stack span c.from x.cells e c.inside x.fits;
+      fits = pointer_there src region.Stack span c.from x.cells e c.inside x.fits x.kept;
       fails = rw (there, c.comes, within_at 512 (size_bytes size) x.from (let i = ends.inside in let p = x.place.1 in omega arith)) x.fails;
     } where
       x : FailsLoad old.stack t size s fault
@@ -227,7 +228,7 @@ module _ (layout : Layout) (old : Known) (s : State) (f : StateFits InStates lay
       store_fails : (g : Region) (span : Span) (k : ℕ) (fault : WalkFault) → reg_of old dst ≡ pointer_to g span → ComesTo span offset k → k + size_bytes size ≤ region_size layout g
           → ((t : State) (v : Value) → ValueFits false value v → failed (stored_state layout t (at g k) size v) ≡ Some fault) → Sees layout old write_at fault
       store_fails g span k fault e c inside h =
-          let fits = pointer_there dst g span c.from s.stack e c.inside f.stack in
+          let fits = pointer_there dst g span c.from s.stack e c.inside f.stack (λ b v lt q. refl) in
           let v = value_there (changed s dst (Some (Address (at g c.from))) s.stack) fits in
           record { state = changed s dst (Some (Address (at g c.from))) s.stack; fits = fits; fails = rw (there, v.1, c.comes, within_at (region_size layout g) (size_bytes size) k inside) (fails_then (stored_state layout (changed s dst (Some (Address (at g c.from))) s.stack) (at g k) size v.0) (λ u. Passes (Falls u)) fault (h (changed s dst (Some (Address (at g c.from))) s.stack) v.0 v.2)) }
 

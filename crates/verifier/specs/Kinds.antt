@@ -1,12 +1,13 @@
 -- What an instruction leaves of what is known, and why it is refused: a table by the kinds of what is known before it.
 -- Nothing is changed but what is said here.
-use Rattle.std.specs.Prelude.{◌≡◌, ◌≢◌, ℕ, Bool, true, false, length, slice_set, Option, Some, None, Result, Ok, Err}
-use Rattle.verifier.specs.Names.{RegNo, R0, Insn, Operand, Action, Operate, Convert, LoadWord, LoadFrom, StoreAt, Go, End, Layout, Width, W64, Number, WalkFault, ExitsWithPointer, PointerMisuse}
+use Rattle.std.specs.Prelude.{◌≡◌, ◌≢◌, ℕ, ◌/◌, ◌%◌, ◌==◌, ◌&&◌, if◌then◌else◌, Bool, true, false, length, slice_set, Option, Some, None, Result, Ok, Err}
+use Rattle.verifier.specs.Names.{RegNo, R0, Insn, Operand, Reg, Mov, ◌>>=◌, Action, Operate, Convert, LoadWord, LoadFrom, StoreAt, Go, End, Layout, Width, W64, Number, WalkFault, ExitsWithPointer, PointerMisuse}
 use Rattle.verifier.specs.Names.{PointerRange, ReadOnlyField, UnsetRegister, reg_number, size_bytes, action_of, State, fault_at, Kind, IsKindImage, IsKindResult, IsKnownNumber, number_in_reg, Flow}
 use Rattle.insn.specs.declared.action.Action.TheVariants.{Branch}
 use Rattle.insn.specs.declared.operation.Cond.{Cond}
 use Rattle.insn.specs.declared.operation.ExtendBits.{ExtendBits}
 use Rattle.insn.specs.declared.operation.Size.{Size}
+use Rattle.insn.specs.declared.operation.Size.TheVariants.{Eight}
 use Rattle.insn.specs.declared.operation.UnOp.TheVariants.{Extend}
 use Rattle.insn.specs.declared.state.Region.{Region}
 use Rattle.insn.specs.declared.state.Region.TheVariants as region
@@ -20,7 +21,8 @@ use Rattle.verifier.specs.declared.known.Test.{Test}
 use Rattle.verifier.specs.declared.known.Flow.TheVariants as flow
 use Rattle.verifier.specs.Fits.{InStates, StateFits}
 use Rattle.verifier.specs.Follows.{Follows, IsFaulty, IsOperand, comparison_of, reg_of}
-use Rattle.verifier.specs.Links.{AreLeft, AreMade, link_made}
+use Rattle.links.specs.Links.{AreHomesLeft, AreLeft, AreMade, home_at, link_at, link_made, moved_by}
+use Rattle.links.specs.declared.link.Links.{Links}
 
 -- ---- what a register receives
 
@@ -77,10 +79,15 @@ pub record Put : Type 0 where
   pub place : Place
   pub value : Kind
 
+-- what a store to the stack leaves of links: no home in the first block that it may touch
+abbrev pub AreLinksStored : Span → Result Unit WalkFault → Links → Links → Type 0
+AreLinksStored span (Ok done) old new = AreHomesLeft (span.least / 8) old new
+AreLinksStored span (Err fault) old new = new ≡ old
+
 abbrev pub StoredIn : Region → Put → Result Unit WalkFault → Known → Known → Type 0
 StoredIn region.Record put r old new = (r ≡ kept_in_record put.value) × (new ≡ old)
 StoredIn region.Stack put r old new =
-    (new.registers ≡ old.registers) × IsStored put.place.span put.size put.value r old.stack new.stack × (new.links ≡ old.links)
+    (new.registers ≡ old.registers) × IsStored put.place.span put.size put.value r old.stack new.stack × AreLinksStored put.place.span r old.links new.links
 
 -- a store at bytes that may be written, or may not
 abbrev pub StoredWhere : Bool → Put → Result Unit WalkFault → Known → Known → Type 0
@@ -134,15 +141,38 @@ LeavesRow layout (Branch w cond dst operand offset) old new r =
     OfOperand old operand (λ right. Passes (flow_where (comparison_of (reg_of old dst) right) (flow.Branch offset (test_of w cond dst operand))) old new r)
 LeavesRow layout End old new r = Passes (flow_where (number_in_reg (reg_of old R0) ExitsWithPointer) flow.Exit) old new r
 
--- the link that an instruction makes is there, and all else stays
-pub record IsLinked (action : Action) (old between new : Known) : Type 0 where
+-- the block of eight bytes at one certain place of the stack, where they are one
+abbrev pub block_in : Region → Span → Option ℕ
+block_in region.Record span = None
+block_in region.Stack span = if span.least == span.greatest && span.least % 8 == 0 then Some (span.least / 8) else None
+
+abbrev pub block_of_place : Result Place WalkFault → Option ℕ
+block_of_place (Ok place) = block_in place.region place.span
+block_of_place (Err fault) = None
+
+-- a home is given to a register, if there is one
+abbrev pub home_of : RegNo → Option ℕ → Option (RegNo × ℕ)
+home_of register home = do
+  b ← home
+  Some (register, b)
+
+-- the home that an instruction gives to a register: that of the one that is copied, and the block of eight bytes from which it is
+-- loaded, or to which it is stored
+abbrev pub home_made : Layout → Known → Action → Option (RegNo × ℕ)
+home_made layout old (Operate W64 Mov dst (Reg src)) = home_of dst (home_at old.links (reg_number src))
+home_made layout old (LoadFrom Eight None dst src offset) = home_of dst (block_of_place (place_behind layout (reg_of old src) offset 8))
+home_made layout old (StoreAt Eight dst offset (Reg src)) = home_of src (block_of_place (place_behind layout (reg_of old dst) offset 8))
+home_made layout old action = None
+
+-- the link and the home that an instruction makes are there, and the links that it moves, and all else stays
+pub record IsLinked (layout : Layout) (action : Action) (old between new : Known) : Type 0 where
   pub registers : new.registers ≡ between.registers
   pub stack : new.stack ≡ between.stack
-  pub links : AreMade (link_made old.registers old.links action) between.links new.links
+  pub links : AreMade (link_made old.registers old.links action) (home_made layout old action) (λ k. moved_by action k (link_at old.links k)) between.links new.links
 
 -- a row of the table, and then the instruction's link
 abbrev pub LeavesKnown : Layout → Insn → Known → Known → Result Flow WalkFault → Type 0
-LeavesKnown layout i old new (Ok flow) = (between : Known) × LeavesRow layout (action_of i) old between (Ok flow) × IsLinked (action_of i) old between new
+LeavesKnown layout i old new (Ok flow) = (between : Known) × LeavesRow layout (action_of i) old between (Ok flow) × IsLinked layout (action_of i) old between new
 LeavesKnown layout i old new (Err fault) = LeavesRow layout (action_of i) old new (Err fault)
 
 -- ---- refusals

@@ -1,18 +1,19 @@
 -- What a test teaches: of the two numbers that it compares, and of those that are linked to them.
 use Rattle.std.specs.Prelude.{◌≡◌, ◌≢◌, ℕ, ◌+◌, Bool, true, false, List, slice_set, Option, Some, None}
-use Rattle.verifier.specs.Names.{Operand, Reg, Imm, Layout, BinOp, Add, Sub, Eq, Width, reg_number, State, Scalar, InScalar, ShowsOne, Kind, IsKindRefined, Bits, Lowest, Shifted, Relation}
-use Rattle.verifier.specs.Names.{Sum, Difference}
-use Rattle.range.specs.Domain.{IsSingleResult, IsSoundResult}
-use Rattle.scalar.specs.Narrowed.{Answer, AreNarrowed, LiesInLeastSum}
+use Rattle.verifier.specs.Names.{Operand, Reg, Imm, Layout, reg_number, block_at, State, Scalar, Kind, IsKindRefined}
+use Rattle.scalar.specs.Narrowed.{Answer}
+use Rattle.links.specs.Narrowed.{AreSameNarrowed, IsLinkNarrowed}
 use Rattle.reg_kind.specs.declared.reg.Reg.TheVariants as kind
 use Rattle.verifier.specs.declared.known.Known.{Known}
 use Rattle.verifier.specs.declared.known.Test.{Test}
-use Rattle.verifier.specs.declared.link.Link.{Link}
+use Rattle.links.specs.declared.link.Link.{Link}
 use Rattle.verifier.specs.Fits.{InStates, Reading, StateFits, is_exact}
 use Rattle.verifier.specs.Follows.{IsOperand, reg_of, register_at, test_answer}
-use Rattle.verifier.specs.Links.{with_turn, link_at}
-use Rattle.verifier.specs.declared.link.Turn.{Turn}
-use Rattle.verifier.specs.declared.link.Turn.TheVariants.{Left, Right, Others}
+use Rattle.stack_state.specs.declared.block.Block.{Block}
+use Rattle.stack_state.specs.declared.block.Block.TheVariants as block
+use Rattle.links.specs.Links.{with_turn, home_at, link_at}
+use Rattle.links.specs.declared.link.Turn.{Turn}
+use Rattle.links.specs.declared.link.Turn.TheVariants.{Left, Right, Others}
 
 -- ---- the two numbers that are compared
 
@@ -37,51 +38,6 @@ pub record IsCompared (test : Test) (answer : Bool) (old new : Known) : Type 0 w
 
 -- ---- numbers that are linked
 
--- what an operation gives of two sets
-pub record IsGivenBy (op : BinOp) (w : Width) (a b c : Scalar) : Type 0 where
-  pub sound : IsSoundResult InScalar op w a b c
-  pub single : IsSingleResult ShowsOne op w a b c
-  pub least : LiesInLeastSum op w a b c
-
--- the numbers of a link's register, by those of the other one and the constant
-abbrev pub IsDerived : Relation → Width → Scalar → Scalar → Scalar → Type 0
-IsDerived Sum w of plus derived = IsGivenBy Add w of plus derived
-IsDerived Difference w of plus derived = IsGivenBy Sub w plus of derived
-
--- those of the other one, by those of the link's register and the constant
-abbrev pub IsTraced : Relation → Width → Scalar → Scalar → Scalar → Type 0
-IsTraced Sum w register plus traced = IsGivenBy Sub w register plus traced
-IsTraced Difference w register plus traced = IsGivenBy Sub w plus register traced
-
--- a set narrowed to what may equal a number of another in a width
-abbrev pub IsNarrowedTo : Width → Scalar → Scalar → Scalar → Type 0
-IsNarrowedTo w a other new = (rest : Scalar) × AreNarrowed (record { cond = Eq; width = w; taken = true }) a other (new, rest)
-
--- what a link that tells the bits of a width leaves of two sets: of the second what may equal a number that is derived from
--- the first, and then of the first what may equal one that is traced from that
-pub record AreLowestNarrowed (link : Link) (w : Width) (a b : Scalar) (r : Scalar × Scalar) : Type 0 where
-  pub plus : Scalar
-  pub is_plus : ShowsOne plus link.plus
-  pub derived : Scalar
-  pub is_derived : IsDerived link.relation w a plus derived
-  pub second : IsNarrowedTo w b derived r.1
-  pub traced : Scalar
-  pub is_traced : IsTraced link.relation w r.1 plus traced
-  pub first : IsNarrowedTo w a traced r.0
-
--- what a link leaves: both as they are, while its bits are shifted
-abbrev pub AreNarrowedIn : Bits → Link → Scalar → Scalar → Scalar × Scalar → Type 0
-AreNarrowedIn (Lowest w) link a b r = AreLowestNarrowed link w a b r
-AreNarrowedIn Shifted link a b r = r ≡ (a, b)
-
-abbrev pub AreLinkNarrowed : Link → Scalar → Scalar → Scalar × Scalar → Type 0
-AreLinkNarrowed link a b r = AreNarrowedIn link.bits link a b r
-
--- registers of which one holds no number stay as they are
-abbrev pub IsLinkNarrowed : Link → Kind → Kind → Kind × Kind → Type 0
-IsLinkNarrowed link (kind.Number a) (kind.Number b) r = (c : Scalar) × (d : Scalar) × (r ≡ (kind.Number c, kind.Number d)) × AreLinkNarrowed link a b (c, d)
-IsLinkNarrowed link a b r = r ≡ (a, b)
-
 -- what is known of two registers has spread by the link of register k: it leaves of the two what it leaves, and all else stays
 pub record IsSpread (link : Link) (k : ℕ) (old new : Known) : Type 0 where
   pub both : Kind × Kind
@@ -90,23 +46,48 @@ pub record IsSpread (link : Link) (k : ℕ) (old new : Known) : Type 0 where
   pub stack : new.stack ≡ old.stack
   pub links : new.links ≡ old.links
 
+-- it is known of both, and all else stays
+pub record IsHomeNarrowed (b k : ℕ) (numbers : Scalar × Scalar) (old new : Known) : Type 0 where
+  pub both : Scalar × Scalar
+  pub narrowed : AreSameNarrowed numbers.0 numbers.1 both
+  pub registers : new.registers ≡ slice_set old.registers k (kind.Number both.1)
+  pub there : block_at new.stack b ≡ block.Whole (kind.Number both.0)
+  pub others : (j : ℕ) → j ≢ b → block_at new.stack j ≡ block_at old.stack j
+  pub links : new.links ≡ old.links
+
+-- what is known of register k and of its home has spread: where one of them is no number, nothing is changed
+abbrev pub IsHomeSpread : Block → Kind → ℕ × ℕ → Known → Known → Type 0
+IsHomeSpread (block.Whole (kind.Number a)) (kind.Number c) at old new = IsHomeNarrowed at.0 at.1 (a, c) old new
+IsHomeSpread stored held at old new = new ≡ old
+
+-- it has spread by a home, if there is one
+abbrev pub MaySpreadHome : Option ℕ → ℕ → Known → Known → Type 0
+MaySpreadHome None k old new = new ≡ old
+MaySpreadHome (Some b) k old new = IsHomeSpread (block_at old.stack b) (register_at old k) (b, k) old new
+
 -- it has spread by a link, if there is one
 abbrev pub MaySpread : Option Link → ℕ → Known → Known → Type 0
 MaySpread None k old new = new ≡ old
 MaySpread (Some link) k old new = IsSpread link k old new
 
--- it has spread by each link that has its turn in a test, in the order of the registers, up to register k
+-- it has spread by the link of register k, if that has its turn in a test, and then by its home
+pub record IsSpreadAt (test : Test) (turn : Turn) (k : ℕ) (old new : Known) : Type 0 where
+  pub between : Known
+  pub link : MaySpread (with_turn turn test.left test.right k (link_at old.links k)) k old between
+  pub home : MaySpreadHome (home_at between.links k) k between new
+
+-- it has spread so by each register's, in their order, up to register k
 pub data IsSpreadBelow (test : Test) (turn : Turn) (old : Known) : ℕ → Known → Type 0 where
   Unspread : IsSpreadBelow test turn old 0 old
-  SpreadOne : {k : ℕ} {between new : Known} → IsSpreadBelow test turn old k between
-      → MaySpread (with_turn turn test.left test.right k (link_at between.links k)) k between new → IsSpreadBelow test turn old (k + 1) new
+  SpreadOne : {k : ℕ} {between new : Known} → IsSpreadBelow test turn old k between → IsSpreadAt test turn k between new → IsSpreadBelow test turn old (k + 1) new
 
 abbrev pub IsSpreadInTurn : Test → Turn → Known → Known → Type 0
 IsSpreadInTurn test turn old new = IsSpreadBelow test turn old 11 new
 
 -- ---- the whole
 
--- it has spread by the links that join the left number, then by those that join the right one, and then by all others
+-- it has spread by the links that join the left number, then by those that join the right one, and then by all others, each time
+-- by all homes, too
 pub record IsSpreadToAll (test : Test) (old new : Known) : Type 0 where
   pub first : Known
   pub second : Known

@@ -40,7 +40,7 @@ pub use Rattle.std.specs.List.{filter_map}
 pub use Rattle.std.specs.Option.{option_map}
 pub use Rattle.verifier.specs.declared.known.Flow.{Flow}
 pub use Rattle.verifier.specs.declared.known.Flow.TheVariants.{Next, Jump, Exit}
-pub use Rattle.verifier.specs.declared.link.Bits.{Bits}
-pub use Rattle.verifier.specs.declared.link.Bits.TheVariants.{Lowest, Shifted}
-pub use Rattle.verifier.specs.declared.link.Relation.{Relation}
-pub use Rattle.verifier.specs.declared.link.Relation.TheVariants.{Sum, Difference}
+pub use Rattle.links.specs.declared.link.Bits.{Bits}
+pub use Rattle.links.specs.declared.link.Bits.TheVariants.{Lowest, Shifted}
+pub use Rattle.links.specs.declared.link.Relation.{Relation}
+pub use Rattle.links.specs.declared.link.Relation.TheVariants.{Sum, Difference}

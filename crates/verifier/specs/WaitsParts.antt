@@ -1,5 +1,5 @@
 -- Beside Waits: only the contracts of this crate's own parts and their proofs cite this, no public clause.
-use Rattle.std.specs.Prelude.{◌≡◌, ◌⊎◌, Bool, ℕ, ℤ, pos, ◌+◌, ◌<◌, List, [], ◌∷◌, ◌++◌, Box, IsSome, is_some, Option, Some, None, Ok, length, map, slice_index_or, take}
+use Rattle.std.specs.Prelude.{◌≡◌, ◌⊎◌, Bool, true, false, ℕ, ℤ, pos, ◌+◌, ◌-◌, ◌<◌, ◌≤◌, sum_by, List, [], ◌∷◌, ◌++◌, Box, IsSome, is_some, Option, Some, None, Ok, length, map, slice_index_or, take}
 use Rattle.verifier.specs.Names.{box_value, filter_map, option_map, Insn, Layout, walk_fault_at, Exit}
 use Rattle.std.specs.declared.alloc.Global.{Global}
 use Rattle.verifier.specs.declared.cases.Held.{Held}
@@ -13,6 +13,31 @@ use Rattle.verifier.specs.declared.walk.Upshot.{Upshot}
 use Rattle.verifier.specs.declared.walk.Upshot.TheVariants.{Passed, Refused}
 use Rattle.verifier.specs.Kinds.{LeavesKnown}
 use Rattle.verifier.specs.Waits.{AreBothPushed, IsJoinedIn, IsMerged, IsPassed, IsRefusedAt, IsRefusedHere, IsTestSettled, IsVisited, IsWayPushed, nowhere, onward_by_both, onward_by_test, onward_from, onward_of}
+
+-- what waits at slots, and how often a case may still come to stand beside others
+pub record AtSlots : Type 0 where
+  pub cases : List (List Known)
+  pub apart : ℕ
+
+-- how many cases wait at a slot beside the first, and at all slots
+abbrev pub beside : List Known → ℕ
+beside cases = length cases - 1
+
+abbrev pub all_beside : List (List Known) → ℕ
+all_beside w = sum_by beside w
+
+-- no more cases have come to stand beside others than were spent for that
+abbrev pub Spends : AtSlots → AtSlots → Type 0
+Spends old now = all_beside now.cases + now.apart ≤ all_beside old.cases + old.apart
+
+-- the same, where what waited at a slot was taken
+abbrev pub SpendsBehind : ℕ → AtSlots → AtSlots → Type 0
+SpendsBehind slot old now = all_beside now.cases + now.apart + beside (slice_index_or old.cases slot []) ≤ all_beside old.cases + old.apart
+
+-- a case has come to others: at most one more waits, and none more where it does not stand beside them
+abbrev pub IsCounted : List Known → List Known → Bool → Type 0
+IsCounted old now true = length now ≤ length old + 1
+IsCounted old now false = length now ≡ length old
 
 -- a jump stays among so many slots
 abbrev pub IsFar : Option ℤ → ℕ → ℕ → Type 0

@@ -4,7 +4,7 @@ ghost use Rattle.std.specs.Prelude.{◌≡◌, ◌<◌, ◌==◌, ℕ, [], ◌�
 ghost use Rattle.std.specs.Option.{option_map};
 ghost use Rattle.std.specs.Box.{box_value};
 ghost use Rattle.verifier.specs.Waits.{IsAdded};
-ghost use Rattle.verifier.specs.WaitsParts.{cases_held, cases_in, IsFirst, IsFirstPlace, IsRoomFor};
+ghost use Rattle.verifier.specs.WaitsParts.{cases_held, cases_in, IsCounted, IsFirst, IsFirstPlace, IsRoomFor};
 
 use crate::known::Known;
 use stack_state::difference::{MUCH, of_registers, of_stacks};
@@ -140,6 +140,7 @@ fn settle(places: &mut [Option<Box<Known>>; MOST], place: usize, known: &Known) 
     ensures room { IsRoomFor places.old known.now places.new result }
     ensures free { (k : ℕ) → slice_index_or places.old k None ≡ None → slice_index_or places.new k None ≡ None }
     ensures same { IsSome result → places.new ≡ places.old }
+    ensures own { IfSome result (λ free. free ≡ place) }
 {
     match places[place].take() {
         Some(mut waiting) => {
@@ -204,7 +205,8 @@ fn room_for(places: &mut [Option<Box<Known>>; MOST], known: &Known, later: Read)
 /// Adds a case to those in some places, and says whether it stands beside them.
 #[inline(never)]
 fn place(places: &mut [Option<Box<Known>>; MOST], known: Box<Known>, later: Read) -> bool
-    ensures { IsAdded (cases_in places.old) known.value (cases_in places.new) }
+    ensures added { IsAdded (cases_in places.old) known.value (cases_in places.new) }
+    ensures counted { IsCounted (cases_in places.old) (cases_in places.new) result }
 {
     match room_for(places, &known, later) {
         Some(place) => {
@@ -223,7 +225,8 @@ fn place_copy(
     known: &Known,
     later: Read,
 ) -> Result<bool, AllocError>
-    ensures { IsOk result → IsAdded (cases_in places.old) known.now (cases_in places.new) }
+    ensures added { IsOk result → IsAdded (cases_in places.old) known.now (cases_in places.new) }
+    ensures counted { IfOk result (IsCounted (cases_in places.old) (cases_in places.new)) }
 {
     match room_for(places, known, later) {
         Some(place) => {
@@ -237,7 +240,9 @@ fn place_copy(
 /// A case is joined with the first of those in some places. Says whether there is one.
 fn settle_first(places: &mut [Option<Box<Known>>; MOST], known: &Known) -> bool
     ensures joined { result ≡ true → IsAdded (cases_in places.old) known.now (cases_in places.new) }
+    ensures counted { IsCounted (cases_in places.old) (cases_in places.new) false }
     ensures kept { result ≡ false → places.new ≡ places.old }
+    ensures none { result ≡ false → cases_in places.old ≡ [] }
 {
     match first_place(places) {
         Some(place) => settle(places, place, known).is_none(),
@@ -321,7 +326,9 @@ impl Cases {
     #[inline(never)]
     pub(crate) fn join_first(&mut self, known: &Known) -> bool
         ensures joined { result ≡ true → IsAdded self.old known.now self.new }
+        ensures counted { IsCounted self.old self.new false }
         ensures kept { result ≡ false → self.new ≡ self.old }
+        ensures none { result ≡ false → self.old ≡ [] }
     {
         match mem::replace(&mut self.held, Held::Nothing) {
             Held::Nothing => false,
@@ -347,7 +354,8 @@ impl Cases {
         known: Box<Known>,
         later: Read,
     ) -> Result<bool, AllocError>
-        ensures { IsOk result → IsAdded self.old known.value self.new }
+        ensures added { IsOk result → IsAdded self.old known.value self.new }
+        ensures counted { IfOk result (IsCounted self.old self.new) }
     {
         let mut places = self.take_places(alloc)?;
         let stands = place(&mut places, known, later);
@@ -362,7 +370,8 @@ impl Cases {
         known: &Known,
         later: Read,
     ) -> Result<bool, AllocError>
-        ensures { IsOk result → IsAdded self.old known.now self.new }
+        ensures added { IsOk result → IsAdded self.old known.now self.new }
+        ensures counted { IfOk result (IsCounted self.old self.new) }
     {
         let mut places = self.take_places(alloc)?;
         let stands = place_copy(&mut places, alloc, known, later)?;

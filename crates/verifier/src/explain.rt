@@ -54,8 +54,8 @@ impl Known {
 
 /// Adds a slot to those that no way reaches, where nothing waits there.
 fn note(unreached: &mut Vec<usize>, slot: usize, waiting: &Waiting) -> Result<(), AllocError>
-    requires { slot < length waiting.now }
-    ensures { OnOk result (unreached.new.items ≡ unreached.old.items ++ slot_unless slot (slice_index_or waiting.now slot [])) }
+    requires { slot < length waiting.now.cases }
+    ensures { OnOk result (unreached.new.items ≡ unreached.old.items ++ slot_unless slot (slice_index_or waiting.now.cases slot [])) }
 {
     if !waiting.is_reached(slot) {
         unreached.push(slot)?;

@@ -1,0 +1,3 @@
+pub mod Linked
+-- What these files import, passed on.
+pub mod Names

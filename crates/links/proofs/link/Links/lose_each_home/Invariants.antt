@@ -1,0 +1,6 @@
+use Rattle.std.proofs.Common.{◌≡◌, None}
+use Rattle.links.proofs.Linked.{IsHomeLeft, MadeBelow}
+use Rattle.links.proofs.link.Links.lose_each_home.Given as goal
+
+abbrev pub invariant-loop-i : goal.invariant-loop-i
+invariant-loop-i l = MadeBelow None (IsHomeLeft l.block) l.initial.self.homes l.self.homes l.i × (l.self.any ≡ l.initial.self.any) × (l.self.each ≡ l.initial.self.each)

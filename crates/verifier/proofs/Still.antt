@@ -1,0 +1,53 @@
+-- What an instruction leaves, and then the links that it moves.
+use Rattle.std.proofs.Common.{◌≡◌, ℕ, ◌<◌, ◌∙◌, ap, refl, sym, inl, inr, Option, Some, None, Result, Ok, Err}
+use Rattle.verifier.proofs.Names.{Insn, Layout, RegNo, WalkFault, Known, Flow, LeavesKnown, action_of, reg_number, Link, Links, link_at, link_made}
+use Rattle.links.proofs.Names.{cases_eq, option_or}
+use Rattle.links.proofs.Linked.{moved_so, not_chosen}
+use Rattle.links.specs.Links.{home_at, links_in, made_at, moved_by}
+use Rattle.verifier.proofs.Rows.{made_unmoved}
+use Rattle.verifier.specs.Kinds.{home_made}
+use Rattle.verifier.specs.LearntParts.{LeavesStill}
+
+-- where it moves none
+pub still_known : (layout : Layout) (i : Insn) (old new : Known) (r : Result Flow WalkFault) → ((k : ℕ) → k < 11 → moved_by (action_of i) k (link_at old.links k) ≡ None) → LeavesStill layout i old new r → LeavesKnown layout i old new r
+still_known layout i old new (Ok flow) none (between, row, still) = (
+  between,
+  row,
+  record {
+    registers = still.registers;
+    stack = still.stack;
+    links = moved_so (link_made old.registers old.links (action_of i)) (home_made layout old (action_of i)) (λ k. None) (λ k. moved_by (action_of i) k (link_at old.links k)) between.links new.links
+        (λ k lt. sym (none k lt)) still.links;
+  },
+)
+still_known layout i old new (Err fault) none h = h
+
+-- links are moved behind what is made as before it, where the one that is made is none that is moved
+moved_behind : (link : Option (RegNo × Link)) (k : ℕ) (x y : Option Link) → ((m : RegNo × Link) → link ≡ Some m → k ≡ reg_number m.0 → x ≡ None) → option_or x (made_at link k y) ≡ made_at link k (option_or x y)
+moved_behind None k x y none = refl
+moved_behind (Some m) k x y none = elim (cases_eq k (reg_number m.0)) [
+  | inl q ↦ rw (none m refl q) refl
+  | inr ne ↦ ap (option_or x) (not_chosen k (reg_number m.0) (Some m.1) y ne) ∙ sym (not_chosen k (reg_number m.0) (Some m.1) (option_or x y) ne)
+]
+
+-- where they are set behind it
+pub moving_known : (layout : Layout) (i : Insn) (old mid : Known) (flow : Flow) (moved : Option Links) (links : Links) → LeavesStill layout i old mid (Ok flow)
+    → ((k : ℕ) → k < 11 → links_in moved k ≡ moved_by (action_of i) k (link_at old.links k))
+    → ((k : ℕ) → k < 11 → (link_at links k ≡ option_or (links_in moved k) (link_at mid.links k)) × (home_at links k ≡ home_at mid.links k))
+    → LeavesKnown layout i old (record { registers = mid.registers; stack = mid.stack; links = links }) (Ok flow)
+moving_known layout i old mid flow moved links (between, row, still) are set = (
+  between,
+  row,
+  record {
+    registers = still.registers;
+    stack = still.stack;
+    links = λ k lt. (
+      (set k lt).0
+          ∙ ap (option_or (links_in moved k)) (still.links k lt).0
+          ∙ moved_behind (link_made old.registers old.links (action_of i)) k (links_in moved k) (link_at between.links k)
+          (λ m e q. are k lt ∙ rw q (made_unmoved old.registers old.links (action_of i) m (link_at old.links (reg_number m.0)) e))
+          ∙ ap (λ (o : Option Link). made_at (link_made old.registers old.links (action_of i)) k (option_or o (link_at between.links k))) (are k lt),
+      (set k lt).1 ∙ (still.links k lt).1,
+    );
+  },
+)
