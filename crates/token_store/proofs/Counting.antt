@@ -157,7 +157,7 @@ client_homed families (e ∷ es) client t once all =
     let sums = count_by-cons (lasts_of expiry client_of client t) e.1 (values_of es) in
     let sums' = count_by-cons (is_live_of families client t) e.1 (values_of es) in
     let own = (bytes_eq-Decides e.0 e.0).1 refl in
-    let home : e.1.client ≡ (shared_at families e.1.family).client = all e.0 e.1 (grind (arith, own)) in
+    let home : client_of e.1 ≡ (shared_at families e.1.family).client = all e.0 e.1 (grind (arith, own)) in
     let more = client_homed families es client t (IsDistinct-tail bytes_eq e.0 (keys_of es) once) (rest_homed families e es once all) in
     grind (arith, sums, sums', home, more)
 

@@ -2,7 +2,7 @@
 use Rattle.std.proofs.Common.{◌≡◌, ◌<◌, ◌≤◌, ℕ, ◌+◌, List, [], ◌∷◌, Option, Some, None, Bool, true, false, cond, length, refl, ap, ◌∙◌, sym, arith}
 use Rattle.token_store.proofs.Names.{◌==◌, family_numbered, count_by, unwrap_or, is_some, IsDistinct, IsPermutation, bytes_eq, lookup, remove_entry, values_of, keys_of, sum_by-remove_entry}
 use Rattle.token_store.proofs.Names.{sum_by_values_permutation, bytes_eq-Decides, Record, Shared, Kept, kept_at, kept_unexpired, shared_at, kept_in, kept_under, all_kept, member_count, IsCounted}
-use Rattle.token_store.proofs.Names.{is_live_at, HasLeft, TellsSame, is_unexpired, nat_tests}
+use Rattle.token_store.proofs.Names.{expiry, is_live_at, HasLeft, TellsSame, is_unexpired, nat_tests}
 use Rattle.std.specs.Prelude.{option_map, sum_by}
 use Rattle.std.proofs.lemmas.List.Sums.{sum_by-cons}
 use Rattle.token_store.proofs.Names.{HasTaken}
@@ -65,7 +65,7 @@ fewer_entries digest es es' r has =
 -- one is gone that had expired
 pub dropped_one : (families families' : List (ℕ × Shared)) (es es' : List (List ℕ × Record)) (digest : List ℕ) (r : Record) (moment : ℕ) (keeps : Bool) →
     IsDistinct bytes_eq (keys_of es) → IsDistinct bytes_eq (keys_of es') → IsCounted families' es' →
-    lookup (bytes_eq digest) es ≡ Some r → r.moment + r.life ≤ moment → IsPermutation (remove_entry (bytes_eq digest) es) es' →
+    lookup (bytes_eq digest) es ≡ Some r → expiry r ≤ moment → IsPermutation (remove_entry (bytes_eq digest) es) es' →
     ((d : List ℕ) → lookup (bytes_eq d) es' ≡ cond (bytes_eq digest d) None (lookup (bytes_eq d) es)) → HasLeft families families' r.family keeps →
     TellsSame (all_kept families es) (all_kept families' es') moment
 dropped_one families families' es es' digest r moment keeps once once' counted' at late taken others left = record {

@@ -1,13 +1,12 @@
 -- Families that are ended, opened or let go of.
 use Rattle.std.proofs.Common.{◌≡◌, ◌≢◌, ◌≤◌, ℕ, List, [], ◌∷◌, Option, Some, None, Bool, true, false, eqb, refl, ap, ◌∙◌, sym, subst, arith}
-use Rattle.token_store.proofs.Names.{code_scope, family_numbered, values_of, count_by-cons, Record, Shared, shared_at, all_kept, member_count, is_coded, Ties, IsCounted, IsOwned, RecordChange}
+use Rattle.token_store.proofs.Names.{client_of, family_numbered, turned, values_of, count_by-cons, Record, Shared, shared_at, all_kept, member_count, is_coded, Ties, IsCounted, IsOwned, RecordChange}
 use Rattle.token_store.proofs.Names.{told, may_end, altered, HasAltered, changed, HasEnded, HasLowered, HasIndexed, HasStruck, is_past, IsNextOwned, key_of, has_owner, owner_cmp, is_at, OwnerKey, lowered_shared, nat_tests, Tables, IsTied, kept_of, nat_eq}
-use Rattle.token_store.specs.RecordsParts.{HasClosed, OthersStay}
+use Rattle.token_store.specs.RecordsParts.{goes_beyond, HasClosed, OthersStay}
 use Rattle.token_store.proofs.Lasting.{any_counted, member_few}
 use Rattle.token_store.proofs.Dropping.{member_counted}
 use Rattle.token_store.proofs.Names.{bytes_eq, is_member_at, list_any, lookup, or_nothing, stand_entries, ◌==◌}
-use Rattle.token_store.proofs.Tying.{owner_at, owner_here, keyless, coded_at, key_number, owned_without}
-use Rattle.consent.specs.History.{is_within}
+use Rattle.token_store.proofs.Tying.{owner_at, keyless, coded_at, key_number, owned_without, turned_turned}
 use Rattle.std.specs.Prelude.{map, nat_lt, option_map}
 
 -- ENDING
@@ -56,110 +55,96 @@ pub owned_ended : (old new : List (ℕ × Shared)) (owners owners' : List OwnerK
 owned_ended old new owners owners' n s key is found struck ended owned =
     owned_without old new owners owners' n s key is found owned struck (λ q. (let here = ended.here in grind (arith, here, found))) ended.others
 
--- of one family the index has one key
-one_key : (o : Option Shared) (key q : OwnerKey) → is_coded key o ≡ true → q.1.1 ≡ key.1.1 → is_coded q o ≡ true → is_at (owner_cmp key) q ≡ true
-one_key None key q coded here also = grind (arith, coded)
-one_key (Some s) key q coded here also = by (code_scope s) refl
-  where
-    by : (c : Option ℕ) → code_scope s ≡ c → is_at (owner_cmp key) q ≡ true
-    by None is = grind (arith, is, coded)
-    by (Some x) is =
-        let mine : (key.0.0 ≡ s.owner) × ((key.0.1 ≡ s.client) × (key.1.0 ≡ x)) = grind (arith, nat_tests, is, coded) in
-        let its : (q.0.0 ≡ s.owner) × ((q.0.1 ≡ s.client) × (q.1.0 ≡ x)) = grind (arith, nat_tests, is, also) in
-        owner_here key q (mine.0 ∙ sym its.0) (mine.1.0 ∙ sym its.1.0) (mine.1.1 ∙ sym its.1.1) (sym here)
-
--- a family that the index tells of, which has it no more
-pub owned_marked : (old new : List (ℕ × Shared)) (owners owners' : List OwnerKey) (key : OwnerKey) → HasStruck owners owners' (Some key) → has_owner owners key ≡ true →
-    HasEnded old new key.1.1 → IsOwned old owners → IsOwned new owners'
-owned_marked old new owners owners' key struck there ended owned q = by (nat_eq q.1.1 key.1.1) refl
-  where
-    by : (b : Bool) → nat_eq q.1.1 key.1.1 ≡ b → has_owner owners' q ≡ is_coded q (family_numbered new q.1.1)
-    by true is =
-        let same : q.1.1 ≡ key.1.1 = grind (arith, nat_tests, is) in
-        let none : is_coded q (option_map (λ (s : Shared). record s { ended = true }) (family_numbered old key.1.1)) ≡ false = unmarked (family_numbered old key.1.1) in
-        let left = struck q in
-        let was = owned q in
-        let one = one_key (family_numbered old key.1.1) key q (sym (owned key) ∙ there) same in
-        let gone : has_owner owners' q ≡ false = (let was' : has_owner owners q ≡ is_coded q (family_numbered old key.1.1) = was ∙ ap (λ n. is_coded q (family_numbered old n)) same in grind (arith, left, was', one)) in
-        gone ∙ sym none ∙ ap (is_coded q) (sym ended.here) ∙ ap (λ n. is_coded q (family_numbered new n)) (sym same)
-      where
-        unmarked : (o : Option Shared) → is_coded q (option_map (λ (s : Shared). record s { ended = true }) o) ≡ false
-        unmarked None = refl
-        unmarked (Some s) = grind arith
-    by false is =
-        let far = owner_at key q in
-        let left = struck q in
-        let was = owned q in
-        let other = ended.others q.1.1 in
-        grind (arith, nat_tests, far, left, was, other, is)
-
--- up to this scope those of the two that are in the index lie within the mask
-abbrev pub AreWithin : List OwnerKey → ℕ × ℕ → ℕ → Option ℕ → Type 0
-AreWithin owners parties mask after = (scope n : ℕ) → is_past after scope ≡ true → has_owner owners (parties, (scope, n)) ≡ true → is_within scope mask ≡ true
+-- up to this place those of the two that have not ended do not go beyond the mask
+abbrev pub AreWithin : List (ℕ × Shared) → ℕ × ℕ → ℕ → Option ℕ → Type 0
+AreWithin families parties mask after =
+    (n : ℕ) → is_past after n ≡ true → is_coded (parties, n) (family_numbered families (turned n)) ≡ true → goes_beyond mask (family_numbered families (turned n)) ≡ false
 
 -- all that have been lowered so far are as they are to be, and no other
 pub record LowersOn (old new : List (ℕ × Shared)) (owners : List OwnerKey) (parties : ℕ × ℕ) (mask : ℕ) (after : Option ℕ) : Type 0 where
   pub owned : IsOwned new owners
   pub same : (k : ℕ) → option_map (lowered_shared parties.0 parties.1 mask) (family_numbered new k) ≡ option_map (lowered_shared parties.0 parties.1 mask) (family_numbered old k)
-  pub within : AreWithin owners parties mask after
+  pub within : AreWithin new parties mask after
 
 -- one that goes beyond the mask is ended
-marked_same : (o : Option Shared) (parties : ℕ × ℕ) (mask scope n : ℕ) → is_coded (parties, (scope, n)) o ≡ true → is_within scope mask ≡ false →
+marked_same : (o : Option Shared) (parties : ℕ × ℕ) (mask n : ℕ) → is_coded (parties, n) o ≡ true → goes_beyond mask o ≡ true →
     option_map (lowered_shared parties.0 parties.1 mask) (option_map (λ (s : Shared). record s { ended = true }) o) ≡ option_map (lowered_shared parties.0 parties.1 mask) o
-marked_same None parties mask scope n coded beyond = refl
-marked_same (Some s) parties mask scope n coded beyond = by (code_scope s) refl
+marked_same None parties mask n coded beyond = refl
+marked_same (Some s) parties mask n coded beyond = by s.coded refl
   where
-    by : (c : Option ℕ) → code_scope s ≡ c → option_map (lowered_shared parties.0 parties.1 mask) (Some (record s { ended = true })) ≡ option_map (lowered_shared parties.0 parties.1 mask) (Some s)
-    by None is = grind (arith, nat_tests, is, coded)
-    by (Some x) is = grind (arith, nat_tests, is, coded, beyond)
+    by : (c : Bool) → s.coded ≡ c → option_map (lowered_shared parties.0 parties.1 mask) (Some (record s { ended = true })) ≡ option_map (lowered_shared parties.0 parties.1 mask) (Some s)
+    by false is = absurd (grind (arith, is, beyond))
+    by true is = grind (arith, nat_tests, is, coded, beyond)
 
-pub lowered_more : (old new new' : List (ℕ × Shared)) (owners owners' : List OwnerKey) (parties : ℕ × ℕ) (mask : ℕ) (after : Option ℕ) (found : ℕ × ℕ) → LowersOn old new owners parties mask after →
-    has_owner owners (parties, found) ≡ true → is_within found.0 mask ≡ false → HasStruck owners owners' (Some (parties, found)) → HasEnded new new' found.1 →
-    LowersOn old new' owners' parties mask after
-lowered_more old new new' owners owners' parties mask after found so_far there beyond struck ended = record {
-  owned = owned_marked new new' owners owners' (parties, found) struck there ended so_far.owned;
-  same = λ k.
-      let other = ended.others k in
-      let here = ended.here in
-      let was = so_far.same k in
-      let marked = marked_same (family_numbered new found.1) parties mask found.0 found.1 (sym (so_far.owned (parties, found)) ∙ there) beyond in
-      grind (arith, nat_tests, other, here, was, marked);
-  within = λ scope n past kept. so_far.within scope n past (let left = struck (parties, (scope, n)) in grind (arith, left, kept));
-}
+-- one that has ended is in no index
+unmarked : (q : OwnerKey) (o : Option Shared) → is_coded q (option_map (λ (s : Shared). record s { ended = true }) o) ≡ false
+unmarked q None = refl
+unmarked q (Some s) = refl
 
-pub within_more : (old new : List (ℕ × Shared)) (owners : List OwnerKey) (parties : ℕ × ℕ) (mask : ℕ) (after : Option ℕ) (found : ℕ × ℕ) → LowersOn old new owners parties mask after →
-    IsNextOwned owners parties after (Some found) → is_within found.0 mask ≡ true → LowersOn old new owners parties mask (Some found.0)
-within_more old new owners parties mask after found so_far next within = record {
-  owned = so_far.owned;
-  same = so_far.same;
-  within = λ scope n past kept.
-      let was = so_far.within scope n in
-      let none = next.2 scope n in
-      grind (arith, nat_tests, was, none, past, kept, within);
-}
+module _ (old new : List (ℕ × Shared)) (owners : List OwnerKey) (parties : ℕ × ℕ) (mask : ℕ) (after : Option ℕ) (found : ℕ) (so_far : LowersOn old new owners parties mask after) (next : IsNextOwned owners parties after (Some found)) where
+  -- none lies between
+  between : (n : ℕ) → is_past (Some found) n ≡ true → n ≢ found → is_coded (parties, n) (family_numbered new (turned n)) ≡ true → is_past after n ≡ true
+  between n past ne coded =
+      let none = next.2 n in
+      let was = so_far.owned (parties, n) in
+      grind (arith, nat_tests, none, was, past, ne, coded)
 
--- one whose code's scope lies within the mask, or that is in no index, is as it is to be
-settled : (o : Option Shared) (parties : ℕ × ℕ) (mask n : ℕ) → ((scope : ℕ) → is_coded (parties, (scope, n)) o ≡ true → is_within scope mask ≡ true) →
+  pub within_more : goes_beyond mask (family_numbered new (turned found)) ≡ false → LowersOn old new owners parties mask (Some found)
+  within_more low = record { owned = so_far.owned; same = so_far.same; within = λ n past coded. by n past coded (n == found) refl }
+    where
+      by : (n : ℕ) → is_past (Some found) n ≡ true → is_coded (parties, n) (family_numbered new (turned n)) ≡ true → (b : Bool) → (n == found) ≡ b → goes_beyond mask (family_numbered new (turned n)) ≡ false
+      by n past coded true is = let at : n ≡ found = grind (arith, nat_tests, is) in ap (λ k. goes_beyond mask (family_numbered new (turned k))) at ∙ low
+      by n past coded false other = let ne : n ≢ found = λ same. absurd (grind (arith, nat_tests, other, same)) in so_far.within n (between n past ne coded) coded
+
+  pub lowered_more : (new' : List (ℕ × Shared)) (owners' : List OwnerKey) → goes_beyond mask (family_numbered new (turned found)) ≡ true → IsOwned new' owners' → HasEnded new new' (turned found) →
+      LowersOn old new' owners' parties mask (Some found)
+  lowered_more new' owners' beyond owned ended = record {
+    owned = owned;
+    same = λ k.
+        let other = ended.others k in
+        let here = ended.here in
+        let was = so_far.same k in
+        let marked = marked_same (family_numbered new (turned found)) parties mask found (sym (so_far.owned (parties, found)) ∙ next.1) beyond in
+        grind (arith, nat_tests, other, here, was, marked);
+    within = λ n past coded. by n past coded (n == found) refl;
+  }
+    where
+      by : (n : ℕ) → is_past (Some found) n ≡ true → is_coded (parties, n) (family_numbered new' (turned n)) ≡ true → (b : Bool) → (n == found) ≡ b → goes_beyond mask (family_numbered new' (turned n)) ≡ false
+      by n past coded true is =
+          let at : n ≡ found = grind (arith, nat_tests, is) in
+          let gone : is_coded (parties, n) (family_numbered new' (turned n)) ≡ false =
+          ap (λ k. is_coded (parties, n) (family_numbered new' (turned k))) at ∙ ap (is_coded (parties, n)) ended.here ∙ unmarked (parties, n) (family_numbered new (turned found)) in
+          absurd (grind (arith, gone, coded))
+      by n past coded false other =
+          let ne : n ≢ found = λ same. absurd (grind (arith, nat_tests, other, same)) in
+          let apart : turned n ≢ turned found = λ same. ne (sym (turned_turned n) ∙ ap turned same ∙ turned_turned found) in
+          let same = ended.others (turned n) apart in
+          let coded' : is_coded (parties, n) (family_numbered new (turned n)) ≡ true = ap (is_coded (parties, n)) (sym same) ∙ coded in
+          ap (goes_beyond mask) same ∙ so_far.within n (between n past ne coded') coded'
+
+-- one that does not go beyond the mask, or that is in no index, is as it is to be
+settled : (o : Option Shared) (parties : ℕ × ℕ) (mask n : ℕ) → (is_coded (parties, n) o ≡ true → goes_beyond mask o ≡ false) →
     option_map (lowered_shared parties.0 parties.1 mask) o ≡ o
 settled None parties mask n within = refl
-settled (Some s) parties mask n within = by s.ended (code_scope s) refl refl
+settled (Some s) parties mask n within = by s.ended s.coded refl refl
   where
-    by : (e : Bool) (c : Option ℕ) → s.ended ≡ e → code_scope s ≡ c → option_map (lowered_shared parties.0 parties.1 mask) (Some s) ≡ Some s
+    by : (e c : Bool) → s.ended ≡ e → s.coded ≡ c → option_map (lowered_shared parties.0 parties.1 mask) (Some s) ≡ Some s
     by true c ended is = let same : record s { ended = true } ≡ s = (λ i. record s { ended = sym ended i }) in grind (arith, same)
-    by false None ended is = grind (arith, is)
-    by false (Some x) ended is = let low = within x in grind (arith, nat_tests, is, ended, low)
+    by false false ended is = grind (arith, is)
+    by false true ended is = grind (arith, nat_tests, is, ended, within)
 
 pub lowered_all : (old new : List (ℕ × Shared)) (owners : List OwnerKey) (parties : ℕ × ℕ) (mask : ℕ) (after : Option ℕ) → LowersOn old new owners parties mask after →
     IsNextOwned owners parties after None → HasLowered old new parties.0 parties.1 mask
 lowered_all old new owners parties mask after so_far all k =
-    sym (settled (family_numbered new k) parties mask k within) ∙ so_far.same k
+    sym (settled (family_numbered new k) parties mask (turned k) (subst (λ n. is_coded (parties, turned k) (family_numbered new n) ≡ true → goes_beyond mask (family_numbered new n) ≡ false) (turned_turned k) within))
+    ∙ so_far.same k
   where
-    within : (scope : ℕ) → is_coded (parties, (scope, k)) (family_numbered new k) ≡ true → is_within scope mask ≡ true
-    within scope coded =
-        let there = so_far.owned (parties, (scope, k)) ∙ coded in
-        let low = so_far.within scope k in
-        let none = all scope k in
-        grind (arith, there, low, none)
+    within : is_coded (parties, turned k) (family_numbered new (turned (turned k))) ≡ true → goes_beyond mask (family_numbered new (turned (turned k))) ≡ false
+    within coded =
+        let there = so_far.owned (parties, turned k) ∙ coded in
+        let low = so_far.within (turned k) in
+        let none = all (turned k) in
+        grind (arith, there, low, none, coded)
 
 -- a change on a family's state is seen on each of its records
 pub view_lowered : (old new : List (ℕ × Shared)) (es : List (List ℕ × Record)) (owner client mask : ℕ) → HasLowered old new owner client mask →
@@ -225,7 +210,7 @@ tied_bare old new n es owners owners' last swept bare empty fresh others owned t
   below = tied.below;
 }
   where
-    home : (d : List ℕ) (r : Record) → lookup (bytes_eq d) es ≡ Some r → (b : Bool) → (r.family == n) ≡ b → r.client ≡ (shared_at new r.family).client
+    home : (d : List ℕ) (r : Record) → lookup (bytes_eq d) es ≡ Some r → (b : Bool) → (r.family == n) ≡ b → client_of r ≡ (shared_at new r.family).client
     home d r at true same =
         let is : r.family ≡ n = grind (arith, nat_tests, same) in
         let some = member_counted d es r at in
@@ -247,15 +232,15 @@ tied_bare old new n es owners owners' last swept bare empty fresh others owned t
 -- the index is that of the families with one in the place of another that it tells the same of
 pub owned_shared : (old new : List (ℕ × Shared)) (n : ℕ) (s : Shared) (owners : List OwnerKey) → IsOwned old owners → family_numbered new n ≡ Some s → OthersStay old new n →
     ((key : OwnerKey) → is_coded key (family_numbered old n) ≡ is_coded key (Some s)) → IsOwned new owners
-owned_shared old new n s owners owned here others alike key = by (nat_eq key.1.1 n) refl
+owned_shared old new n s owners owned here others alike key = by (nat_eq (turned key.1) n) refl
   where
-    by : (b : Bool) → nat_eq key.1.1 n ≡ b → has_owner owners key ≡ is_coded key (family_numbered new key.1.1)
+    by : (b : Bool) → nat_eq (turned key.1) n ≡ b → has_owner owners key ≡ is_coded key (family_numbered new (turned key.1))
     by true is =
-        let same : key.1.1 ≡ n = grind (arith, nat_tests, is) in
+        let same : turned key.1 ≡ n = grind (arith, nat_tests, is) in
         owned key ∙ ap (λ k. is_coded key (family_numbered old k)) same ∙ alike key ∙ ap (is_coded key) (sym here) ∙ ap (λ k. is_coded key (family_numbered new k)) (sym same)
     by false is =
-        let ne : key.1.1 ≢ n = λ same. absurd (grind (arith, nat_tests, is, same)) in
-        owned key ∙ ap (is_coded key) (sym (others key.1.1 ne))
+        let ne : turned key.1 ≢ n = λ same. absurd (grind (arith, nat_tests, is, same)) in
+        owned key ∙ ap (is_coded key) (sym (others (turned key.1) ne))
 
 -- what is seen once a family without records is let go of
 pub tied_closed : (old new : List (ℕ × Shared)) (n : ℕ) (es : List (List ℕ × Record)) (owners owners' : List OwnerKey) (last swept : ℕ) → (shared_at old n).count ≡ 0 →
@@ -277,7 +262,7 @@ cleared t mid new owners n tied bare closed owned same =
     let moved : HasClosed t.families.entries new n = record { here = same n ∙ closed.here; others = λ k ne. same k ∙ closed.others k ne } in
     record {
       tied = tied_closed t.families.entries new n (stand_entries t.records) t.owners.keys owners t.last t.swept bare moved
-          (λ was key. owned was key ∙ ap (is_coded key) (sym (same key.1.1))) tied.ties;
+          (λ was key. owned was key ∙ ap (is_coded key) (sym (same (turned key.1)))) tied.ties;
       kept = unseen_empty t new n tied bare moved.others;
       closed = moved;
     }
@@ -287,7 +272,7 @@ owned_opened : (old new : List (ℕ × Shared)) (n : ℕ) (s : Shared) (owners o
 owned_opened old new n s owners owners' None none here others is indexed owned q =
     let quiet = keyless s n q is in
     let was = owned q in
-    let other = others q.1.1 in
+    let other = others (turned q.1) in
     grind (arith, nat_tests, quiet, was, other, here, none, indexed)
 owned_opened old new n s owners owners' (Some key) none here others is indexed owned q =
     let at = coded_at s n key q is in
@@ -295,8 +280,9 @@ owned_opened old new n s owners owners' (Some key) none here others is indexed o
     let number = key_number s n key is in
     let now = indexed q in
     let was = owned q in
-    let other = others q.1.1 in
-    grind (arith, nat_tests, at, far, number, now, was, other, here, none)
+    let other = others (turned q.1) in
+    let place = turned_turned n in
+    grind (arith, nat_tests, at, far, number, place, now, was, other, here, none)
 
 -- and once one without records is opened
 pub tied_opened : (old new : List (ℕ × Shared)) (n : ℕ) (s : Shared) (es : List (List ℕ × Record)) (owners owners' : List OwnerKey) (last swept : ℕ) → s.count ≡ 0 → s.until ≡ 0 →

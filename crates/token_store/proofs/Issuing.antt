@@ -75,9 +75,9 @@ shared_found kept history moment g s digest r fits found at =
     of_code code (Some scope) terms = (code_terms-kin history digest moment g (terms_by s.client s.owner scope) fits.is_history.kin at terms).1
 
     owner_cases : (given : Given) → kind_told (fact_in given) ≡ g.kind → owner_told s.owner (fact_in given) ≡ g.owner → (o : Option ℕ) → code_terms history g.family ≡ option_map (terms_by s.client s.owner) o → s.owner ≡ g.owner
-    owner_cases (Token token spent) kind owner o terms = owner
-    owner_cases (Code texts) kind owner o terms = of_code (ap is_code (sym kind)) o terms
-    owner_cases (UsedCode whose) kind owner o terms = of_code (ap is_code (sym kind)) o terms
+    owner_cases (Token client life spent token) kind owner o terms = owner
+    owner_cases (Code client texts) kind owner o terms = of_code (ap is_code (sym kind)) o terms
+    owner_cases (UsedCode client whose) kind owner o terms = of_code (ap is_code (sym kind)) o terms
 
 -- a host is named by its own digest
 pub host_named : (history : List Event) (moment family : ℕ) (parties : Parties) (kept : List Kept) → FitsHistory kept history moment → (host : Host history moment family parties) →

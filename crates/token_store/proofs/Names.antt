@@ -43,8 +43,8 @@ pub use Rattle.token_store.specs.FitsParts.{MakesChange}
 pub use Rattle.token_store.specs.Image.{as_kept, kept_record, kind_told, owner_told, terms_by}
 pub use Rattle.token_store.specs.Kept.{Kept, kept_at, kept_lives, kept_unexpired, Room, Held}
 pub use Rattle.token_store.specs.Records.{shared_at, all_kept, Ties, kept_of, IsTied, kept_in, kept_under, member_count, IsCounted, is_coded, IsOwned, home_shared, family_numbered, shared_seen}
-pub use Rattle.token_store.specs.Records.{code_scope, fact_in, expiry, used}
-pub use Rattle.token_store.specs.Records.{client_of, expiry_of, is_member_at, AllHomed, IsBelow, IsLasting, or_nothing, has_owner, OwnerKey, is_scope, owner_cmp, code_shared, texts_given}
+pub use Rattle.token_store.specs.Records.{code_scope, fact_in, expiry, turned, used}
+pub use Rattle.token_store.specs.Records.{client_of, expiry_of, is_member_at, AllHomed, IsBelow, IsLasting, or_nothing, has_owner, OwnerKey, owner_cmp, code_shared, texts_given}
 pub use Rattle.token_store.specs.RecordsParts.{code_kept, TellsSame, is_live_at, HasLeft, RecordChange, changed, HasEnded, HasLowered, HasIndexed, HasStruck, key_of, is_past, start_of, IsNextOwned, lowered_shared}
 pub use Rattle.token_store.specs.RecordsParts.{token_kept}
 pub use Rattle.token_store.specs.RecordsParts.{HasEntered, SharesSame, spent_in, shared_or, where_peopled, BecomesKnown, SeenSame, HasAltered, altered}

@@ -1,10 +1,13 @@
 -- The tables as a record that was about to come has come.
 use Rattle.std.proofs.Common.{◌≡◌, ◌<◌, ◌≤◌, ℕ, ◌+◌, List, [], ◌∷◌, ◌++◌, Option, Some, None, Bool, true, false, cond, length, refl, ap, ◌∙◌, sym, subst, arith}
-use Rattle.token_store.proofs.Names.{OwnerKey, ◌==◌, is_some, unwrap_or, family_numbered, count_by, list_any, IsPermutation, option_or, bytes_eq, lookup, remove_entry, sum_by-remove_entry}
+use Rattle.token_store.proofs.Names.{OwnerKey, turned, ◌==◌, is_some, unwrap_or, family_numbered, count_by, list_any, IsPermutation, option_or, bytes_eq, lookup, remove_entry, sum_by-remove_entry}
 use Rattle.token_store.proofs.Names.{values_of, find-append, count_by-le-length, length-map, bytes_eq-Decides, is_named, is_unexpired, Record}
 use Rattle.token_store.proofs.Names.{Shared, Kept, kept_at, shared_at, expiry, kept_under, all_kept, is_member_at, AllHomed, IsCounted, IsOwned, Puts}
 use Rattle.token_store.proofs.Names.{Ties, is_live_at, HasLeft, HasEntered, TellsSame, SharesSame, nat_tests}
-use Rattle.std.specs.Prelude.{max, nat_lt, option_map}
+use Rattle.token_store.specs.Records.{client_in, client_of, homed, homed_given}
+use Rattle.token_store.specs.declared.record.Given.{Given}
+use Rattle.token_store.specs.declared.record.Given.TheVariants.{Code, Token, UsedCode}
+use Rattle.std.specs.Prelude.{max, nat_lt, option_map, ◌&&◌}
 use Rattle.token_store.proofs.Lasting.{any_counted, dead_member, lasts_as}
 use Rattle.std.proofs.lemmas.List.Sorted.{IsPermutation-map, sum_by_pushed}
 use Rattle.token_store.proofs.Looking.{shown, found, count-push}
@@ -58,6 +61,32 @@ left_until : (o : Option Record) (old new : List (ℕ × Shared)) (k : ℕ) (s :
 left_until None old new k s left at = grind (arith, left, at)
 left_until (Some y) old new k s left at = let other = left.others k in let here = left.here in grind (arith, nat_tests, other, here, at)
 
+-- a record that is made one of the client's is that otherwise
+module _ (home : ℕ) (r : Record) where
+  pub homed_client : client_of (homed home r) ≡ home
+  homed_client = by r.given
+    where
+      by : (g : Given) → client_in (homed_given home g) ≡ home
+      by (Code client texts) = refl
+      by (UsedCode client owner) = refl
+      by (Token client life spent kind) = refl
+
+  pub homed_expiry : expiry (homed home r) ≡ expiry r
+  homed_expiry = by r.given
+    where
+      by : (g : Given) → expiry (record r { given = homed_given home g }) ≡ expiry (record r { given = g })
+      by (Code client texts) = refl
+      by (UsedCode client owner) = refl
+      by (Token client life spent kind) = refl
+
+  pub homed_kept : (s : Shared) (digest : List ℕ) → kept_under s digest (homed home r) ≡ kept_under s digest r
+  homed_kept s digest = by r.given
+    where
+      by : (g : Given) → kept_under s digest (record r { given = homed_given home g }) ≡ kept_under s digest (record r { given = g })
+      by (Code client texts) = refl
+      by (UsedCode client owner) = refl
+      by (Token client life spent kind) = refl
+
 -- A record has come into its family, in the place of what was under its digest.
 pub record Settled (families families' : List (ℕ × Shared)) (es es' : List (List ℕ × Record)) (owners' : List OwnerKey) (last swept' : ℕ) (digest : List ℕ) (r : Record) : Type 0 where
   pub tied : Ties families' es' owners' last swept'
@@ -67,8 +96,21 @@ pub record Settled (families families' : List (ℕ × Shared)) (es es' : List (L
 abbrev pub IsOver : Option Record → ℕ → Type 0
 IsOver o swept = (x : Record) → o ≡ Some x → expiry x ≤ swept
 
+-- what is not live is not shown
+unshown : (families : List (ℕ × Shared)) (digest : List ℕ) (t : ℕ) (o : Option Record) → count_in (is_live_at t) o ≡ 0 → shown families digest t o ≡ None
+unshown families digest t None none = refl
+unshown families digest t (Some r) none = by (is_live_at t r) none
+  where
+    by : (b : Bool) → cond {A = ℕ} b 1 0 ≡ 0 → cond {A = Option Kept} b (Some (kept_under (shared_at families r.family) digest r)) None ≡ None
+    by true none = absurd (omega (arith, none))
+    by false none = refl
+
+or_none : (o : Option Kept) → o ≡ option_or o None
+or_none None = refl
+or_none (Some k) = refl
+
 pub settled : (families f f' : List (ℕ × Shared)) (es es' : List (List ℕ × Record)) (owners owners' : List OwnerKey) (last swept swept' : ℕ) (digest : List ℕ) (o : Option Record) (r : Record) →
-    Ties families es owners last swept → r.family ≤ last → is_some (family_numbered families r.family) ≡ true → r.client ≡ (shared_at families r.family).client → HasEntered families f r.family (expiry r) → HasLeftOf o f f' →
+    Ties families es owners last swept → r.family ≤ last → is_some (family_numbered families r.family) ≡ true → client_of r ≡ (shared_at families r.family).client → HasEntered families f r.family (expiry r) → HasLeftOf o f f' →
     (IsOwned f owners → IsOwned f' owners') → Puts es es' digest r o → ((d : List ℕ) → lookup (bytes_eq d) es' ≡ cond (bytes_eq digest d) (Some r) (lookup (bytes_eq d) es)) → swept ≤ swept' → IsOver o swept' →
     Settled families f' es es' owners' last swept' digest r
 settled families f f' es es' owners owners' last swept swept' digest o r tied low there home entered left owned puts finds later over = record {
@@ -77,7 +119,7 @@ settled families f f' es es' owners owners' last swept swept' digest o r tied lo
     homed = λ d x at. homed d x at;
     lasting = λ n t le. lasts_as f' es' n t (shared_at f n).until counted' (lasting n t le) (λ s at. left_until o f f' n s left at);
     counted = counted';
-    owned = owned (λ q. (let other = entered.others q.1.1 in let was = tied.owned q in grind (arith, other, was)));
+    owned = owned (λ q. (let other = entered.others (turned q.1) in let was = tied.owned q in grind (arith, other, was)));
     below = λ n lt. (let moved = count_put (λ x. x.family == n) digest o r es es' puts.found puts.moved in
         let before = tied.below n lt in
         let other : cond {A = ℕ} (r.family == n) 1 0 ≡ 0 = grind (arith, nat_tests, low, lt) in
@@ -124,8 +166,8 @@ settled families f f' es es' owners owners' last swept swept' digest o r tied lo
     homed : AllHomed f' es'
     homed d x at = by (bytes_eq digest d) refl ∙ ap (λ (y : Kept). y.grant.client) (sym (shows d x at))
       where
-        by : (b : Bool) → bytes_eq digest d ≡ b → x.client ≡ (shared_at families x.family).client
-        by true same = let own : x ≡ r = (let is = finds d in grind (arith, is, at, same)) in subst (λ (y : Record). y.client ≡ (shared_at families y.family).client) (sym own) home
+        by : (b : Bool) → bytes_eq digest d ≡ b → client_of x ≡ (shared_at families x.family).client
+        by true same = let own : x ≡ r = (let is = finds d in grind (arith, is, at, same)) in subst (λ (y : Record). client_of y ≡ (shared_at families y.family).client) (sym own) home
         by false other = tied.homed d x (let is = finds d in grind (arith, is, at, other))
 
     over_member : (n t : ℕ) → swept' ≤ t → (o' : Option Record) → o ≡ o' → count_in (is_member_at n t) o' ≡ 0
@@ -153,15 +195,24 @@ settled families f f' es es' owners owners' last swept swept' digest o r tied lo
 
     one_more : (m : ℕ) → kept_at (all_kept families es) digest m ≡ None → (d : List ℕ) (t : ℕ) → m ≤ t →
         shown f' d t (lookup (bytes_eq d) es') ≡ option_or (shown families d t (lookup (bytes_eq d) es)) (cond (is_named d t k.grant) (Some k) None)
-    one_more m none d t le =
-        let is = (bytes_eq-Decides digest d).0 in
-        let back = (bytes_eq-Decides d digest).0 in
-        let named = (bytes_eq-Decides d digest).1 in
-        let turned = (bytes_eq-Decides digest d).1 in
-        let here = finds d in
-        let same = shown_same d t (lookup (bytes_eq d) es') refl in
-        let gone = dead m none t le in
-        grind (arith, is, back, named, turned, here, same, gone)
+    one_more m none d t le = shown_same d t (lookup (bytes_eq d) es') refl ∙ by (bytes_eq digest d) refl
+      where
+        by : (b : Bool) → bytes_eq digest d ≡ b →
+            shown families d t (lookup (bytes_eq d) es') ≡ option_or (shown families d t (lookup (bytes_eq d) es)) (cond (is_named d t k.grant) (Some k) None)
+        by true is =
+            let same : digest ≡ d = (bytes_eq-Decides digest d).0 is in
+            let own : bytes_eq digest digest ≡ true = (bytes_eq-Decides digest digest).1 refl in
+            let here : lookup (bytes_eq d) es' ≡ Some r = finds d ∙ ap (λ b. cond b (Some r) (lookup (bytes_eq d) es)) is in
+            let gone : shown families d t (lookup (bytes_eq d) es) ≡ None =
+            subst (λ x. shown families x t (lookup (bytes_eq x) es) ≡ None) same (unshown families digest t (lookup (bytes_eq digest) es) (dead m none t le)) in
+            let shows_it : shown families d t (Some r) ≡ cond (is_named d t k.grant) (Some k) None =
+            subst (λ x. shown families x t (Some r) ≡ cond (is_named x t k.grant) (Some k) None) same (ap (λ b. cond (b && is_live_at t r) (Some k) None) (sym own)) in
+            ap (shown families d t) here ∙ shows_it ∙ ap (λ o'. option_or o' (cond (is_named d t k.grant) (Some k) None)) (sym gone)
+        by false is =
+            let here : lookup (bytes_eq d) es' ≡ lookup (bytes_eq d) es = finds d ∙ ap (λ b. cond b (Some r) (lookup (bytes_eq d) es)) is in
+            let apart : bytes_eq d digest ≡ false = (let from = (bytes_eq-Decides d digest).0 in let to = (bytes_eq-Decides digest d).1 in grind (arith, from, to, is)) in
+            ap (shown families d t) here ∙ or_none (shown families d t (lookup (bytes_eq d) es))
+            ∙ ap (λ b. option_or (shown families d t (lookup (bytes_eq d) es)) (cond (b && is_live_at t r) (Some k) None)) (sym apart)
 
 -- no family has more records than there are
 pub count_few : (families : List (ℕ × Shared)) (es : List (List ℕ × Record)) (n : ℕ) → IsCounted families es → (shared_at families n).count ≤ length es

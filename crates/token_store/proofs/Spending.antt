@@ -2,7 +2,7 @@
 use Rattle.std.proofs.Common.{◌≡◌, ℕ, List, [], ◌∷◌, Option, Some, None, Bool, true, false, cond, refl, ap, ◌∙◌, sym, subst, arith}
 use Rattle.token_store.proofs.Names.{OwnerKey, ◌==◌, is_some, IsDistinct, bytes_eq, lookup, set_value, keys_of, nat_list_eq_equiv, lookup-none, keys-set_value, none_past_head, sum_by-set_value}
 use Rattle.token_store.proofs.Names.{IsDistinct-tail, Record, Shared, Kept, kept_at, all_kept, count_by, is_member_at, member_count, shared_at, values_of, Ties, RecordChange, changed, is_live_at, spent_in, used}
-use Rattle.token_store.specs.Records.{kept_under, used_given}
+use Rattle.token_store.specs.Records.{client_in, client_of, kept_under, used_given}
 use Rattle.token_store.specs.RecordsParts.{spent_kept}
 use Rattle.token_store.specs.declared.record.Given.{Given}
 use Rattle.token_store.specs.declared.record.Given.TheVariants.{Code, Token, UsedCode}
@@ -28,6 +28,23 @@ spent_each P (e ∷ es) digest d r x at kept all is = by (bytes_eq digest e.0) r
     by false apart true there more = all x (grind (arith, is, apart, there))
     by false apart false other more = more (grind (arith, at, apart)) (λ y its. all y (grind (arith, its, other))) (grind (arith, is, apart, other))
 
+-- whose it is, and until when, stays
+used_client : (r : Record) → client_of (used r) ≡ client_of r
+used_client r = by r.given
+  where
+    by : (g : Given) → client_in (used_given g) ≡ client_in g
+    by (Code client texts) = refl
+    by (UsedCode client owner) = refl
+    by (Token client life spent kind) = refl
+
+used_member : (n t : ℕ) (r : Record) → is_member_at n t (used r) ≡ is_member_at n t r
+used_member n t r = by r.given
+  where
+    by : (g : Given) → is_member_at n t (record r { given = used_given g }) ≡ is_member_at n t (record r { given = g })
+    by (Code client texts) = refl
+    by (UsedCode client owner) = refl
+    by (Token client life spent kind) = refl
+
 -- ties
 pub tied_spent : (families : List (ℕ × Shared)) (es : List (List ℕ × Record)) (owners : List OwnerKey) (last swept : ℕ) (digest : List ℕ) →
     Ties families es owners last swept → Ties families (spent_in digest es (lookup (bytes_eq digest) es)) owners last swept
@@ -42,8 +59,8 @@ tied_spent families es owners last swept digest tied = tied_cases (lookup (bytes
         let members : (n : ℕ) → member_count (set_value (bytes_eq digest) es r') n ≡ member_count es n = λ n. sums (λ x. x.family == n) refl in
         record {
           once = rw (keys-set_value (bytes_eq digest) es r') tied.once;
-          homed = λ d x at. spent_each (λ y. y.client ≡ (shared_at families y.family).client) es digest d r x is (λ home. home) (λ y there. tied.homed d y there) at;
-          lasting = λ n t le. any_counted (is_member_at n t) (values_of (set_value (bytes_eq digest) es r')) ∙ ap (nat_lt 0) (sums (is_member_at n t) refl) ∙ sym (any_counted (is_member_at n t) (values_of es)) ∙ tied.lasting n t le;
+          homed = λ d x at. spent_each (λ y. client_of y ≡ (shared_at families y.family).client) es digest d r x is (λ home. used_client r ∙ home) (λ y there. tied.homed d y there) at;
+          lasting = λ n t le. any_counted (is_member_at n t) (values_of (set_value (bytes_eq digest) es r')) ∙ ap (nat_lt 0) (sums (is_member_at n t) (used_member n t r)) ∙ sym (any_counted (is_member_at n t) (values_of es)) ∙ tied.lasting n t le;
           counted = λ n. (let was = tied.counted n in let same = members n in omega (arith, was, same));
           owned = tied.owned;
           below = λ n lt. (let was = tied.below n lt in let same = members n in omega (arith, was, same));
@@ -61,9 +78,9 @@ used_kept : (s : Shared) (digest : List ℕ) (r : Record) → kept_under s diges
 used_kept s digest r = by r.given
   where
     by : (g : Given) → kept_under s digest (record r { given = used_given g }) ≡ spent_kept (kept_under s digest (record r { given = g }))
-    by (Code texts) = refl
-    by (UsedCode owner) = refl
-    by (Token kind spent) = refl
+    by (Code client texts) = refl
+    by (UsedCode client owner) = refl
+    by (Token client life spent kind) = refl
 
 changed_one : (families : List (ℕ × Shared)) (es : List (List ℕ × Record)) (digest : List ℕ) (m : ℕ) (r : Record) → IsDistinct bytes_eq (keys_of es) → lookup (bytes_eq digest) es ≡ Some r → is_live_at m r ≡ true →
     all_kept families (set_value (bytes_eq digest) es (used r)) ≡ map (changed (RecordChange.Spent digest m)) (all_kept families es)

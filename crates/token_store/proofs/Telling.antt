@@ -46,7 +46,7 @@ live_all [] moment once all = refl
 live_all (e ∷ es) moment once all =
     let sums = count_by-cons (is_live_at moment) e.1 (values_of es) in
     let here = (bytes_eq-Decides e.0 e.0).1 refl in
-    let first = all e.0 (e.1.moment + e.1.life) in
+    let first = all e.0 (expiry e.1) in
     let more = live_all es moment (IsDistinct-tail bytes_eq e.0 (keys_of es) once) (rest_live e es moment once all) in
     grind (arith, nat_tests, sums, here, first, more)
 
@@ -61,7 +61,7 @@ lives_peopled [] moment n once all = refl
 lives_peopled (e ∷ es) moment n once all =
     let sums = count_by-cons (λ x. eqb x.family n) e.1 (values_of es) in
     let here = (bytes_eq-Decides e.0 e.0).1 refl in
-    let first = all e.0 (e.1.moment + e.1.life) in
+    let first = all e.0 (expiry e.1) in
     let more = lives_peopled es moment n (IsDistinct-tail bytes_eq e.0 (keys_of es) once) (rest_live e es moment once all) in
     grind (arith, nat_tests, sums, here, first, more)
 

@@ -1,5 +1,5 @@
 -- The store's tables, and what is seen of them.
-use Rattle.std.specs.Prelude.{◌≡◌, ◌+◌, ℕ, List, [], Bool, true, false, ◌==◌, ◌&&◌, if◌then◌else◌, Option, Some, None, is_some, nat_lt, not, unwrap_or, option_map, map, count_by, string_bytes, nat_eq, ◌<◌, ◌≤◌}
+use Rattle.std.specs.Prelude.{◌≡◌, ◌+◌, ◌-◌, ◌%◌, ℕ, List, [], Bool, true, false, ◌==◌, ◌&&◌, if◌then◌else◌, Option, Some, None, is_some, nat_lt, not, unwrap_or, option_map, map, count_by, string_bytes, nat_eq, ◌<◌, ◌≤◌}
 use Rattle.std.specs.List.{list_any, IsDistinct}
 use Rattle.std.specs.declared.boxed.Box.{Box}
 use Rattle.std.specs.declared.alloc.Global.{Global}
@@ -11,6 +11,7 @@ use Rattle.std.specs.Map.{lookup, keys_of, values_of}
 use Rattle.consent.specs.RecordFacts as fact
 use Rattle.consent.specs.RecordFacts.{KindFact}
 use Rattle.consent.specs.Owners.{owner_number}
+use Rattle.consent.specs.Limits.{code_life}
 use Rattle.consent.specs.declared.change.Home.{Home}
 use Rattle.shelf.specs.Standing.{stand_entries, IsStanding}
 use Rattle.token_store.specs.declared.record.CodeTexts.{CodeTexts}
@@ -32,24 +33,51 @@ texts_seen texts = fact.Code texts.value.owner (string_bytes texts.value.redirec
 
 -- what was given, without where its texts lie in memory
 abbrev pub fact_in : Given → KindFact
-fact_in (Code texts) = texts_seen texts
-fact_in (UsedCode owner) = fact.Code owner [] []
-fact_in (Token kind spent) = fact.Token kind
+fact_in (Code client texts) = texts_seen texts
+fact_in (UsedCode client owner) = fact.Code owner [] []
+fact_in (Token client life spent kind) = fact.Token kind
 
 -- it was used
 abbrev pub is_used : Given → Bool
-is_used (Code texts) = false
-is_used (UsedCode owner) = true
-is_used (Token kind spent) = spent
+is_used (Code client texts) = false
+is_used (UsedCode client owner) = true
+is_used (Token client life spent kind) = spent
 
 -- as it is once it was used: a code's texts are gone
 abbrev pub used_given : Given → Given
-used_given (Code texts) = UsedCode texts.value.owner
-used_given (UsedCode owner) = UsedCode owner
-used_given (Token kind spent) = Token kind true
+used_given (Code client texts) = UsedCode client texts.value.owner
+used_given (UsedCode client owner) = UsedCode client owner
+used_given (Token client life spent kind) = Token client life true kind
 
 abbrev pub used : Record → Record
 used r = record r { given = used_given r.given }
+
+-- whose it is
+abbrev pub client_in : Given → ℕ
+client_in (Code client texts) = client
+client_in (UsedCode client owner) = client
+client_in (Token client life spent kind) = client
+
+abbrev pub client_of : Record → ℕ
+client_of r = client_in r.given
+
+-- how many seconds it is good for: a code's are always as many
+abbrev pub life_in : Given → ℕ
+life_in (Code client texts) = code_life
+life_in (UsedCode client owner) = code_life
+life_in (Token client life spent kind) = life
+
+abbrev pub life_of : Record → ℕ
+life_of r = life_in r.given
+
+-- as it is where it is of the client
+abbrev pub homed_given : ℕ → Given → Given
+homed_given home (Code client texts) = Code home texts
+homed_given home (UsedCode client owner) = UsedCode home owner
+homed_given home (Token client life spent kind) = Token home life spent kind
+
+abbrev pub homed : ℕ → Record → Record
+homed home r = record r { given = homed_given home r.given }
 
 -- FAMILIES
 
@@ -69,7 +97,7 @@ kept_under s digest r = kept_told (record {
   owner = s.owner;
   scope = r.scope;
   moment = r.moment;
-  life = r.life;
+  life = life_of r;
   code_scope = code_scope s;
   spent = is_used r.given;
   ended = s.ended;
@@ -112,36 +140,32 @@ kept_of t = all_kept t.families.entries (stand_entries t.records)
 
 -- the first moment at which a record is expired
 abbrev pub expiry : Record → ℕ
-expiry r = r.moment + r.life
+expiry r = r.moment + life_of r
 
 abbrev pub expiry_of : Option Record → Option ℕ
 expiry_of o = option_map expiry o
-
--- whose it is
-abbrev pub client_of : Record → ℕ
-client_of r = r.client
 
 -- how many records are of the family
 abbrev pub member_count : List (List ℕ × Record) → ℕ → ℕ
 member_count records n = count_by (λ r. r.family == n) (values_of records)
 
--- what the index tells of a family: its owner and client, the scope of its code, and its number
+-- the number's place in the index: each sixteen from its last to its first, which fills the nodes of numbers that are given in their order
+unfoldable pub turned : ℕ → ℕ
+turned n = n - n % 16 + (15 - n % 16)
+
+-- what the index tells of a family: its owner and client, and the place of its number
 abbrev pub OwnerKey : Type 0
-OwnerKey = (ℕ × ℕ) × (ℕ × ℕ)
+OwnerKey = (ℕ × ℕ) × ℕ
 
-abbrev pub is_scope : ℕ → Option ℕ → Bool
-is_scope scope None = false
-is_scope scope (Some s) = s == scope
-
--- the family has not ended, and its code is of this owner, this client and this scope
+-- the family has not ended, and its code is of this owner and this client
 abbrev pub is_coded : OwnerKey → Option Shared → Bool
 is_coded key None = false
-is_coded key (Some s) = not s.ended && is_scope key.1.0 (code_scope s) && (s.owner == key.0.0) && (s.client == key.0.1)
+is_coded key (Some s) = not s.ended && s.coded && (s.owner == key.0.0) && (s.client == key.0.1)
 
 -- the order of the index
 abbrev pub owner_cmp : OwnerKey → OwnerKey → Ordering
 owner_cmp x y =
-    ordering_then (ordering_then (nat_cmp x.0.0 y.0.0) (nat_cmp x.0.1 y.0.1)) (ordering_then (nat_cmp x.1.0 y.1.0) (nat_cmp x.1.1 y.1.1))
+    ordering_then (ordering_then (nat_cmp x.0.0 y.0.0) (nat_cmp x.0.1 y.0.1)) (nat_cmp x.1 y.1)
 
 -- the family is in the index
 abbrev pub has_owner : List OwnerKey → OwnerKey → Bool
@@ -149,7 +173,7 @@ has_owner owners key = list_any (is_at (owner_cmp key)) owners
 
 -- the index has those that have not ended and whose code is known
 abbrev pub IsOwned : List (ℕ × Shared) → List OwnerKey → Type 0
-IsOwned families owners = (key : OwnerKey) → has_owner owners key ≡ is_coded key (family_numbered families key.1.1)
+IsOwned families owners = (key : OwnerKey) → has_owner owners key ≡ is_coded key (family_numbered families (turned key.1))
 
 -- each family's count is that of its records
 abbrev pub IsCounted : List (ℕ × Shared) → List (List ℕ × Record) → Type 0
@@ -166,7 +190,7 @@ IsBelow records last = (n : ℕ) → last < n → member_count records n ≡ 0
 -- each record is of the client of its family
 abbrev pub AllHomed : List (ℕ × Shared) → List (List ℕ × Record) → Type 0
 AllHomed families records =
-    (digest : List ℕ) (r : Record) → lookup (bytes_eq digest) records ≡ Some r → r.client ≡ (shared_at families r.family).client
+    (digest : List ℕ) (r : Record) → lookup (bytes_eq digest) records ≡ Some r → client_of r ≡ (shared_at families r.family).client
 
 -- the record is of the family, and unexpired
 abbrev pub is_member_at : ℕ → ℕ → Record → Bool

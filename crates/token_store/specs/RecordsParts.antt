@@ -7,7 +7,7 @@ use Rattle.std.specs.BTreeMap.{is_at}
 use Rattle.std.specs.Map.{lookup}
 use Rattle.consent.specs.RecordFacts as fact
 use Rattle.consent.specs.Limits.{code_life}
-use Rattle.consent.specs.History.{is_named, is_beyond, ends}
+use Rattle.consent.specs.History.{is_named, is_beyond, is_within, ends}
 use Rattle.consent.specs.History as told
 use Rattle.consent.specs.History.Change.{Consented}
 use Rattle.consent.specs.Seen.{told_as}
@@ -22,7 +22,7 @@ use Rattle.consent.specs.declared.change.CodeFacts.{CodeFacts}
 use Rattle.consent.specs.declared.change.NewToken.{NewToken}
 use Rattle.token_store.specs.Kept.{Kept, kept_at, kept_unexpired}
 use Rattle.token_store.specs.Image.{kept_record, terms_by, kept_told}
-use Rattle.token_store.specs.Records.{kept_under, kept_in, family_numbered, shared_at, kept_of, shared_seen, expiry_of, OwnerKey, owner_cmp, has_owner, code_scope, code_shared, texts_given, used}
+use Rattle.token_store.specs.Records.{kept_under, kept_in, family_numbered, shared_at, kept_of, shared_seen, expiry_of, OwnerKey, owner_cmp, has_owner, code_scope, code_shared, expiry, texts_given, turned, used}
 use Rattle.std.specs.Option.{option_and_then}
 
 -- what a family without records shares
@@ -31,7 +31,7 @@ bare_shared client owner scope coded =
     record { client = client; owner = owner; scope = scope; until = 0; count = 0; coded = coded; ended = false }
 
 abbrev pub is_live_at : ℕ → Record → Bool
-is_live_at moment r = nat_lt moment (r.moment + r.life)
+is_live_at moment r = nat_lt moment (expiry r)
 
 -- and of a family of the client's
 abbrev pub is_live_of : List (ℕ × Shared) → ℕ → ℕ → Record → Bool
@@ -182,17 +182,9 @@ abbrev pub HasLowered : List (ℕ × Shared) → List (ℕ × Shared) → ℕ �
 HasLowered old new owner client mask =
     (k : ℕ) → family_numbered new k ≡ option_map (lowered_shared owner client mask) (family_numbered old k)
 
--- the scope of the code of a family that has not ended
-abbrev pub open_scope : Bool → Option ℕ → Option ℕ
-open_scope ended code_scope = if ended then None else code_scope
-
--- the index's key of a family of the two, if it stands there under a scope
-abbrev pub key_under : Option ℕ → ℕ × ℕ → ℕ → Option OwnerKey
-key_under scope parties n = option_map (λ scope. (parties, (scope, n))) scope
-
 -- the index's key of the family, unless it has ended or no code is known
 abbrev pub key_of : Shared → ℕ → Option OwnerKey
-key_of s n = key_under (open_scope s.ended (code_scope s)) (s.owner, s.client) n
+key_of s n = if s.ended || not s.coded then None else Some ((s.owner, s.client), turned n)
 
 -- the index has the key too, if there is one
 abbrev pub HasIndexed : (old new : List OwnerKey) → Option OwnerKey → Type 0
@@ -204,22 +196,27 @@ abbrev pub HasStruck : (old new : List OwnerKey) → Option OwnerKey → Type 0
 HasStruck old new None = new ≡ old
 HasStruck old new (Some key) = (q : OwnerKey) → has_owner new q ≡ (if is_at (owner_cmp key) q then false else has_owner old q)
 
--- the scope does not come after this one, if there is this one
+-- the place does not come after this one, if there is this one
 abbrev pub is_past : Option ℕ → ℕ → Bool
-is_past None scope = false
-is_past (Some last) scope = nat_le scope last
+is_past None n = false
+is_past (Some last) n = nat_le n last
 
--- where those begin whose scope comes after
+-- where those begin whose place comes after
 abbrev pub start_of : ℕ × ℕ → Option ℕ → Bound OwnerKey
-start_of parties None = Included (parties, (0, 0))
-start_of parties (Some scope) = Excluded (parties, (scope, 18446744073709551615))
+start_of parties None = Included (parties, 0)
+start_of parties (Some n) = Excluded (parties, n)
 
--- the first family of the two in the index whose code's scope comes after; or there is none
-abbrev pub IsNextOwned : List OwnerKey → ℕ × ℕ → Option ℕ → Option (ℕ × ℕ) → Type 0
-IsNextOwned owners parties after None = (scope n : ℕ) → is_past after scope ≡ false → has_owner owners (parties, (scope, n)) ≡ false
+-- the place of the first of the two's families in the index that comes after; or there is none
+abbrev pub IsNextOwned : List OwnerKey → ℕ × ℕ → Option ℕ → Option ℕ → Type 0
+IsNextOwned owners parties after None = (n : ℕ) → is_past after n ≡ false → has_owner owners (parties, n) ≡ false
 IsNextOwned owners parties after (Some found) =
-    (is_past after found.0 ≡ false) × (has_owner owners (parties, found) ≡ true)
-    × ((scope n : ℕ) → is_past after scope ≡ false → scope < found.0 → has_owner owners (parties, (scope, n)) ≡ false)
+    (is_past after found ≡ false) × (has_owner owners (parties, found) ≡ true)
+    × ((n : ℕ) → is_past after n ≡ false → n < found → has_owner owners (parties, n) ≡ false)
+
+-- a code opened the family, whose scope is not within the mask
+abbrev pub goes_beyond : ℕ → Option Shared → Bool
+goes_beyond mask None = false
+goes_beyond mask (Some s) = s.coded && not (is_within s.scope mask)
 
 -- what is kept of a new code, in the family with the number
 abbrev pub code_kept : ℕ → List ℕ → CodeFacts → ℕ → Kept

@@ -53,22 +53,14 @@ impl Families {
         rack.get(number)
     }
 
-    // The rack, for which memory is taken where there is none.
-    fn make(&mut self) -> Result<(), AllocError>
-        ensures { self.new.entries ≡ self.old.entries }
-    {
-        if self.rack.is_none() {
-            self.rack = Some(Rack::sized(self.alloc, self.size)?);
-        }
-        Ok(())
-    }
-
     /// Takes the memory for so many more.
     pub(crate) fn reserve(&mut self, more: usize) -> Result<(), AllocError>
         ensures same { self.new.entries ≡ self.old.entries }
         ensures room { OnOk result (more ≤ self.new.room) }
     {
-        self.make()?;
+        if self.rack.is_none() {
+            self.rack = Some(Rack::sized(self.alloc, self.size)?);
+        }
         let Some(rack) = &mut self.rack else {
             return Err(AllocError);
         };

@@ -18,17 +18,17 @@ impl Record {
         ensures { kept_record result ≡ kept_under shared.now digest.now self.now }
     {
         let kind = match &self.given {
-            Given::Code(texts) => KeptKind::Code {
+            Given::Code(_, texts) => KeptKind::Code {
                 owner: texts.owner,
                 redirect: texts.redirect.as_str(),
                 challenge: texts.challenge.as_str(),
             },
-            Given::UsedCode(owner) => KeptKind::Code {
+            Given::UsedCode(_, owner) => KeptKind::Code {
                 owner: *owner,
                 redirect: "",
                 challenge: "",
             },
-            Given::Token(kind, _) => KeptKind::Token(*kind),
+            Given::Token(.., kind) => KeptKind::Token(*kind),
         };
         KeptRecord {
             digest: *digest,
@@ -38,7 +38,7 @@ impl Record {
             owner: shared.owner,
             scope: self.scope,
             moment: self.moment,
-            life: self.life,
+            life: self.life(),
             code_scope: shared.code_scope(),
             spent: self.is_spent(),
             ended: shared.ended,

@@ -1,7 +1,7 @@
 //! A code or token as the store keeps it, and what those of a family share.
 ghost use Rattle.std.specs.Prelude.{◌≡◌, ◌+◌, ℕ, List, IfOk};
 ghost use Rattle.token_store.specs.Found.{family_seen, found_seen, kept_seen};
-ghost use Rattle.token_store.specs.Records.{client_of, code_scope, expiry, is_used, kept_under, shared_seen, code_shared, home_shared, texts_seen, texts_given, used};
+ghost use Rattle.token_store.specs.Records.{client_of, code_scope, expiry, homed, is_used, kept_under, life_of, shared_seen, code_shared, home_shared, texts_seen, texts_given, used};
 ghost use Rattle.token_store.specs.RecordsParts.{bare_shared, is_live_at, is_open_for, is_peopled, IsCodeRecord, token_kept};
 
 use crate::found::{Family, Found};
@@ -19,13 +19,15 @@ pub(crate) struct CodeTexts {
     pub(crate) challenge: String,
 }
 
-/// What was given, and whether it was used.
+/// What was given to which client, and whether it was used: beside these lies what is narrow, so that
+/// a record has 40 bytes.
 #[derive(Drop)]
 pub(crate) enum Given {
-    Code(Box<CodeTexts>),
+    Code(ClientNo, Box<CodeTexts>),
     /// A code that was used: its owner alone.
-    UsedCode(OwnerNo),
-    Token(TokenKind, bool),
+    UsedCode(ClientNo, OwnerNo),
+    /// A token: its life, whether it was used, and which.
+    Token(ClientNo, u32, bool, TokenKind),
 }
 
 /// What is kept under a digest.
@@ -35,9 +37,6 @@ pub(crate) struct Record {
     pub(crate) family: u64,
     pub(crate) scope: ScopeSet,
     pub(crate) moment: Moment,
-    pub(crate) life: u32,
-    /// That of its family.
-    pub(crate) client: ClientNo,
 }
 
 /// What the codes and tokens of a family share.
@@ -130,11 +129,32 @@ impl Shared {
 }
 
 impl Record {
+    /// How many seconds it is good for.
+    pub(crate) fn life(&self) -> u32
+        ensures { result ≡ life_of self.now }
+    {
+        if let Given::Token(_, life, ..) = &self.given {
+            return *life;
+        }
+        CODE_LIFE
+    }
+
+    /// It is of the client.
+    pub(crate) fn home(&mut self, client: ClientNo)
+        ensures { self.new ≡ homed client self.old }
+    {
+        match &mut self.given {
+            Given::Code(its, _) => *its = client,
+            Given::UsedCode(its, _) => *its = client,
+            Given::Token(its, ..) => *its = client,
+        }
+    }
+
     /// The first moment at which it is expired.
     pub(crate) fn expiry(&self) -> u64
-        ensures { result ≡ self.now.moment + self.now.life }
+        ensures { result ≡ expiry self.now }
     {
-        self.moment.get() + u64::from(self.life)
+        self.moment.get() + u64::from(self.life())
     }
 
     pub(crate) fn is_unexpired(&self, moment: Moment) -> bool
@@ -148,9 +168,9 @@ impl Record {
         ensures { result ≡ is_used self.now.given }
     {
         match &self.given {
-            Given::Code(_) => false,
-            Given::UsedCode(_) => true,
-            Given::Token(_, spent) => *spent,
+            Given::Code(..) => false,
+            Given::UsedCode(..) => true,
+            Given::Token(_, _, spent, _) => *spent,
         }
     }
 
@@ -159,14 +179,14 @@ impl Record {
         ensures { (digest : List ℕ) → found_seen result ≡ kept_seen (kept_under shared.now digest self.now) }
     {
         let (kind, owner, redirect, challenge) = match &self.given {
-            Given::Code(texts) => (
+            Given::Code(_, texts) => (
                 Kind::Code,
                 Some(texts.owner),
                 texts.redirect.as_str(),
                 texts.challenge.as_str(),
             ),
-            Given::UsedCode(owner) => (Kind::Code, Some(*owner), "", ""),
-            Given::Token(kind, _) => (Kind::Token(*kind), OwnerNo::numbered(shared.owner), "", ""),
+            Given::UsedCode(_, owner) => (Kind::Code, Some(*owner), "", ""),
+            Given::Token(.., kind) => (Kind::Token(*kind), OwnerNo::numbered(shared.owner), "", ""),
         };
         Found {
             kind,
@@ -175,7 +195,7 @@ impl Record {
             owner,
             scope: self.scope,
             moment: self.moment,
-            life: self.life,
+            life: self.life(),
             redirect,
             challenge,
             spent: self.is_spent(),
@@ -195,12 +215,10 @@ impl Record {
         ensures family { result.family ≡ number }
     {
         Record {
-            given: Given::Code(texts),
+            given: Given::Code(facts.client, texts),
             family: number,
             scope: facts.scope,
             moment,
-            life: CODE_LIFE,
-            client: facts.client,
         }
     }
 
@@ -210,12 +228,10 @@ impl Record {
         ensures family { result.family ≡ home.now.family }
     {
         Record {
-            given: Given::Token(token.kind, false),
+            given: Given::Token(home.client, token.life, false, token.kind),
             family: home.family,
             scope: token.scope,
             moment,
-            life: token.life,
-            client: home.client,
         }
     }
 }
@@ -240,14 +256,16 @@ impl Lasts for Record {
     }
 
     fn whose(&self) -> u32 {
-        self.client.get()
+        match &self.given {
+            Given::Code(its, _) | Given::UsedCode(its, _) | Given::Token(its, ..) => its.get(),
+        }
     }
 
     fn spend(&mut self) {
         self.given = match &self.given {
-            Given::Code(texts) => Given::UsedCode(texts.owner),
-            Given::UsedCode(owner) => Given::UsedCode(*owner),
-            Given::Token(kind, _) => Given::Token(*kind, true),
+            Given::Code(client, texts) => Given::UsedCode(*client, texts.owner),
+            Given::UsedCode(client, owner) => Given::UsedCode(*client, *owner),
+            Given::Token(client, life, _, kind) => Given::Token(*client, *life, true, *kind),
         };
     }
 }
@@ -261,12 +279,10 @@ impl Blank for Shared {
 impl Blank for Record {
     fn blank() -> Record {
         Record {
-            given: Given::Token(TokenKind::Access, false),
+            given: Given::Token(ClientNo::new(1), 0, false, TokenKind::Access),
             family: 0,
             scope: ScopeSet::empty(),
             moment: Moment::new(0),
-            life: 0,
-            client: ClientNo::new(1),
         }
     }
 }

@@ -6,14 +6,14 @@ ghost use Rattle.consent.specs.History.{with_change};
 ghost use Rattle.consent.specs.Changes.{change_of, parties_of};
 ghost use Rattle.token_store.specs.FitsParts.{are_kept};
 ghost use Rattle.token_store.specs.Lists.{is_open_to, refused_by, standing_refusal, ForEachList, FitsList, RefusesAgain};
-ghost use Rattle.token_store.specs.Records.{family_numbered, has_owner, OwnerKey, kept_of, kept_under, shared_seen, ArePeopled, IsTied};
+ghost use Rattle.token_store.specs.Records.{family_numbered, has_owner, turned, OwnerKey, kept_of, kept_under, shared_seen, ArePeopled, IsTied};
 ghost use Rattle.token_store.specs.RecordsParts.{shared_or, AllLive, BecomesKnown, OthersStay, TellsSame};
 ghost use Rattle.token_store.specs.Room.{held_of};
 
 use crate::fault::AgainFault;
 use crate::kin::Families;
 use crate::record::{CodeTexts, Record, Shared};
-use crate::tables::{Owners, Tables};
+use crate::tables::{Owners, Tables, turned};
 use consent::{Change, Digest, Home, Moment, OwnerNo};
 use std::alloc::{AllocError, Global};
 use std::slice;
@@ -178,7 +178,7 @@ impl Tables {
 
 // Lets go of the families in the index that are not there.
 fn keep_known(owners: &mut Owners, families: &Families)
-    ensures { (key : OwnerKey) → has_owner owners.new.keys key ≡ has_owner owners.old.keys key && is_some (family_numbered families.now.entries key.1.1) }
+    ensures { (key : OwnerKey) → has_owner owners.new.keys key ≡ has_owner owners.old.keys key && is_some (family_numbered families.now.entries (turned key.1)) }
 {
-    owners.retain(|(_, (_, number))| families.get(*number).is_some());
+    owners.retain(|(_, place)| families.get(turned(*place)).is_some());
 }

@@ -7,8 +7,8 @@ ghost use Rattle.shelf.specs.Standing.{stand_entries};
 ghost use Rattle.token_store.specs.Kept.{kept_at, kept_lives, kept_unexpired, kept_unexpired_of};
 ghost use Rattle.token_store.specs.FitsParts.{are_kept, has_kept_client_room, has_kept_room, kept_refusal};
 ghost use Rattle.token_store.specs.Room.{HasSpare, Waits, room_of};
-ghost use Rattle.token_store.specs.Records.{family_numbered, is_member_at, expiry, kept_of, shared_at, IsOwned, IsTied};
-ghost use Rattle.token_store.specs.RecordsParts.{is_open_of, key_of, open_in, start_of, IsNextOwned, kept_found, HasEntered, HasLeft, HasClosed, HasEnded, HasIndexed, HasLowered, HasStruck, KeepsAs, KeepsToo, OthersStay, TellsSame};
+ghost use Rattle.token_store.specs.Records.{family_numbered, is_member_at, expiry, kept_of, shared_at, turned, IsOwned, IsTied};
+ghost use Rattle.token_store.specs.RecordsParts.{goes_beyond, is_open_of, key_of, open_in, start_of, IsNextOwned, kept_found, HasEntered, HasLeft, HasClosed, HasEnded, HasIndexed, HasLowered, HasStruck, KeepsAs, KeepsToo, OthersStay, TellsSame};
 
 use crate::fault::StoreFault;
 use crate::kin::Families;
@@ -20,8 +20,8 @@ use std::alloc::{AllocError, Global};
 use std::collections::BTreeSet;
 use std::ops::Bound;
 
-/// Of a family: the numbers of its owner and client, its code's scope, and its own number.
-pub(crate) type OwnerKey = ((u32, u32), (u64, u64));
+/// Of a family: the numbers of its owner and client, and the place of its own.
+pub(crate) type OwnerKey = ((u32, u32), u64);
 
 /// Families that have not ended and whose code is known.
 pub(crate) type Owners = BTreeSet<OwnerKey>;
@@ -38,7 +38,7 @@ pub(crate) struct Coming {
 pub(crate) struct Tables {
     pub(crate) records: Stand<Record>,
     pub(crate) families: Families,
-    /// The families that have not ended, by owner, client and their code's scope.
+    /// The families that a code opened and nothing ended, by owner and client.
     pub(crate) owners: Owners,
     /// What room was made for.
     pub(crate) coming: Option<Coming>,
@@ -245,9 +245,7 @@ impl Tables {
         ensures tied { IsTied self.new }
         ensures same { self.new ≡ record self.old { last = max self.old.last number } }
     {
-        if self.last < number {
-            self.last = number;
-        }
+        self.last = self.last.max(number);
     }
 
     /// Opens a family without records, in the place of one without any.
@@ -289,8 +287,8 @@ impl Tables {
             unreachable!()
         };
         let mut new = new;
-        new.client = shared.client;
         enter(&mut self.families, new.family, new.expiry());
+        new.home(shared.client);
         if let Some(expired) = self.records.put(digest, new) {
             self.swept = self.swept.max(expired.expiry());
             leave(&mut self.families, &mut self.owners, expired.family, false);
@@ -325,6 +323,15 @@ fn most_before(limit: u32, more: usize) -> Option<usize>
     (limit as usize).checked_sub(more)
 }
 
+// The number's place in the index: each sixteen from its last to its first, which fills the nodes where
+// numbers come in their order. It is the number of that place's.
+#[tactic(auto, unfolding(crate::specs::Records::turned))]
+pub(crate) fn turned(number: u64) -> u64
+    ensures { result ≡ turned number }
+{
+    number - number % 16 + (15 - number % 16)
+}
+
 // The index's key of the family, if it stands there.
 fn key_of(shared: &Shared, number: u64) -> Option<OwnerKey>
     ensures { result ≡ key_of shared.now number }
@@ -332,8 +339,7 @@ fn key_of(shared: &Shared, number: u64) -> Option<OwnerKey>
     if shared.ended || !shared.coded {
         return None;
     }
-    let parties = (shared.owner, shared.client.get());
-    Some((parties, (shared.scope.bits(), number)))
+    Some(((shared.owner, shared.client.get()), turned(number)))
 }
 
 // Puts the key into the index, if there is one.
@@ -369,30 +375,20 @@ fn enter(families: &mut Families, number: u64, until: u64)
     }
 }
 
-// The family has ended, if there is one with the number.
-fn mark_ended(families: &mut Families, number: u64)
-    ensures ended { HasEnded families.old.entries families.new.entries number }
-{
-    if let Some(mut shared) = families.get(number).copied() {
-        shared.ended = true;
-        families.set(number, shared);
-    }
-}
-
 // Ends the family, if there is one with the number, and takes it out of the index.
 pub(crate) fn end_one(families: &mut Families, owners: &mut Owners, number: u64)
     ensures owned { IsOwned families.old.entries owners.old.keys → IsOwned families.new.entries owners.new.keys }
     ensures ended { HasEnded families.old.entries families.new.entries number }
 {
-    let Some(shared) = families.get(number) else {
+    let Some(mut shared) = families.get(number).copied() else {
         return;
     };
-    strike_key(owners, key_of(shared, number));
-    mark_ended(families, number);
+    strike_key(owners, key_of(&shared, number));
+    shared.ended = true;
+    families.set(number, shared);
 }
 
-// Ends each family of the two whose code's scope is not within the mask: each once, and one look for
-// each scope that is.
+// Ends each family of the two whose code's scope is not within the mask: each is looked at once.
 pub(crate) fn lower_all(
     families: &mut Families,
     owners: &mut Owners,
@@ -404,18 +400,25 @@ pub(crate) fn lower_all(
     ensures lowered { HasLowered families.old.entries families.new.entries parties.0 parties.1 mask }
 {
     let mut after = None;
-    while let Some((scope, number)) = next_owned(owners, parties, after) {
-        if ScopeSet::new(scope).is_within(mask) {
-            after = Some(scope);
-        } else {
-            owners.remove(&(parties, (scope, number)));
-            mark_ended(families, number);
+    while let Some(place) = next_owned(owners, parties, after) {
+        after = Some(place);
+        let number = turned(place);
+        if goes_beyond(families, number, mask) {
+            end_one(families, owners, number);
         }
     }
 }
 
-// The first family of the two whose code's scope comes after the one given.
-fn next_owned(owners: &Owners, parties: (u32, u32), after: Option<u64>) -> Option<(u64, u64)>
+// Whether a code opened the family, whose scope is not within the mask.
+fn goes_beyond(families: &Families, number: u64, mask: ScopeSet) -> bool
+    ensures { result ≡ goes_beyond mask (family_numbered families.now.entries number) }
+{
+    let family = families.get(number);
+    family.is_some_and(|shared| shared.coded && !shared.scope.is_within(mask))
+}
+
+// The place of the first of the two's families that comes after the one given.
+fn next_owned(owners: &Owners, parties: (u32, u32), after: Option<u64>) -> Option<u64>
     ensures { IsNextOwned owners.now.keys parties after result }
 {
     let start = start_of(parties, after);
@@ -423,23 +426,15 @@ fn next_owned(owners: &Owners, parties: (u32, u32), after: Option<u64>) -> Optio
     if key.0 != parties {
         return None;
     }
-    Some(pair(key.1.0, key.1.1))
-}
-
-// Both, of which the number has 64 bits.
-fn pair(scope: u64, number: u64) -> (u64, u64)
-    ensures same { result ≡ (scope, number) }
-    ensures fits { number < 2 ^ 64 }
-{
-    (scope, number)
+    Some(key.1)
 }
 
 fn start_of(parties: (u32, u32), after: Option<u64>) -> Bound<OwnerKey>
     ensures { result ≡ start_of parties after }
 {
     match after {
-        Some(scope) => Bound::Excluded((parties, (scope, u64::MAX))),
-        None => Bound::Included((parties, (0, 0))),
+        Some(place) => Bound::Excluded((parties, place)),
+        None => Bound::Included((parties, 0)),
     }
 }
 

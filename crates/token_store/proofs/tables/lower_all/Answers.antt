@@ -1,16 +1,19 @@
-use Rattle.std.proofs.Common.{ℕ, ap, subst, sym, ◌∙◌}
+use Rattle.std.proofs.Common.{sym, subst, ◌∙◌}
 use Rattle.token_store.specs.RecordsParts.{IsNextOwned}
-use Rattle.consent.specs.History.{is_within}
-use Rattle.token_store.proofs.Families.{lowered_more, lowered_all}
+use Rattle.token_store.proofs.Families.{lowered_more, lowered_all, within_more}
 use Rattle.token_store.proofs.tables.lower_all.Goals as goal
 
-pub loop-scope-preserved : goal.loop-scope-preserved
-loop-scope-preserved c =
-    let found : ℕ × ℕ = (c.in-Some.scope, c.in-Some.number) in
-    lowered_more c.args.families.now.entries c.loop-scope.families.entries c.mark_ended.new.families.entries c.loop-scope.owners.keys c.remove.new.self.keys c.args.parties c.args.mask
-    c.loop-scope.after found c.loop-scope.invariant c.in-Some.ensures.1 (ap (λ scope. is_within scope c.args.mask) (sym c.new.ensures) ∙ sym c.is_within.ensures ∙ c.if-is_within.false) c.remove.ensures.updates.0 c.mark_ended.ensures.ended
+pub loop-place-preserved-then-goes_beyond : goal.loop-place-preserved-then-goes_beyond
+loop-place-preserved-then-goes_beyond c =
+    lowered_more c.args.families.now.entries c.loop-place.families.entries c.loop-place.owners.keys c.args.parties c.args.mask c.loop-place.after c.in-Some.place c.loop-place.invariant
+    c.in-Some.ensures c.end_one.new.families.entries c.end_one.new.owners.keys (rw c.turned-number.ensures at (sym c.goes_beyond.ensures ∙ c.if-goes_beyond.true)) (c.end_one.ensures.owned c.loop-place.invariant.owned) (rw c.turned-number.ensures at c.end_one.ensures.ended)
+
+pub loop-place-preserved : goal.loop-place-preserved
+loop-place-preserved c =
+    within_more c.args.families.now.entries c.loop-place.families.entries c.loop-place.owners.keys c.args.parties c.args.mask c.loop-place.after c.in-Some.place c.loop-place.invariant
+    c.in-Some.ensures (rw c.turned-number.ensures at (sym c.goes_beyond.ensures ∙ c.if-goes_beyond.false))
 
 pub returns-clause-lowered : goal.returns-clause-lowered
 returns-clause-lowered c =
-    lowered_all c.args.families.now.entries c.loop-scope.families.entries c.loop-scope.owners.keys c.args.parties c.args.mask c.loop-scope.after c.loop-scope.invariant
-    (subst (IsNextOwned c.loop-scope.owners.keys c.args.parties c.loop-scope.after) c.in_default.is c.next_owned.ensures)
+    lowered_all c.args.families.now.entries c.loop-place.families.entries c.loop-place.owners.keys c.args.parties c.args.mask c.loop-place.after c.loop-place.invariant
+    (subst (IsNextOwned c.loop-place.owners.keys c.args.parties c.loop-place.after) c.in_default.is c.next_owned.ensures)
