@@ -1,5 +1,5 @@
 -- Which fault of a device or of a file of batches an error of the system is.
-use Rattle.std.specs.Prelude.{ℤ, pos, Option, Some, None, if◌then◌else◌}
+use Rattle.std.specs.Prelude.{◌<◌, ◌-◌, ℕ, ℤ, pos, Option, Some, None, if◌then◌else◌, ⊤}
 use Rattle.std.specs.Ordering.{int_eq}
 use Rattle.std.specs.IoError.{error_kind, raw_os_error}
 use Rattle.std.specs.declared.io.Error.{Error}
@@ -33,6 +33,7 @@ fault_of_kind kinds.FileTooLarge = system.FileTooLarge
 fault_of_kind kinds.ResourceBusy = system.ResourceBusy
 fault_of_kind kinds.CrossesDevices = system.CrossesDevices
 fault_of_kind kinds.InvalidFilename = system.InvalidFilename
+fault_of_kind kinds.OutOfMemory = system.OutOfMemory
 fault_of_kind kind = system.Other
 
 -- with Linux's number of the error, if it has one: 5 has no kind
@@ -42,6 +43,26 @@ fault_of_number None kind = fault_of_kind kind
 
 abbrev pub system_fault : Error → SystemFault
 system_fault error = fault_of_number (raw_os_error error) (error_kind error)
+
+-- it says that there is no room for more, on the disk, in the file or in memory
+abbrev pub IsOfRoom : SystemFault → Type 0
+IsOfRoom system.StorageFull = ⊤
+IsOfRoom system.QuotaExceeded = ⊤
+IsOfRoom system.FileTooLarge = ⊤
+IsOfRoom system.OutOfMemory = ⊤
+IsOfRoom reason = ⊥
+
+-- The zeros are fewer than a batch needs, and a device told that it has no room for as many as are missing.
+pub record IsUsedUp {D : Type 0} (tells_full : D → ℕ → SystemFault → Type 0) (room need : ℕ) (reason : SystemFault) : Type 0 where
+  pub few : room < need
+  pub of_room : IsOfRoom reason
+  pub device : D
+  pub told : tells_full device (need - room) reason
+
+-- that there is no room is told only then
+abbrev pub TellsNoRoom : {D : Type 0} → (D → ℕ → SystemFault → Type 0) → ℕ → ℕ → BatchFault → Type 0
+TellsNoRoom tells_full room need (batch.NoRoom reason) = IsUsedUp tells_full room need reason
+TellsNoRoom tells_full room need fault = ⊤
 
 -- a device's fault as that of the file of batches on it, and as that of a replacement
 abbrev pub of_device : DeviceFault → BatchFault

@@ -3,7 +3,7 @@
 ghost use Rattle.std.specs.Prelude.{◌≡◌, ◌<◌, ◌≤◌, ◌^◌, ◌+◌, ◌++◌, [], ◌∷◌, true, false, length, IfOk, IfErr, IfNone, IfSome, OnOk, IsErrOf, IsTrue, IsFalse};
 ghost use Rattle.batch_file.specs.Crashes.{HasCause, IsFailure, IsReplaceFailure, IsUnplaced, IsWrittenAt, LeavesOnly, Only};
 ghost use Rattle.batch_file.specs.declared.device.DeviceFault.TheVariants.{Memory};
-ghost use Rattle.batch_file.specs.Faults.{of_device, of_replacement};
+ghost use Rattle.batch_file.specs.Faults.{of_device, of_replacement, IsOfRoom, TellsNoRoom};
 ghost use Rattle.batch_file.specs.Frames.{file_size, limit, most_room, recovered, IsAsBefore, IsBeforeOrAfter, IsFileOf, IsOldOrNew, IsBatchFailure, IsOnDisk, IsReadable, IsRenewFailure, IsUnrenewed};
 ghost use Rattle.batch_file.specs.Tears.{Torn};
 
@@ -170,6 +170,8 @@ impl<D: Device> BatchFile<D> {
         ensures true_before { LeavesOnly D.moment D.left_since self.old.device self.new.device (λ _. D.reads_true self.old.device) }
         ensures failed { IfErr result (λ fault. IsBatchFailure fault → D.faults self.old.device < D.faults self.new.device) }
         ensures full { IsErrOf result BatchFault.Full → 2 ^ 60 ≤ self.old.end }
+        // It is told that there is no room only once the zeros are used up, and there is none for as many as are missing.
+        ensures no_room { IfErr result (TellsNoRoom D.tells_full self.old.room (21 + length batch.now + 16)) }
         ensures too_long { IsErrOf result BatchFault.TooLong → limit ≤ length batch.now }
         // It is added only where the file stands where it was opened.
         ensures in_place { OnOk result (D.tells_place self.old.device true) }
@@ -196,7 +198,7 @@ impl<D: Device> BatchFile<D> {
         Ok(())
     }
 
-    /// Sees to it that so many zeros stand behind the frames, and more where the disk has room.
+    /// Sees to it that so many zeros stand behind the frames, and a reserve where the disk has room for one.
     fn make_room(&mut self, need: usize) -> Result<(), BatchFault>
         requires stands { IsOnDisk D.seen D.may_leave D.faults self.old }
         requires end { self.old.end < 2 ^ 60 }
@@ -210,6 +212,7 @@ impl<D: Device> BatchFile<D> {
         ensures truth { D.reads_true self.new.device → D.reads_true self.old.device }
         ensures true_before { LeavesOnly D.moment D.left_since self.old.device self.new.device (λ _. D.reads_true self.old.device) }
         ensures failed { IfErr result (λ fault. IsBatchFailure fault → D.faults self.old.device < D.faults self.new.device) }
+        ensures no_room { IfErr result (TellsNoRoom D.tells_full self.old.room need) }
         ensures other { IsErrOf result BatchFault.Full → ⊥ }
         ensures too_long { IsErrOf result BatchFault.TooLong → ⊥ }
         ensures displaced { IsErrOf result BatchFault.Displaced → ⊥ }
@@ -220,15 +223,42 @@ impl<D: Device> BatchFile<D> {
         }
         let refused = self.grow(need.saturating_sub(self.room) + RESERVE)?;
         self.refused = refused;
-        let Some(reason) = refused else {
+        if refused.is_none() {
             self.low = LOW;
             return Ok(());
-        };
-        if self.room < need {
-            return Err(BatchFault::NoRoom(reason));
         }
+        self.fill(need)?;
         self.low = (self.room - need) / 2;
         Ok(())
+    }
+
+    /// Sees to it that so many zeros stand behind the frames, and no more.
+    fn fill(&mut self, need: usize) -> Result<(), BatchFault>
+        requires stands { IsOnDisk D.seen D.may_leave D.faults self.old }
+        requires end { self.old.end < 2 ^ 60 }
+        requires few { need < limit + 37 }
+        ensures settled { OnOk result (IsOnDisk D.seen D.may_leave D.faults self.new) }
+        ensures room { OnOk result (need ≤ self.new.room) }
+        ensures same { (self.new.end ≡ self.old.end) × (self.new.last ≡ self.old.last) }
+        ensures batches { OnOk result (recovered (D.seen self.new.device) ≡ recovered (D.seen self.old.device)) }
+        ensures any_moment { LeavesOnly D.moment D.left_since self.old.device self.new.device
+            (IsFileOf (recovered (D.seen self.old.device))) }
+        ensures truth { D.reads_true self.new.device → D.reads_true self.old.device }
+        ensures true_before { LeavesOnly D.moment D.left_since self.old.device self.new.device (λ _. D.reads_true self.old.device) }
+        ensures failed { IfErr result (λ fault. IsBatchFailure fault → D.faults self.old.device < D.faults self.new.device) }
+        ensures no_room { IfErr result (TellsNoRoom D.tells_full self.old.room need) }
+        ensures other { IsErrOf result BatchFault.Full → ⊥ }
+        ensures too_long { IsErrOf result BatchFault.TooLong → ⊥ }
+        ensures displaced { IsErrOf result BatchFault.Displaced → ⊥ }
+        ensures next { D.next self.new.device ≡ D.next self.old.device }
+    {
+        if self.room >= need {
+            return Ok(());
+        }
+        match self.grow(need - self.room)? {
+            None => Ok(()),
+            Some(reason) => Err(BatchFault::NoRoom(reason)),
+        }
     }
 
     /// Writes so many zeros behind the others, on the disk, or gives why that is refused.
@@ -239,6 +269,8 @@ impl<D: Device> BatchFile<D> {
         ensures settled { OnOk result (IsOnDisk D.seen D.may_leave D.faults self.new) }
         ensures longer { IfOk result (λ refused. IfNone refused (self.new.room ≡ self.old.room + more)) }
         ensures as_long { IfOk result (λ refused. IfSome refused (λ _. self.new.room ≡ self.old.room)) }
+        ensures of_room { IfOk result (λ refused. IfSome refused IsOfRoom) }
+        ensures told { IfOk result (λ refused. IfSome refused (D.tells_full self.old.device more)) }
         ensures same { (self.new.end ≡ self.old.end) × (self.new.last ≡ self.old.last) }
         ensures batches { OnOk result (recovered (D.seen self.new.device) ≡ recovered (D.seen self.old.device)) }
         ensures any_moment { LeavesOnly D.moment D.left_since self.old.device self.new.device

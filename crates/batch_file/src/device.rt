@@ -4,9 +4,10 @@ ghost use Rattle.std.specs.Prelude.{◌≡◌, ◌≤◌, ◌++◌, [], Bool, Li
 ghost use Rattle.batch_file.specs.declared.device.DeviceFault.TheVariants.{Memory};
 ghost use Rattle.batch_file.specs.declared.device.ReplaceFault.TheVariants as replacing;
 ghost use Rattle.batch_file.specs.Crashes.{Elapses, ComesOfStep, HasCause, IsBeside, IsFailure, IsUnplaced, IsReplaceFailure, IsWrittenAt, Only, Swapped};
-ghost use Rattle.batch_file.specs.Faults.{of_reading, of_replacing};
+ghost use Rattle.batch_file.specs.Faults.{of_reading, of_replacing, IsOfRoom};
 ghost use Rattle.batch_file.specs.Frames.{zeros};
 ghost use Rattle.batch_file.specs.Tears.{Torn};
+ghost use Rattle.batch_file.specs.declared.system.SystemFault.{SystemFault};
 
 use crate::system::SystemFault;
 use std::alloc::{AllocError, Global};
@@ -99,6 +100,9 @@ pub trait Device {
     /// What it may tell of whether its file stands where it was opened.
     ghost tells_place: { Self → Bool → Type 0 };
 
+    /// Why it may tell that it has no room for so many zeros more.
+    ghost tells_full: { Self → ℕ → SystemFault → Type 0 };
+
     /// Whether the file, and what locks it, stand where they were opened: neither was moved or removed, as far as the system tells.
     fn is_in_place(&self) -> bool
         ensures { tells_place self.now result };
@@ -113,12 +117,14 @@ pub trait Device {
         ensures next { next self.new ≡ next self.old }
         ensures truth { reads_true self.new → reads_true self.old };
 
-    /// Writes so many zeros behind the end of the file, which is there, or leaves the file as it was and gives why. Until a sync, a
-    /// crash may leave any bytes there.
+    /// Writes so many zeros behind the end of the file, which is there. Where there is no room for them, the file is left as it was,
+    /// and it is told what said so. Until a sync, a crash may leave any bytes there.
     fn grow(&mut self, end: usize, size: usize) -> Result<Option<SystemFault>, DeviceFault>
         requires { end ≡ length (seen self.old) }
         ensures longer { IfOk result (λ refused. IfNone refused (seen self.new ≡ seen self.old ++ zeros size)) }
         ensures same { IfOk result (λ refused. IfSome refused (λ _. seen self.new ≡ seen self.old)) }
+        ensures of_room { IfOk result (λ refused. IfSome refused IsOfRoom) }
+        ensures told { IfOk result (λ refused. IfSome refused (tells_full self.old size)) }
         ensures crash { ComesOfStep (Torn end (zeros size)) (may_leave self.old) (may_leave self.new) }
         ensures time { Elapses (moment self.old) (moment self.new) (left_since self.old) (left_since self.new) (may_leave self.new) }
         ensures cause { HasCause IsFailure (faults self.old) (faults self.new) result }

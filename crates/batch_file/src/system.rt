@@ -40,6 +40,8 @@ pub enum SystemFault {
     InvalidFilename,
     /// The disk did not answer as it should.
     InputOutput,
+    /// Memory was refused.
+    OutOfMemory,
     /// Some other fault.
     Other,
 }
@@ -73,6 +75,7 @@ impl SystemFault {
             ErrorKind::ResourceBusy => SystemFault::ResourceBusy,
             ErrorKind::CrossesDevices => SystemFault::CrossesDevices,
             ErrorKind::InvalidFilename => SystemFault::InvalidFilename,
+            ErrorKind::OutOfMemory => SystemFault::OutOfMemory,
             _ => SystemFault::Other,
         }
     }
@@ -95,6 +98,7 @@ impl Display for SystemFault {
             SystemFault::CrossesDevices => write!(f, "cross-device rename"),
             SystemFault::InvalidFilename => write!(f, "invalid filename"),
             SystemFault::InputOutput => write!(f, "input/output error"),
+            SystemFault::OutOfMemory => write!(f, "out of memory"),
             SystemFault::Other => write!(f, "other error"),
         }
     }

@@ -8,7 +8,7 @@ pub data Call : Type 0 where
   Opened : (bytes : List ℕ) → Call
   Wrote : (at : ℕ) → (bytes : List ℕ) → Call
   Grew : (at size : ℕ) → Call
-  Shrank : (at size : ℕ) → Call
+  Refused : (at size : ℕ) → Call
   Synced : Call
   Replaced : (bytes : List ℕ) → Call
   Read : (at : ℕ) → (bytes : List ℕ) → Call
@@ -35,7 +35,7 @@ next_after true NextSynced was = was
 next_after _ (Opened bytes) was = was
 next_after _ (Wrote at bytes) was = was
 next_after _ (Grew at size) was = was
-next_after _ (Shrank at size) was = was
+next_after _ (Refused at size) was = was
 next_after _ Synced was = was
 next_after _ (Replaced bytes) was = was
 next_after _ (Read at bytes) was = was
@@ -78,10 +78,8 @@ abbrev pub ReadsTrue : List Logged → Type 0
 ReadsTrue [] = Unit {0}
 ReadsTrue (e ∷ before) = TellsTrue e.is_ok e.call before × ReadsTrue before
 
--- whether it is one of the file itself, not of the next one before that is put in its place; and not one that made the file longer,
--- which it is not where that was refused
+-- whether it is one of the file itself, not of the next one before that is put in its place
 abbrev pub is_of_file : Call → Bool
-is_of_file (Grew at size) = false
 is_of_file Began = false
 is_of_file (Added bytes) = false
 is_of_file NextSynced = false
@@ -98,7 +96,7 @@ abbrev pub CallStep : Call → List Logged → List ℕ → List ℕ → Type 0
 CallStep (Opened bytes) before old new = new ≡ bytes
 CallStep (Wrote at bytes) before old new = Torn at bytes old new
 CallStep (Grew at size) before old new = Torn at (zeros size) old new
-CallStep (Shrank at size) before old new = Torn at (zeros size) old new
+CallStep (Refused at size) before old new = Torn at (zeros size) old new
 CallStep (Replaced bytes) before old new = Swapped bytes old new
 CallStep Placed before old new = IfSome (next_on_disk before) (λ next. Swapped next old new)
 CallStep _ before old new = new ≡ old

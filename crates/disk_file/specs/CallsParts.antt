@@ -5,14 +5,14 @@ use Rattle.disk_file.specs.declared.call_log.DiskCall.TheVariants as made
 use Rattle.batch_file.specs.declared.device.DeviceFault.{DeviceFault}
 use Rattle.batch_file.specs.declared.system.SystemFault.{SystemFault}
 use Rattle.batch_file.specs.declared.system.SystemFault.TheVariants as system
-use Rattle.disk_file.specs.Calls.{Call, Logged, Opened, Wrote, Grew, Shrank, Synced, Replaced, Read, Began, Added, NextSynced, Placed, Dropped}
+use Rattle.disk_file.specs.Calls.{Call, Logged, Opened, Wrote, Grew, Refused, Synced, Replaced, Read, Began, Added, NextSynced, Placed, Dropped}
 
 -- the call that a program makes
 abbrev pub call_made : DiskCall → Call
 call_made (made.Opened bytes) = Opened bytes.now
 call_made (made.Wrote at bytes) = Wrote at bytes.now
 call_made (made.Grew at size) = Grew at size
-call_made (made.Shrank at size) = Shrank at size
+call_made (made.Refused at size) = Refused at size
 call_made made.Synced = Synced
 call_made (made.Replaced bytes) = Replaced bytes.now
 call_made (made.Read at bytes) = Read at bytes.now
@@ -39,7 +39,7 @@ call_of kind place size bytes =
     else if kind == 7 then NextSynced
     else if kind == 8 then Placed
     else if kind == 10 then Grew place size
-    else if kind == 11 then Shrank place size
+    else if kind == 11 then Refused place size
     else Dropped
 
 abbrev pub noted : List ℕ → List ℕ → Logged

@@ -1,7 +1,7 @@
 -- The laws of `Device` about moments and reads.
 use Rattle.std.specs.Prelude.{◌≡◌, ◌↔◌, ◌≤◌, ℕ, List, [], ◌∷◌, length, Bool, true, false}
 use Rattle.std.proofs.Common.{inl, inr, arith}
-use Rattle.disk_file.specs.Calls.{Call, Opened, Wrote, Grew, Shrank, Synced, Replaced, Read, Began, Added, NextSynced, Placed, Dropped, Logged, TellsTrue, ReadsTrue, IsKeptBy, only_opened, StoodBefore, MayLeave, LeftSince}
+use Rattle.disk_file.specs.Calls.{Call, Opened, Wrote, Grew, Refused, Synced, Replaced, Read, Began, Added, NextSynced, Placed, Dropped, Logged, TellsTrue, ReadsTrue, IsKeptBy, only_opened, StoodBefore, MayLeave, LeftSince}
 
 pub counts_now_of : (stood : List ℕ → Type 0) (calls : List Logged) (t : ℕ) (c : List ℕ) → t ≤ length calls → MayLeave stood calls c → LeftSince stood calls t c
 counts_now_of stood [] t c le now = absurd now
@@ -16,7 +16,7 @@ opening_is_true : (stood : List ℕ → Type 0) (is_ok : Bool) (call : Call) (c 
 opening_is_true stood true (Opened bytes) c opening = tt
 opening_is_true stood true (Wrote at bytes) c opening = tt
 opening_is_true stood true (Grew at size) c opening = tt
-opening_is_true stood true (Shrank at size) c opening = tt
+opening_is_true stood true (Refused at size) c opening = tt
 opening_is_true stood true Synced c opening = tt
 opening_is_true stood true (Replaced bytes) c opening = tt
 opening_is_true stood true (Read at bytes) c opening = absurd opening
@@ -31,7 +31,7 @@ kept_is_true : (is_ok : Bool) (call : Call) (before : List Logged) (c : List ℕ
 kept_is_true true (Opened bytes) before c kept = tt
 kept_is_true true (Wrote at bytes) before c kept = tt
 kept_is_true true (Grew at size) before c kept = tt
-kept_is_true true (Shrank at size) before c kept = tt
+kept_is_true true (Refused at size) before c kept = tt
 kept_is_true true Synced before c kept = tt
 kept_is_true true (Replaced bytes) before c kept = tt
 kept_is_true true (Read at bytes) before c kept = kept

@@ -18,10 +18,10 @@ pub enum DiskCall<'b> {
     Opened(&'b [u8]),
     /// These bytes were written at this place.
     Wrote { at: u64, bytes: &'b [u8] },
-    /// So many zeros were written behind its end, or what was written of them was cut off again.
+    /// So many zeros were written behind its end.
     Grew { at: u64, size: u64 },
-    /// What was written of so many could not be cut off.
-    Shrank { at: u64, size: u64 },
+    /// There was no room for so many, and what was written of them was cut off again.
+    Refused { at: u64, size: u64 },
     /// What was done is on the disk (`fdatasync`).
     Synced,
     /// Another file with these bytes was renamed over it, and the folder synced.
@@ -88,7 +88,7 @@ impl CallLog {
             DiskCall::Opened(bytes) => self.note(&[0, 0, succeeded], bytes),
             DiskCall::Wrote { at, bytes } => self.note(&[1, at, succeeded], bytes),
             DiskCall::Grew { at, size } => self.note(&[10, at, succeeded, size], &[]),
-            DiskCall::Shrank { at, size } => self.note(&[11, at, succeeded, size], &[]),
+            DiskCall::Refused { at, size } => self.note(&[11, at, succeeded, size], &[]),
             DiskCall::Synced => self.note(&[2, 0, succeeded], &[]),
             DiskCall::Replaced(bytes) => self.note(&[3, 0, succeeded], bytes),
             DiskCall::Read { at, bytes } => self.note(&[4, at, succeeded], bytes),

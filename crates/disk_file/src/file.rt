@@ -8,6 +8,7 @@ ghost use Rattle.std.specs.Prelude.{◌≡◌, [], ◌∷◌, ⊤, length, bit_a
 ghost use Rattle.std.specs.Fs.{file_type, metadata_mode, IsFile, IsSymlink};
 ghost use Rattle.disk_file.specs.declared.faults.OpenFault.TheVariants as opening;
 ghost use Rattle.disk_file.specs.Calls.{content, failures, next_content, next_on_disk, only_opened, LeftSince, MayLeave, ReadsTrue};
+ghost use Rattle.batch_file.specs.Faults.{IsOfRoom};
 ghost use Rattle.disk_file.specs.CallsParts.{logged, RenamesNothing};
 ghost use Rattle.disk_file.specs.Moments.{counts_now_of, only_now_of, only_true_of};
 
@@ -99,6 +100,31 @@ fn write_zeros<F: FileExt>(alloc: Global, file: &F, at: u64, size: u64) -> io::R
         left -= PIECE as u64;
     }
     file.write_all_at(&zeros[..left as usize], at)
+}
+
+/// Whether the system says that there is no room for more.
+fn is_of_room(reason: SystemFault) -> bool
+    ensures { IsTrue result ↔ IsOfRoom reason }
+{
+    matches!(
+        reason,
+        SystemFault::StorageFull
+            | SystemFault::QuotaExceeded
+            | SystemFault::FileTooLarge
+            | SystemFault::OutOfMemory
+    )
+}
+
+/// Cuts a file off at that place, where it was not made longer for want of room, and gives what said so.
+fn cut_off<F: OpenFile>(file: &F, at: u64, error: io::Error) -> io::Result<SystemFault>
+    ensures { IfOk result IsOfRoom }
+{
+    let reason = SystemFault::of(&error);
+    if !is_of_room(reason) {
+        return Err(error);
+    }
+    file.set_len(at)?;
+    Ok(reason)
 }
 
 /// Why a file of which the system tells this is not opened.
@@ -286,6 +312,9 @@ impl<'r, F: SystemFile, R: Files<File = F> + AllocGlobal, B: Before> Device
     // The system promises nothing of what it tells of a path.
     ghost tells_place = { λ _ _. ⊤ };
 
+    // Nor of what it tells of room.
+    ghost tells_full = { λ _ _ _. ⊤ };
+
     fn is_in_place(&self) -> bool {
         is_same(
             fs::symlink_metadata(self.rt, self.path.as_str()),
@@ -306,13 +335,16 @@ impl<'r, F: SystemFile, R: Files<File = F> + AllocGlobal, B: Before> Device
             let _ = self.log.told(DiskCall::Grew { at, size }, Ok(()));
             return Ok(None);
         };
-        let reason = SystemFault::of(&error);
-        if let Err(worse) = self.file.set_len(at) {
-            self.log.told(DiskCall::Shrank { at, size }, Err(worse))?;
-            return Ok(None);
+        match cut_off(&self.file, at, error) {
+            Ok(reason) => {
+                let _ = self.log.told(DiskCall::Refused { at, size }, Ok(()));
+                Ok(Some(reason))
+            }
+            Err(failed) => {
+                self.log.told(DiskCall::Grew { at, size }, Err(failed))?;
+                Ok(None)
+            }
         }
-        let _ = self.log.told(DiskCall::Grew { at, size }, Err(error));
-        Ok(Some(reason))
     }
 
     fn sync(&mut self) -> Result<(), DeviceFault> {

@@ -1,5 +1,6 @@
-use Rattle.std.proofs.Common.{◌+◌, arith}
-use Rattle.batch_file.proofs.Going.{none_told}
+use Rattle.std.proofs.Common.{List, ℕ, subst}
+use Rattle.batch_file.specs.CrashesLaws.{then}
+use Rattle.batch_file.specs.Frames.{IsFileOf}
 use Rattle.batch_file.proofs.Steps.{unmoved}
 use Rattle.batch_file.proofs.appending.BatchFile.make_room.Goals as goal
 
@@ -9,7 +10,10 @@ returns-then-is_enough-clause-any_moment g c =
     let old = c.args.self.now in
     unmoved D.may_leave old.end old.room old.last (D.seen old.device) c.requires.stands.at_rest (g.met.D.Device.only_now old.device) c.requires.stands.durable
 
-pub returns-in_default-clause-room : goal.returns-in_default-clause-room
-returns-in_default-clause-room g c =
-    let longer = none_told c.in_ok-refused.refused c.in_default.is c.in_ok-refused.ensures.longer in
-    omega (arith, longer)
+pub returns-in_err-fill-clause-any_moment : goal.returns-in_err-fill-clause-any_moment
+returns-in_err-fill-clause-any_moment g c =
+    then c.grow.ensures.any_moment c.fill.ensures.any_moment (λ l was. was) (λ l was. subst (λ (batches : List (List ℕ)). IsFileOf batches l) c.in_ok-refused.ensures.batches was)
+
+pub returns-clause-any_moment : goal.returns-clause-any_moment
+returns-clause-any_moment g c =
+    then c.grow.ensures.any_moment c.fill.ensures.any_moment (λ l was. was) (λ l was. subst (λ (batches : List (List ℕ)). IsFileOf batches l) c.in_ok-refused.ensures.batches was)
