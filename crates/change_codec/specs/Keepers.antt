@@ -1,10 +1,11 @@
 -- What a keeper promises, all at once.
-use Rattle.std.specs.Prelude.{ℕ, Option}
+use Rattle.std.specs.Prelude.{ℕ, Bool, Option}
 use Rattle.change_codec.specs.Keeping.{Crashes, crashes}
 use Rattle.change_codec.specs.declared.keeper.Keeper.{Ghosts as Keeper}
 
 -- what crashes leave of it, how many bytes all that it keeps takes, when it failed when it was called last, when it keeps more than
--- it may, how much is to be gone over until that is shortened, when no more than a slice was gone over, and when it was shortened
+-- it may, how much is to be gone over until that is shortened, when no more than a slice was gone over, when it was shortened, and
+-- whether it was refused room for more when it asked last
 pub record Keeping (K : Type 0) : Type 1 where
   pub crashes : Crashes K
   pub size : K → Option ℕ
@@ -13,6 +14,7 @@ pub record Keeping (K : Type 0) : Type 1 where
   pub to_go : K → ℕ
   pub slices : K → K → Type 0
   pub shortens : K → K → Type 0
+  pub wants_room : K → Bool
 
 abbrev pub keeping : {K : Type 0} → Keeper K → Keeping K
 keeping keeper = record {
@@ -23,4 +25,5 @@ keeping keeper = record {
   to_go = keeper.to_go;
   slices = keeper.slices;
   shortens = keeper.shortens;
+  wants_room = keeper.wants_room;
 }

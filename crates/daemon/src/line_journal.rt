@@ -1,7 +1,7 @@
 //! Faults and reports, in lines.
 
 ghost use Rattle.std.specs.Prelude.{◌≡◌, ◌<◌, ◌⊎◌, ◌+◌, ◌-◌, ◌^◌, IfOk, min, string_bytes};
-ghost use Rattle.daemon.specs.NoticeTexts.{notice_text, set_aside_text};
+ghost use Rattle.daemon.specs.NoticeTexts.{notice_text, room_text, set_aside_text};
 
 use crate::outlet::Outlet;
 use crate::report_line::report_text;
@@ -51,6 +51,18 @@ fn set_aside_line(alloc: Global, path: &str, count: usize) -> Result<String, All
     Ok(line)
 }
 
+/// The line that tells that the disk refuses room for the state, or has some again.
+fn room_line(alloc: Global, wants: bool) -> Result<String, AllocError>
+    ensures { IfOk result (λ line. string_bytes line ≡ room_text wants) }
+{
+    if wants {
+        return format!(in alloc;
+            "oauthd: state: no room on the disk; what was reserved serves until it is used up\n"
+        );
+    }
+    format!(in alloc; "oauthd: state: there is room on the disk again\n")
+}
+
 /// A notice, as a line.
 fn notice_line(alloc: Global, path: &str, notice: &Notice) -> Result<Vec<u8>, AllocError>
     ensures { IfOk result (λ line. line.items ≡ notice_text path.now notice.now) }
@@ -65,6 +77,7 @@ fn notice_line(alloc: Global, path: &str, notice: &Notice) -> Result<Vec<u8>, Al
         Notice::ShorteningRefused => Ok(format!(in alloc;
             "oauthd: state: the file cannot be shortened; it grows until that works\n"
         )?.into_bytes()),
+        Notice::WantsRoom(wants) => Ok(room_line(alloc, *wants)?.into_bytes()),
         Notice::SetAside(count) => Ok(set_aside_line(alloc, path, *count)?.into_bytes()),
         Notice::Narrowed(count) => Ok(format!(in alloc;
             "oauthd: state: {count} codes and tokens ended, beyond the registry\n"

@@ -171,7 +171,7 @@ module _ {N C J K H : Type 0} (p : Promises N C J K H) where
   step_does s s' (writes j place s'' here writable unwritten all may writing) = writes_does j place s s'' all writing
   step_does s s' (closes j place s'' here taken cause closing) = closes_does j place s s'' closing
   step_does s s' (shortens keeper all long undone kept basis slice nearer) = record {
-    moves = keeps_still (λ last is. subst (λ (h : List Event). Keeps p.keeping.crashes h h s.keeper keeper) (sym (all last is)) kept) refl (keeps_within p.keeping.crashes 0 10 s.keeper keeper (omega arith) basis) (inl (refl, refl));
+    moves = keeps_still (λ last is. subst (λ (h : List Event). Keeps p.keeping.crashes h h s.keeper keeper) (sym (all last is)) kept) refl (keeps_within p.keeping.crashes 0 (horizon_bound 0) s.keeper keeper (omega arith) basis) (inl (refl, refl));
     did = λ first before. deed.shortened before;
     kept = λ k room took is. absurd (cc);
   }
@@ -186,12 +186,12 @@ module _ {N C J K H : Type 0} (p : Promises N C J K H) where
     kept = λ k r took is. absurd (cc);
   }
   step_does s s' (no_slice keeper journal all long ago kept basis told) = record {
-    moves = keeps_still (λ last is. subst (λ (h : List Event). Keeps p.keeping.crashes h h s.keeper keeper) (sym (all last is)) kept) refl (keeps_within p.keeping.crashes 0 10 s.keeper keeper (omega arith) basis) (inl (refl, refl));
+    moves = keeps_still (λ last is. subst (λ (h : List Event). Keeps p.keeping.crashes h h s.keeper keeper) (sym (all last is)) kept) refl (keeps_within p.keeping.crashes 0 (horizon_bound 0) s.keeper keeper (omega arith) basis) (inl (refl, refl));
     did = λ first before. before;
     kept = λ k room took is. absurd (not_longer s.calls _ is);
   }
   step_does s s' (keeps keeper e unkept on undone kept basis further) = record {
-    moves = keeps_all unkept kept (kept_last s.progress.journey.world on.world on.happens) (kept_history s.progress.journey.world on.world on.happens) (keeps_within p.keeping.crashes 0 10 s.keeper keeper (omega arith) basis) ((refl, refl), ap (λ (w : World). w.greatest) on.happens.kept, refl);
+    moves = keeps_all unkept kept (kept_last s.progress.journey.world on.world on.happens) (kept_history s.progress.journey.world on.world on.happens) (keeps_within p.keeping.crashes 0 (horizon_bound 0) s.keeper keeper (omega arith) basis) ((refl, refl), ap (λ (w : World). w.greatest) on.happens.kept, refl);
     did = λ first before. deed.kept before;
     kept = λ k room took is. absurd (cc);
   }
@@ -201,13 +201,13 @@ module _ {N C J K H : Type 0} (p : Promises N C J K H) where
   step_moves s s' step = (step_does s s' step).moves
 
   pub fails_does : (s s' : LoopState N C J K H) (fault : LoopFault) (failing : CannotGoOn p s fault s') → FailDoes p (horizon_bound (told_then failing)) s s'
-  fails_does s s' fault (no_wait limit room n may done) = record { did = λ first before. deed.did _ n before done; reached = λ was. was; tells = (keeps_same p.keeping.crashes 10 s.keeper s.keeper refl).meanwhile }
-  fails_does s s' fault (no_time limit room found n c may done told) = record { did = λ first before. deed.did _ n before done; reached = λ was. was; tells = (keeps_same p.keeping.crashes 10 s.keeper s.keeper refl).meanwhile }
-  fails_does s s' fault (too_far limit room found n times c seconds may done told far) = record { did = λ first before. deed.did _ n before done; reached = λ was. was; tells = (keeps_same p.keeping.crashes 10 s.keeper s.keeper refl).meanwhile }
+  fails_does s s' fault (no_wait limit room n may done) = record { did = λ first before. deed.did _ n before done; reached = λ was. was; tells = (keeps_same p.keeping.crashes (horizon_bound 0) s.keeper s.keeper refl).meanwhile }
+  fails_does s s' fault (no_time limit room found n c may done told) = record { did = λ first before. deed.did _ n before done; reached = λ was. was; tells = (keeps_same p.keeping.crashes (horizon_bound 0) s.keeper s.keeper refl).meanwhile }
+  fails_does s s' fault (too_far limit room found n times c seconds may done told far) = record { did = λ first before. deed.did _ n before done; reached = λ was. was; tells = (keeps_same p.keeping.crashes (horizon_bound 0) s.keeper s.keeper refl).meanwhile }
   fails_does s s' fault (no_moment limit room found n times c keeper may done told near lost basis asked) = record { did = λ first before. deed.did _ n before done; reached = λ was. was; tells = basis }
-  fails_does s s' fault (not_kept keeper unkept undone lost basis asked) = record { did = λ first before. before; reached = λ was. was; tells = tells_within p.keeping.crashes 0 10 s.keeper keeper (omega arith) basis }
-  fails_does s s' fault (not_shortened keeper all undone lost basis asked) = record { did = λ first before. before; reached = λ was. was; tells = tells_within p.keeping.crashes 0 10 s.keeper keeper (omega arith) basis }
-  fails_does s s' fault (no_more many) = record { did = λ first before. before; reached = λ was. was; tells = (keeps_same p.keeping.crashes 10 s.keeper s.keeper refl).meanwhile }
+  fails_does s s' fault (not_kept keeper unkept undone lost basis asked) = record { did = λ first before. before; reached = λ was. was; tells = tells_within p.keeping.crashes 0 (horizon_bound 0) s.keeper keeper (omega arith) basis }
+  fails_does s s' fault (not_shortened keeper all undone lost basis asked) = record { did = λ first before. before; reached = λ was. was; tells = tells_within p.keeping.crashes 0 (horizon_bound 0) s.keeper keeper (omega arith) basis }
+  fails_does s s' fault (no_more many) = record { did = λ first before. before; reached = λ was. was; tells = (keeps_same p.keeping.crashes (horizon_bound 0) s.keeper s.keeper refl).meanwhile }
 
   -- what was kept is a front of what happened, wherever steps lead to
   pub served_front : (first s : LoopState N C J K H) → Served p first s → (kept : List Event) → s.progress.journey.world.kept ≡ Some kept → IsFrontOf kept s.progress.journey.world.history

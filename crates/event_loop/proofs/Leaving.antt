@@ -1,13 +1,16 @@
 -- A connection is closed in the progress of the loop.
-use Rattle.std.proofs.Common.{◌≡◌, ◌≢◌, ◌⊎◌, inl, inr, ◌<◌, ◌≤◌, ◌+◌, ℕ, suc, List, Option, Some, [], length, refl, sym, ap, subst, ◌∙◌, arith, slice_get, slice_set}
-use Rattle.event_loop.proofs.Names.{Place, IsOccupied, Cause, slice_get_within, Promises, LoopState, Free, Service, Ready, Tools, Accepting, Shortening, Call, IsDone, IsIdle, IsKeptShort, IsPatient, MayWait, Served, goes}
-use Rattle.event_loop.proofs.Names.{closes, DoneMore, DoneAfter, Past, IsCalm, OnlyTells, IsLimit, IsReadyToWait, LeadsAway, LeadsToShort, SettlesAll, AreAllSettled, MayRest}
+use Rattle.std.proofs.Common.{Bool, true, false, ◌≡◌, ◌≢◌, ◌⊎◌, inl, inr, ◌<◌, ◌≤◌, ◌+◌, ℕ, suc, List, Option, Some, [], length, refl, sym, ap, subst, ◌∙◌, arith, slice_get, slice_set}
+use Rattle.event_loop.proofs.Names.{Place, IsOccupied, Cause, slice_get_within, Promises, LoopState, Free, Service, Ready, Tools, Accepting, Shortening, Call, IsDone, IsIdle, IsKeptShort, IsPatient, MayWait, Served, goes, reports, false≢true}
+use Rattle.event_loop.proofs.Names.{closes, DoneMore, DoneAfter, Past, IsCalm, OnlyTells, OnlyTellsRoom, IsLimit, IsReadyToWait, LeadsAway, LeadsTelling, LeadsToShort, SettlesAll, AreAllSettled, MayRest}
 use Rattle.event_loop.proofs.Names.{Running, running, state_of, Told, Queue, waits_done, Reached, World, Times, IsRoomMadeIn}
+use Rattle.std.proofs.Math.Bool.{beq}
+use Rattle.event_loop.specs.Names.{WantsRoom}
+use Rattle.event_loop.specs.Reporting.{wanted}
 use Rattle.event_loop.specs.Served as served
 use Rattle.change_codec.specs.declared.keeper.Length.{Length}
 use Rattle.change_codec.specs.declared.keeper.Length.TheVariants.{Short, Long}
 use Rattle.event_loop.specs.Goes as limited
-use Rattle.event_loop.proofs.Doing.{closes_done, closes_some, done_some, done_then}
+use Rattle.event_loop.proofs.Doing.{closes_done, closes_some, done_some, done_then, none_more}
 use Rattle.event_loop.proofs.Answering.{served_answered}
 use Rattle.event_loop.proofs.Leading.{closes_other}
 use Rattle.event_loop.proofs.Resting.{put_others, put_settled, free_rests, all_settled, settled_still}
@@ -65,6 +68,41 @@ ready_still service past service' calls same done ready =
       reported = ready.reported;
     })
 
+-- so it is where whether what is kept wants room was told
+ready_told : {H : Type 0} (service : Service) (past : Past H) (service' : Service) → OnlyTellsRoom service service' → IsReadyToWait service past → IsReadyToWait service' past
+ready_told service past service' tells ready =
+    let still : Service = record service { told = record service.told { room = service'.told.room } } in
+    subst (λ (s : Service). IsReadyToWait s past) (sym tells) (record {
+      settled = settled_still service past still past refl refl refl (none_more past.calls).more ready.settled;
+      queue = ready.queue;
+      calm = record { idle = ready.calm.idle; crowded = ready.calm.crowded; tried = ready.calm.tried };
+      room = ready.room;
+      reported = ready.reported;
+    })
+
+-- what is told apart is not the same
+pub told_apart : (a b : Bool) → beq a b ≡ false → a ≡ b → ⊥
+told_apart true true other same = false≢true (sym other)
+told_apart true false other same = false≢true (sym same)
+told_apart false true other same = false≢true same
+told_apart false false other same = false≢true (sym other)
+
+-- where what is kept wants room otherwise than was told, it is told
+pub want_told : {N C J K H : Type 0} (p : Promises N C J K H) (first : LoopState N C J K H) (found : List Ready) (past : Past H) (service : Service) (tools : Tools N C J K H) (wants : Bool) (journal : J) →
+    wants ≡ p.keeping.wants_room tools.keeper → (wants ≡ service.told.room → ⊥) → p.journal.reports tools.journal (WantsRoom wants) journal → Served p first (state_of (running service tools) found past) →
+    Served p first (state_of (running (record service { told = record service.told { room = wants } }) (record tools { journal = journal })) found past)
+want_told p first found past service tools wants journal is other tells served =
+    let P : Bool → Type 0 = λ b. (b ≡ service.told.room → ⊥) → p.journal.reports tools.journal (WantsRoom b) journal →
+    Served p first (state_of (running (record service { told = record service.told { room = b } }) (record tools { journal = journal })) found past) in
+    subst P (sym is) (λ not told. goes served (reports _ _ journal (wanted not) told)) other tells
+
+-- and as little is kept
+short_told : {N C J K H : Type 0} (p : Promises N C J K H) (b c : Service) (t v : Tools N C J K H) (past : Past H) → OnlyTellsRoom b c → v ≡ record t { journal = v.journal } →
+    IsKeptShort p (state_of (running b t) [] past) → IsKeptShort p (state_of (running c v) [] past)
+short_told p b c t v past tells same short =
+    subst (λ (x : Service). IsKeptShort p (state_of (running x v) [] past)) (sym tells)
+    (subst (λ (u : Tools _ _ _ _ _). IsKeptShort p (state_of (running (record b { told = record b.told { room = c.told.room } }) u) [] past)) (sym same) short)
+
 -- a slice was done since the last wait, or none is to be done
 sliced_or_short : {P Q : Type 0} (told : Option Length) → (told ≡ Some Long → P) → (told ≢ Some Long → Q) → P ⊎ Q
 sliced_or_short (Some Long) sliced rests = inl (sliced refl)
@@ -78,25 +116,30 @@ pub record ComesToWait {N C J K H : Type 0} (p : Promises N C J K H) (first : Lo
   pub may : MayWait p (state_of after [] next) limit room
   pub waits_are : waits_done next.calls ≡ waits_done past.calls
 
-pub may_wait : {N C J K H : Type 0} (p : Promises N C J K H) (a b : Service) (s t : Tools N C J K H) (told : Option Length) (limit : Option ℕ) (room : ℕ) → length a.places ≡ 64 → b ≡ record a { refused = b.refused } → IsLimit b told limit →
+pub may_wait : {N C J K H : Type 0} (p : Promises N C J K H) (a b c : Service) (s t v : Tools N C J K H) (told : Option Length) (limit : Option ℕ) (room : ℕ) → length a.places ≡ 64 → b ≡ record a { refused = b.refused } →
+    OnlyTellsRoom b c → v ≡ record t { journal = v.journal } → c.told.room ≡ p.keeping.wants_room v.keeper → LeadsTelling p (running b t) (running c v) → IsLimit c told limit →
     65 ≤ room → LeadsToShort p (running a s) told (running b t) → (first : LoopState N C J K H) (past : Past H) → Served p first (state_of (running a s) [] past) → IsReadyToWait a past → ¬ (IsDone Shortening past.calls) →
-    ComesToWait p first past (running b t) limit room
-may_wait p a b s t told limit room before same is_limit roomy shorter first past begun was undone =
+    ComesToWait p first past (running c v) limit room
+may_wait p a b c s t v told limit room before same tells tools want telling is_limit roomy shorter first past begun was undone =
     let now = shorter first [] past undone begun (served_answered p first _ begun).reached in
     let next : Past _ = record past { calls = now.calls } in
-    let ready = ready_still a past b now.calls same now.done was in
-    let size : length b.places ≡ 64 = ap (λ (s : Service). length s.places) same ∙ before in
+    let ready = ready_told b next c tells (ready_still a past b now.calls same now.done was) in
+    let size : length c.places ≡ 64 = ap (λ (s : Service). length s.places) tells ∙ ap (λ (s : Service). length s.places) same ∙ before in
+    let rests : told ≢ Some Long → IsKeptShort p (state_of (running c v) [] next) = λ not. short_told p b c t v next tells tools (now.rests not) in
+    let keeper : v.keeper ≡ t.keeper = ap (λ (u : Tools _ _ _ _ _). u.keeper) tools in
+    let short : told ≡ Some Short → ¬ (p.keeping.is_long v.keeper) = λ is. subst (λ k. ¬ (p.keeping.is_long k)) (sym keeper) (now.short is) in
     record {
       next = next;
-      served = now.served;
+      served = telling first [] next now.served;
       ready = ready;
       may = record {
-        patient = is_patient p b t next told limit size ready now.sliced now.rests now.short is_limit;
-        fair = record { places = λ k place here. (let within = slice_get_within b.places k place here in (ready.settled k (omega (arith, size, within))).turned place here); queue = ready.queue };
+        patient = is_patient p c v next told limit size ready now.sliced rests short is_limit;
+        fair = record { places = λ k place here. (let within = slice_get_within c.places k place here in (ready.settled k (omega (arith, size, within))).turned place here); queue = ready.queue };
         prompt = record { idle = ready.calm.idle; crowded = ready.calm.crowded; room = ready.room; tried = ready.calm.tried; reported = ready.reported };
         heard = refl;
         roomy = roomy;
-        short = sliced_or_short told now.sliced now.rests;
+        short = sliced_or_short told now.sliced rests;
+        want_told = want;
       };
       waits_are = now.done.waits;
     }

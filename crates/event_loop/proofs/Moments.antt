@@ -32,7 +32,7 @@ module _ {N C J K H : Type 0} (p : Promises N C J K H) where
 
   -- and wherever steps lead to
   pub onward_basis : (s s' : LoopState N C J K H) (on : Onward p s s') → KeepsBasis p.keeping.crashes (horizon_bound (latest on)) s.keeper s'.keeper
-  onward_basis s s' stays = keeps_same p.keeping.crashes 10 s.keeper s.keeper refl
+  onward_basis s s' stays = keeps_same p.keeping.crashes (horizon_bound 0) s.keeper s.keeper refl
   onward_basis s s' (onward {s' = middle} on step) =
       keeps_then p.keeping.crashes (horizon_bound (latest on)) (horizon_bound (told_by step)) (horizon_bound (max (latest on) (told_by step))) s.keeper middle.keeper s'.keeper
       (within_one (latest on) (told_by step)) (within_other (latest on) (told_by step)) (onward_basis s middle on) (step_basis middle s' step)

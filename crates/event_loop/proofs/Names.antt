@@ -6,7 +6,7 @@ pub use Rattle.change_codec.specs.Keeping.{Crashes, Basis, LeavesEither}
 pub use Rattle.change_codec.specs.Keepers.{keeping}
 pub use Rattle.endpoints.specs.Server.{Outset, AreUnkept}
 pub use Rattle.event_loop.specs.Calls.{CallKind, IsDone, Transfer, Reading, Looking, Writing, Call, Keeping, Shortening, done_since, Wrote, waits as waits_done, Accepting}
-pub use Rattle.event_loop.specs.Closing.{AreWithin, Closes, leaves, Cause, gives_way, makes_room, freed_queue, is_silent, IsBehindReply, IsOwed, HasWhole, leaves_rest}
+pub use Rattle.event_loop.specs.Closing.{AreWithin, Closes, leaves, Cause, gives_way, makes_room, freed_queue, is_silent, IsBehindReply, IsEldest, IsOwed, HasWhole, leaves_rest}
 pub use Rattle.event_loop.specs.Coming.{opens, denies, fresh_place, finds_nobody, asks}
 pub use Rattle.event_loop.specs.Durable.{Carries, Onward, stays, onward, KeeperHolds, StandsBetween, IsWriteKept, MomentIsHeld, MomentStays}
 pub use Rattle.event_loop.specs.Ends.{CannotGoOn, no_wait, no_time, too_far, no_moment, not_kept, not_shortened, no_more}
@@ -15,7 +15,7 @@ pub use Rattle.event_loop.specs.GivingParts.{GivesOn, progress_of}
 pub use Rattle.event_loop.specs.Goes.{Running, Standing, Past, Duty, DoneMore, DoneAfter, ActsAt, IsReadyFor, state_of, to_read, to_write, LeadsOn, standing, LeavesOthers, HoldsAt, LeadsToActs, LeadsToTidy}
 pub use Rattle.event_loop.specs.Goes.{LeadsToSettled, LeadsToAccepts, GoesReading, GoesKept, GoesWriting, LeadsToKept, LeadsWriting, StaysIdle, SettlesAt, TidiesAt, IsHeardAt, IsRestedAt, IsRested}
 pub use Rattle.event_loop.specs.Goes.{IsSettledAt, GoesSettled, running, IsCalm, NobodyIsSilent, OnlyTells, IsLimit, IsReadyToWait, LeadsAway, GoesShorter, LeadsToShort, SettlesAll}
-pub use Rattle.event_loop.specs.Goes.{AreAllSettled, IsHearing, IsHeardAs, ReadsAt, ReadsOn, GoesFurther, LeadsFurther, AreGuestsBrief, IsGuest, IsRoomMadeIn, WhereKnown}
+pub use Rattle.event_loop.specs.Goes.{AreAllSettled, IsHearing, IsHeardAs, ReadsAt, ReadsOn, GoesFurther, LeadsFurther, LeadsTelling, AreGuestsBrief, IsEldestAt, IsGuest, IsRoomMadeIn, IsTried, OnlyTellsRoom, WhereKnown, counts_from}
 pub use Rattle.event_loop.specs.Goes.{MayRest, IsToldAs, IsWorkLeft, a_read, a_write, IsLeftAt, noted_in, LeadsToHearing, LeadsShut, LeadsReading, LeadsRound, GoesRound, IsInTime}
 pub use Rattle.event_loop.specs.LoopStates.{Promises, LoopState, IsAllKept, with_call, with_place, IsUnkept, promises}
 pub use Rattle.event_loop.specs.Noting.{Noted, notes_it, passes}

@@ -187,11 +187,3 @@ told_rested k service service' world place places due rested j less =
       | inl is ↦ λ none. absurd (not_rested service.due k (subst (λ i. slice_get (slice_set service.due k true) i ≡ Some false) is.1 (ap (λ l. slice_get l j) (sym due) ∙ none)))
       | inr is ↦ rested_other k j service world service' world (put_others k service service' place world world places (λ i other. ap (λ l. slice_get l i) due ∙ set_other service.due k i true other) (λ i other. refl)) is.1 (rested j less)
     ]
-
--- a connection is at the place, silent for so many seconds, one at least
-pub record IsSilentFor (times : Times) (places : List Place) (found : ℕ × Place) (silence : ℕ) : Type 0 where
-  pub within : found.0 < 64
-  pub here : slice_get places found.0 ≡ Some found.1
-  pub taken : IsOccupied found.1.stage
-  pub silence_is : times.steady - found.1.since ≡ silence
-  pub some : 0 < silence

@@ -1,41 +1,44 @@
 -- Who is right behind a reply, and for how long it is there.
 use Rattle.std.proofs.Common.{◌≡◌, ◌≤◌, ◌<◌, ◌+◌, ◌-◌, ◌==◌, ℕ, List, [], ◌∷◌, length, length-take, take, Bool, true, false, Option, Some, refl, sym, ap, subst, ◌∙◌, arith, inl, inr, slice_get, slice_set}
 use Rattle.event_loop.proofs.Names.{IsOccupied, Hosting, SeenEdge, InEach, WhereKnown, Place, Service, World, Connection, connection_at, same_Some, below_more, Open, Ended, Leaving, IsStaying, to_offer, untaken, Past, IsGuest, IsOwed, IsSettledAt, IsPlaceAtRest, HadTurn, NeedsNoRead, NeedsNoWrite, IsInService, IsOver}
+use Rattle.event_loop.proofs.Names.{AreGuestsBrief, AreWithin, Cause, IsCalm, IsEldest, IsEldestAt, IsTried, NobodyIsSilent, AreAllSettled, GoesSettled, LeadsToSettled, LoopState, Promises, Reached, Ready, Running, Served, Tools, Waits, counts_from, gives_way, makes_room, running, state_of}
 use Rattle.event_loop.specs.Places.{broken, ended, leaves, dismissed}
 use Rattle.event_loop.specs.declared.place.Stage.{Stage}
 use Rattle.std.proofs.lemmas.List.{take-take}
 use Rattle.event_loop.proofs.Putting.{set_same}
-use Rattle.event_loop.proofs.Answering.{staying_taken}
+use Rattle.event_loop.proofs.Answering.{served_answered, staying_taken}
+use Rattle.event_loop.proofs.Doing.{done_then}
+use Rattle.event_loop.proofs.Leading.{to_then}
 use Rattle.event_loop.proofs.Resting.{none_there, some_there}
 use Rattle.event_loop.specs.declared.room.Guest.{Guest}
-use Rattle.event_loop.specs.declared.room.Guest.TheVariants.{Answered, Owed}
+use Rattle.event_loop.specs.declared.room.Guest.TheVariants.{Silent, Answered, Owed}
 
--- it holds of the connection at the place, which is there for so many seconds, more than the limit
-pub record IsThereFor {H : Type 0} (hosting : Hosting H) (edge : SeenEdge H) (service : Service) (P : Place → Option Connection → Type 0)
+-- the connection at the place counts as one of those for so many seconds, more than the limit
+pub record IsThereFor {H : Type 0} (hosting : Hosting H) (edge : SeenEdge H) (service : Service) (guest : Guest)
     (found : ℕ × Place) (stay : ℕ) : Type 0 where
   pub within : found.0 < 64
   pub here : slice_get service.places found.0 ≡ Some found.1
   pub taken : IsOccupied found.1.stage
-  pub holds : WhereKnown hosting edge found.0 (P found.1)
-  pub stay_is : service.times.steady - found.1.came ≡ stay
+  pub holds : WhereKnown hosting edge found.0 (IsGuest guest service.turn found.1)
+  pub stay_is : service.times.steady - counts_from guest found.1 ≡ stay
   pub late : service.limits.crowded < stay
 
--- of which it holds at the place, that is there for at most so many seconds
-abbrev pub IsThereWithin : Service → (Place → Option Connection → Type 0) → ℕ → World → ℕ → Type 0
-IsThereWithin service P most world k = (place : Place) → slice_get service.places k ≡ Some place →
-    P place (connection_at world.connections k) → service.times.steady - place.came ≤ most
+-- where the one at the place does, then for at most so many seconds
+abbrev pub IsThereWithin : Service → Guest → ℕ → World → ℕ → Type 0
+IsThereWithin service guest most world k = (place : Place) → slice_get service.places k ≡ Some place →
+    IsGuest guest service.turn place (connection_at world.connections k) → service.times.steady - counts_from guest place ≤ most
 
 -- where it is so at the places below, and at this one, it is so up to there
-pub there_more : {H : Type 0} (hosting : Hosting H) (edge : SeenEdge H) (service : Service) (P : Place → Option Connection → Type 0) (k most more : ℕ) (place : Place) → slice_get service.places k ≡ Some place → most ≤ more →
-    InEach hosting edge (λ world. (j : ℕ) → j < k → IsThereWithin service P most world j) →
-    WhereKnown hosting edge k (λ connection. P place connection → service.times.steady - place.came ≤ more) →
-    InEach hosting edge (λ world. (j : ℕ) → j < k + 1 → IsThereWithin service P more world j)
-there_more hosting edge service P k most more place here le below this journey reached =
-    below_more (IsThereWithin service P more journey.world) k (λ j less other there holds. (let within = below journey reached j less other there holds in omega (arith, within, le)))
+pub there_more : {H : Type 0} (hosting : Hosting H) (edge : SeenEdge H) (service : Service) (guest : Guest) (k most more : ℕ) (place : Place) → slice_get service.places k ≡ Some place → most ≤ more →
+    InEach hosting edge (λ world. (j : ℕ) → j < k → IsThereWithin service guest most world j) →
+    WhereKnown hosting edge k (λ connection. IsGuest guest service.turn place connection → service.times.steady - counts_from guest place ≤ more) →
+    InEach hosting edge (λ world. (j : ℕ) → j < k + 1 → IsThereWithin service guest more world j)
+there_more hosting edge service guest k most more place here le below this journey reached =
+    below_more (IsThereWithin service guest more journey.world) k (λ j less other there holds. (let within = below journey reached j less other there holds in omega (arith, within, le)))
     (λ other there holds.
     let same : place ≡ other = same_Some place other (sym here ∙ there) in
-    subst (λ (q : Place). service.times.steady - q.came ≤ more) same
-    (this journey reached (subst (λ (q : Place). P q (connection_at journey.world.connections k)) (sym same) holds)))
+    subst (λ (q : Place). service.times.steady - counts_from guest q ≤ more) same
+    (this journey reached (subst (λ (q : Place). IsGuest guest service.turn q (connection_at journey.world.connections k)) (sym same) holds)))
 
 pub none_long : (bytes : List ℕ) → length bytes ≡ 0 → bytes ≡ []
 none_long [] none = refl
@@ -59,8 +62,50 @@ none_owed empty bytes untaken is has_none same some = none_there empty bytes is 
 
 -- one that makes room is there
 pub guest_taken : (guest : Guest) (turn : ℕ) (place : Place) (connection : Option Connection) → IsGuest guest turn place connection → IsOccupied place.stage
+guest_taken Silent turn place connection taken = taken
 guest_taken Answered turn place connection behind = behind.taken
 guest_taken Owed turn place connection owed = staying_taken place.stage owed.stays
+
+-- who counts as owed for longest came first of those that are
+pub owed_eldest : {H : Type 0} (hosting : Hosting H) (edge : SeenEdge H) (service : Service) (x : ℕ × Place) → IsEldestAt hosting edge Owed service x →
+    InEach hosting edge (λ world. IsEldest IsOwed service.places world.connections x.0 x.1)
+owed_eldest hosting edge service x found journey reached = record { holds = found.holds journey reached; eldest = found.eldest journey reached }
+
+-- who counts for longest as silent, or as right behind a reply, is closed for that
+pub guest_leaves : {N C J K H : Type 0} (p : Promises N C J K H) (guest : Guest) (service : Service) (tools : Tools N C J K H) (k : ℕ) (place : Place) (ready : List Ready) (past : Past H) → (guest ≡ Owed → ⊥) → service.queue ≡ Waits →
+    IsEldestAt p.hosting tools.edge guest service (k, place) → Reached p.hosting tools.edge past.journey → Cause (state_of (running service tools) ready past) k place
+guest_leaves p Silent service tools k place ready past not waits found reached = gives_way waits found.late (found.eldest past.journey reached)
+guest_leaves p Answered service tools k place ready past not waits found reached =
+    makes_room waits found.late (record { holds = found.holds past.journey reached; eldest = found.eldest past.journey reached })
+guest_leaves p Owed service tools k place ready past not waits found reached = absurd (not refl)
+
+-- where nobody is silent for longer than others may wait, it is calm, also where nothing changed since then
+pub calm_made : {H : Type 0} (hosting : Hosting H) (edge edge' : SeenEdge H) (a b : Service) (past : Past H) → (b.queue ≡ Waits → (b ≡ a) × (edge' ≡ edge)) →
+    (a.queue ≡ Waits → InEach hosting edge (AreGuestsBrief Silent a)) → Reached hosting edge past.journey → NobodyIsSilent b → IsTried b → IsCalm b
+calm_made hosting edge edge' a b past still brief reached idle tried = record {
+  idle = idle;
+  crowded = λ waits.
+      let same = (still waits).0 in
+      subst (λ (s : Service). AreWithin s.limits.crowded s.times s.places) (sym same) (brief (subst (λ (s : Service). s.queue ≡ Waits) same waits) past.journey reached);
+  tried = tried;
+}
+
+-- all is settled once silent ones were closed, others gave way, and one was heard out; and it was calm before that
+pub record GoesCalm {N C J K H : Type 0} (p : Promises N C J K H) (first : LoopState N C J K H) (past : Past H) (mid : Service) (after : Running N C J K H) : Type 0 where
+  pub goes : GoesSettled p first [] past after
+  pub calm : IsCalm mid
+
+pub calm_then : {N C J K H : Type 0} (p : Promises N C J K H) (a b c d e : Service) (s t u v w : Tools N C J K H) (first : LoopState N C J K H) (past : Past H) →
+    LeadsToSettled p [] (running a s) [] (running b t) → LeadsToSettled p [] (running b t) [] (running c u) → LeadsToSettled p [] (running c u) [] (running d v) → LeadsToSettled p [] (running d v) [] (running e w) →
+    (d.queue ≡ Waits → (d ≡ c) × (v.edge ≡ u.edge)) → (c.queue ≡ Waits → InEach p.hosting u.edge (AreGuestsBrief Silent c)) → NobodyIsSilent d → IsTried d →
+    Served p first (state_of (running a s) [] past) → AreAllSettled a past → GoesCalm p first past d (running e w)
+calm_then p a b c d e s t u v w first past one two three four still brief idle tried served settled =
+    let x = to_then p [] [] [] a b c s t u one two first past served settled in
+    let y = to_then p [] [] [] c d e u v w three four first x.next x.served x.settled in
+    record {
+      goes = record { next = y.next; served = y.served; settled = y.settled; done = done_then past.calls x.next.calls y.next.calls x.done y.done };
+      calm = calm_made p.hosting u.edge v.edge c d x.next still brief (served_answered p first _ x.served).reached idle tried;
+    }
 
 -- of what stays all is offered
 pub offers_all : (stage : Stage) (bytes : List ℕ) → IsStaying stage → to_offer stage bytes ≡ bytes

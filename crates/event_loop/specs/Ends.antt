@@ -71,7 +71,7 @@ tools_at s = record {
 -- was done but that each connection that was left was closed and forgotten, and all places are free, and that behind them,
 -- where reports are wanted, there was one more. That is what the sockets did. Each state has all that had happened and was kept at
 -- those before it. With each write all that had happened was kept, and where the keeper held at first what was kept, all that was
--- kept is durable. What crashes told at some state, each crash tells from then on, and no moment that is more than ten seconds
+-- kept is durable. What crashes told at some state, each crash tells from then on, and no moment that is more than a minute
 -- beyond the greatest that the clocks told since. Behind
 -- the first wait that is the moment by which requests are answered, and each crash tells the greatest one by which one was.
 pub record HasServed {N C J K H : Type 0} (p : Promises N C J K H) (start : Beginning N C J K H) (fault : LoopFault) (tools' : Tools N C J K H) : Type 0 where

@@ -5,7 +5,7 @@ use Rattle.event_loop.specs.declared.due.Due.{Due}
 use Rattle.event_loop.specs.declared.due.Due.TheVariants.{Work, Rest}
 use Rattle.event_loop.specs.declared.place.Place.{Place}
 use Rattle.event_loop.specs.declared.room.Guest.{Guest}
-use Rattle.event_loop.specs.declared.room.Guest.TheVariants.{Owed}
+use Rattle.event_loop.specs.declared.room.Guest.TheVariants.{Silent}
 use Rattle.event_loop.specs.declared.report.Report.{Report}
 use Rattle.event_loop.specs.declared.service.Service.{Service}
 use Rattle.event_loop.specs.declared.tools.Tools.{Tools}
@@ -15,7 +15,7 @@ use Rattle.change_codec.specs.declared.keeper.Length.TheVariants.{Short, Long}
 use Rattle.event_loop.specs.Noting.{Noted}
 use Rattle.event_loop.specs.Places.{MayWrite, NeedsNoRead, NeedsNoWrite, IsOver, IsPlaceAtRest}
 use Rattle.event_loop.specs.LoopStates.{Promises, LoopState}
-use Rattle.event_loop.specs.Closing.{AreBrief, IsEldest, IsRoomMade, IsSilentLongest, Closes, freed_queue}
+use Rattle.event_loop.specs.Closing.{IsRoomMade, Closes, freed_queue}
 use Rattle.event_loop.specs.Reporting.{Tells}
 use Rattle.event_loop.specs.Served.{HadTurn, IsKeptShort, Served, Shuts, TellsLast}
 use Rattle.event_loop.specs.Ends.{CannotGoOn}
@@ -23,7 +23,7 @@ use Rattle.event_loop.specs.Ends.{CannotGoOn}
 pub use Rattle.change_codec.specs.Keepers.{keeping}
 pub use Rattle.event_loop.specs.Names.{AreLeftOfReply, Connection, InEach, is_closing, piece_of, Free, Open, Empty, Told, Waits}
 pub use Rattle.event_loop.specs.declared.due.Due.TheVariants.{Close}
-pub use Rattle.event_loop.specs.declared.room.Guest.TheVariants.{Answered}
+pub use Rattle.event_loop.specs.declared.room.Guest.TheVariants.{Answered, Owed}
 pub use Rattle.event_loop.specs.Places.{IsOccupied, IsInService, IsOneLeaving, IsStaying, to_offer, taken_stage, IsFreeAt, AllFree, AllTaken, MayRead, is_taken, open_count}
 pub use Rattle.event_loop.specs.Closing.{AreWithin, IsBehindReply, IsOwed}
 pub use Rattle.event_loop.specs.Reading.{read_place}
@@ -133,33 +133,35 @@ pub record DoneAfter (earlier later : List Call) : Type 0 where
   pub more : DoneMore earlier later
   pub alone : IsDone Shortening later → IsDone Shortening earlier
 
--- a connection is there, and none took no byte of a reply for longer
-pub record IsLongestAt (places : List Place) (found : ℕ × Place) : Type 0 where
-  pub within : found.0 < 64
-  pub here : slice_get places found.0 ≡ Some found.1
-  pub taken : IsOccupied found.1.stage
-  pub longest : IsSilentLongest places found.1
-
--- which connections make room: those right behind a reply, or those that are owed some
+-- which connections make room: all, as they take no byte of a reply, or those right behind one, or those that are owed some
 abbrev pub IsGuest : Guest → ℕ → Place → Option Connection → Type 0
+IsGuest Silent turn = λ place connection. IsOccupied place.stage
 IsGuest Answered turn = IsBehindReply turn
 IsGuest Owed turn = IsOwed
 
--- none of those is there for longer than the limit
+-- since when one counts as one of those: since it took the last bytes, or since it came
+abbrev pub counts_from : Guest → Place → ℕ
+counts_from Silent place = place.since
+counts_from guest place = place.came
+
+-- none of those does for longer than the limit
 abbrev pub AreGuestsBrief : Guest → Service → World → Type 0
-AreGuestsBrief guest service world = AreBrief (IsGuest guest service.turn) service.limits.crowded service.times service.places world.connections
+AreGuestsBrief guest service world = (k : ℕ) (place : Place) → slice_get service.places k ≡ Some place →
+    IsGuest guest service.turn place (connection_at world.connections k) → service.times.steady - counts_from guest place ≤ service.limits.crowded
 
 -- where another connection waits, there is room for it, as far as there may be
 abbrev pub IsRoomMadeIn : Service → World → Type 0
 IsRoomMadeIn service world = service.queue ≡ Waits → IsRoomMade service.turn service.limits.crowded service.times service.places world.connections
 
--- the connection at the place is one of them, and there for longer than the limit, and none of them came before it
+-- the connection at the place counts as one of them for longer than the limit, and none of them does for longer
 pub record IsEldestAt {H : Type 0} (hosting : Hosting H) (edge : SeenEdge H) (guest : Guest) (service : Service) (found : ℕ × Place) : Type 0 where
   pub within : found.0 < 64
   pub here : slice_get service.places found.0 ≡ Some found.1
   pub taken : IsOccupied found.1.stage
-  pub late : service.limits.crowded < service.times.steady - found.1.came
-  pub eldest : InEach hosting edge (λ world. IsEldest (IsGuest guest service.turn) service.places world.connections found.0 found.1)
+  pub late : service.limits.crowded < service.times.steady - counts_from guest found.1
+  pub holds : WhereKnown hosting edge found.0 (IsGuest guest service.turn found.1)
+  pub eldest : InEach hosting edge (λ world. (j : ℕ) (other : Place) → slice_get service.places j ≡ Some other →
+      IsGuest guest service.turn other (connection_at world.connections j) → counts_from guest found.1 ≤ counts_from guest other)
 
 -- the other places are as they were, and so are their connections
 pub record LeavesOthers (k : ℕ) (service : Service) (world : World) (service' : Service) (world' : World) : Type 0 where
@@ -262,6 +264,10 @@ IsTried service = (since : ℕ) → service.queue ≡ Barred since → since ≡
 abbrev pub IsReported : Service → Type 0
 IsReported service =
     (every : ℕ) → service.limits.report ≡ Some every → service.told.report ≡ service.times.steady ⊎ service.times.steady - service.told.report < every
+
+-- whether the journal was told that what is kept wants room alone is other
+abbrev pub OnlyTellsRoom : Service → Service → Type 0
+OnlyTellsRoom service service' = service' ≡ record service { told = record service.told { room = service'.told.room } }
 
 -- what is told of the server alone is other
 abbrev pub OnlyTells : Service → Service → Type 0
@@ -450,6 +456,11 @@ module _ {N C J K H : Type 0} (p : Promises N C J K H) where
   LeadsToShort before told after =
       (first : LoopState N C J K H) (found : List Ready) (past : Past H) → ¬ (IsDone Shortening past.calls) →
       Served p first (state_of before found past) → Reached p.hosting before.tools.edge past.journey → GoesShorter first (standing before found past) told after
+
+  -- steps lead on, by which nothing was called
+  abbrev pub LeadsTelling : Running N C J K H → Running N C J K H → Type 0
+  LeadsTelling before after =
+      (first : LoopState N C J K H) (found : List Ready) (past : Past H) → Served p first (state_of before found past) → Served p first (state_of after found past)
 
   -- or that failed
   abbrev pub LeadsToUnshortened : Running N C J K H → LoopFault → Running N C J K H → Type 0

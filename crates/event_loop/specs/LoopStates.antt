@@ -25,7 +25,7 @@ promises sockets clocks journal keeping hosting = record { sockets = sockets; cl
 -- What the loop works with: sockets, clocks, a journal, a keeper, and an edge with its draws, on its progress. What it knows:
 -- its limits, its places, what the last wait found and was not looked at yet, who waits to be accepted, what the clocks
 -- told last, the greatest moment that was kept or with which it began, when a fault was noted last, and the journal was told
--- last what the server does, in which second shortening was refused last, in which it began, how many connections came, and its
+-- last what the server does, and whether what is kept wants room, in which second shortening was refused last, in which it began, how many connections came, and its
 -- turn: how often it waited. What was done so far, the last call first.
 pub record LoopState (N C J K H : Type 0) : Type 0 where
   pub sockets : N

@@ -8,7 +8,7 @@ abbrev pub seconds_too_far : Option ℕ → Option Times → ℕ → Option ℕ
 seconds_too_far (Some limit) (Some now) moment = if nat_lt 0 moment && nat_lt limit (now.moment - moment) then Some (now.moment - moment) else None
 seconds_too_far limit now moment = None
 
--- The keeper holds what it held, and tells the moment that the clocks told, or one that is at most ten seconds later.
+-- The keeper holds what it held, and tells the moment that the clocks told, or one that is at most a minute later.
 pub record KeepsTimes {K : Type 0} (crashes : Crashes K) (times : Times) (old new : K) : Type 0 where
   pub holds : HoldsStill crashes old new
   pub basis : KeepsBasis crashes (horizon_bound times.moment) old new

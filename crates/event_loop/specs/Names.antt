@@ -10,7 +10,7 @@ pub use Rattle.event_loop.specs.declared.place.Stage.TheVariants.{Open, Free, Br
 pub use Rattle.event_loop.specs.declared.queue.Queue.{Queue}
 pub use Rattle.event_loop.specs.declared.queue.Queue.TheVariants.{Told, Empty, Barred, Asked, Waits}
 pub use Rattle.event_loop.specs.declared.report.Notice.{Notice}
-pub use Rattle.event_loop.specs.declared.report.Notice.TheVariants.{ShorteningRefused, Reported, StoreFull}
+pub use Rattle.event_loop.specs.declared.report.Notice.TheVariants.{ShorteningRefused, WantsRoom, Reported, StoreFull}
 pub use Rattle.event_loop.specs.declared.sockets.Accepted.TheVariants.{Later}
 pub use Rattle.event_loop.specs.declared.sockets.Ready.{Ready}
 pub use Rattle.event_loop.specs.declared.sockets.Sockets.{Ghosts as Sockets}

@@ -1,6 +1,6 @@
 -- What the journal is told of the server, and when.
-use Rattle.std.specs.Prelude.{◌≡◌, ◌≤◌, ◌-◌, ℕ, Bool, true, nat_le, Option, Some, None, IsSome, length}
-use Rattle.event_loop.specs.Names.{Journal, Notice, ShorteningRefused, Reported, StoreFull}
+use Rattle.std.specs.Prelude.{◌≡◌, ◌≢◌, ◌≤◌, ◌-◌, ℕ, Bool, true, nat_le, Option, Some, None, IsSome, length}
+use Rattle.event_loop.specs.Names.{Journal, Notice, ShorteningRefused, WantsRoom, Reported, StoreFull}
 use Rattle.event_loop.specs.declared.report.LastTold.{LastTold}
 use Rattle.event_loop.specs.declared.report.Report.{Report}
 use Rattle.event_loop.specs.Places.{open_count}
@@ -24,12 +24,13 @@ is_long_ago None now seconds = true
 is_long_ago (Some last) now seconds = nat_le seconds (now - last)
 
 -- Where reports are wanted: of what the server does, once so many seconds have passed since the last one, and of a full store
--- at most once a minute.
+-- at most once a minute. And whether they are wanted or not: whether what is kept wants room, once each time that this changes.
 pub data IsDue {N C J K H : Type 0} (p : Promises N C J K H) (s : LoopState N C J K H) : Notice → LastTold → Type 0 where
   reported : (every : ℕ) (report : Report) → s.limits.report ≡ Some every → every ≤ s.times.steady - s.told.report → Tells p s report →
       IsDue p s (Reported report) (record s.told { report = s.times.steady })
   full : IsSome s.limits.report → is_long_ago s.told.full s.times.steady 60 ≡ true →
       IsDue p s StoreFull (record s.told { full = Some s.times.steady })
+  wanted : p.keeping.wants_room s.keeper ≢ s.told.room → IsDue p s (WantsRoom (p.keeping.wants_room s.keeper)) (record s.told { room = p.keeping.wants_room s.keeper })
 
 -- That shortening is refused is told whether reports are wanted or not: once, until no more is kept than may be.
 abbrev pub TellsRefusal : {J : Type 0} → Journal J → Option ℕ → J → J → Type 0

@@ -60,7 +60,8 @@ pub data IsPatient {N C J K H : Type 0} (p : Promises N C J K H) (s : LoopState 
   sleeps : IsIdle p s → AllFree s.places → ((since : ℕ) → s.queue ≢ Barred since) → s.limits.report ≡ None → ¬ (p.keeping.is_long s.keeper) → IsPatient p s None
 
 -- It may wait so long now, with room for so much: all that the last wait found was looked at, and where nothing is unkept and more
--- is kept than may be, that was shortened by a slice since the last wait, or it was refused less than a minute ago.
+-- is kept than may be, that was shortened by a slice since the last wait, or it was refused less than a minute ago; and the journal
+-- was told whether what is kept wants room.
 pub record MayWait {N C J K H : Type 0} (p : Promises N C J K H) (s : LoopState N C J K H) (limit : Option ℕ) (room : ℕ) : Type 0 where
   pub patient : IsPatient p s limit
   pub fair : IsFair s
@@ -68,6 +69,7 @@ pub record MayWait {N C J K H : Type 0} (p : Promises N C J K H) (s : LoopState 
   pub heard : s.found ≡ []
   pub roomy : ready_limit ≤ room
   pub short : IsDone Shortening s.calls ⊎ IsKeptShort p s
+  pub want_told : s.told.room ≡ p.keeping.wants_room s.keeper
 
 -- It may look again what is ready, without waiting: while something is unkept and was not given to the keeper yet, each time but once
 -- between two waits, and where all that was found was looked at.
@@ -152,7 +154,7 @@ pub record IsFirst {N C J K H : Type 0} (p : Promises N C J K H) (s : LoopState 
   pub found : s.found ≡ []
   pub noted : s.noted.last ≡ None
   pub held : s.held ≡ s.progress.journey.world.greatest
-  pub told : s.told ≡ record { report = s.times.steady; full = None }
+  pub told : s.told ≡ record { report = s.times.steady; full = None; room = false }
   pub refused : s.refused ≡ None
   pub began : s.began ≡ s.times.steady
   pub accepted : s.accepted ≡ 0

@@ -1,6 +1,6 @@
 //! Closing connections.
-ghost use Rattle.std.specs.Prelude.{◌≡◌, ◌≢◌, ◌<◌, ℕ, true, IfSome, IfNone, slice_get};
-ghost use Rattle.event_loop.specs.Goes.{AllFree, AreWithin, IsCalm, NobodyIsSilent, IsLongestAt, IsTried, LeadsAway, LeadsShut, LeadsToTidy, running, SettlesAll, FreesPlace, keeping, promises};
+ghost use Rattle.std.specs.Prelude.{◌≡◌, ◌≢◌, ◌<◌, ℕ, true, slice_get};
+ghost use Rattle.event_loop.specs.Goes.{AllFree, NobodyIsSilent, IsTried, LeadsAway, LeadsShut, LeadsToTidy, running, SettlesAll, FreesPlace, keeping, promises};
 
 use crate::clocks::Clocks;
 use crate::due::Due;
@@ -11,26 +11,6 @@ use crate::queue::Queue;
 use crate::service::Service;
 use crate::tools::{HookHost, Journal, Keeper, Sockets, Tools};
 use http_edge::ConnectionNo;
-
-impl Service {
-    // The place whose connection took no byte of a reply for longest, if one took none for some seconds.
-    fn silent_longest(&self) -> Option<(u32, Place)>
-        ensures longest { IfSome result (IsLongestAt self.now.places) }
-        ensures none { IfNone result ((limit : ℕ) → AreWithin limit self.now.times self.now.places) }
-    {
-        let mut longest = None;
-        let mut most = 0;
-        for k in 0..PLACES {
-            let place = self.place_at(k);
-            let silence = self.times.steady.saturating_sub(place.since);
-            if place.stage.is_taken() && most < silence {
-                longest = Some((k, place));
-                most = silence;
-            }
-        }
-        longest
-    }
-}
 
 impl<N: Sockets, C: Clocks, J: Journal, K: Keeper, H: HookHost> Tools<N, C, J, K, H> {
     /// Closes and forgets a connection, and notes its fault.
@@ -103,23 +83,6 @@ impl<N: Sockets, C: Clocks, J: Journal, K: Keeper, H: HookHost> Tools<N, C, J, K
             return;
         }
         service.queue = Queue::Told;
-    }
-
-    /// Where all places are taken and another connection waits, the one that was silent longest gives way.
-    pub(crate) fn make_room(&mut self, service: &mut Service)
-        ensures leads { SettlesAll (promises N.Sockets C.Clocks J.Journal (keeping K.Keeper) H.HookHost) (running service.old self.old) (running service.new self.new) }
-        ensures calm { NobodyIsSilent service.old → IsTried service.old → IsCalm service.new }
-    {
-        let Queue::Waits = service.queue else {
-            return;
-        };
-        let Some((k, place)) = service.silent_longest() else {
-            return;
-        };
-        if service.times.steady.saturating_sub(place.since) <= service.limits.crowded {
-            return;
-        }
-        self.leave(service, k, place);
     }
 
     /// Closes each connection that is left.

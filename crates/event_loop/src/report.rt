@@ -34,6 +34,8 @@ pub enum Notice {
     StoreFull,
     /// What is kept could not be shortened: it grows until that works.
     ShorteningRefused,
+    /// Whether the disk refused room for what is kept, so that what was reserved serves; or it gives some again.
+    WantsRoom(bool),
     /// So many bytes of an unfinished write stood behind what was kept, and were put beside the file.
     SetAside(usize),
     /// So many codes and tokens ended, which were beyond the registry.
@@ -49,4 +51,6 @@ pub struct LastTold {
     pub(crate) report: u64,
     /// That the store was full.
     pub(crate) full: Option<u64>,
+    /// Whether what is kept wants room, as was told last.
+    pub(crate) room: bool,
 }

@@ -1,6 +1,6 @@
 //! Making room for others.
-ghost use Rattle.std.specs.Prelude.{◌≡◌, true, false, IfSome, IfNone};
-ghost use Rattle.event_loop.specs.Goes.{Answered, Waits, InEach, IsBehindReply, IsOwed, IsOccupied, IsOneLeaving, AreGuestsBrief, IsCalm, IsEldestAt, IsGuest, IsRoomMadeIn, WhereKnown, running, SettlesAll, keeping, promises};
+ghost use Rattle.std.specs.Prelude.{◌≡◌, ◌≢◌, true, false, IfSome, IfNone};
+ghost use Rattle.event_loop.specs.Goes.{Answered, Owed, Waits, InEach, IsOccupied, IsOneLeaving, AreGuestsBrief, IsCalm, IsEldestAt, IsGuest, IsRoomMadeIn, IsTried, NobodyIsSilent, WhereKnown, counts_from, running, SettlesAll, keeping, promises};
 
 use crate::clocks::Clocks;
 use crate::limits::PLACES;
@@ -13,10 +13,22 @@ use http_edge::{ConnectionNo, Edge};
 /// Which connections make room for others.
 #[derive(Clone, Copy)]
 pub(crate) enum Guest {
+    /// Those that take no byte of a reply.
+    Silent,
     /// Those right behind a reply.
     Answered,
     /// Those that do not make room yet, and are owed replies.
     Owed,
+}
+
+// Since when a connection counts as one of those: since it took the last bytes, or came.
+fn counts_from(guest: Guest, place: Place) -> u64
+    ensures { result ≡ counts_from guest place }
+{
+    match guest {
+        Guest::Silent => place.since,
+        _ => place.came,
+    }
 }
 
 // Whether a connection is one of those. Right behind a reply is one that took the last of its output in this turn.
@@ -31,6 +43,7 @@ fn is_guest<H: HookHost>(edge: &Edge<H>, guest: Guest, place: Place, turn: u64, 
     let is_owed = !edge.output(ConnectionNo::new(k)).is_empty();
     let stays = place.stage.is_staying();
     match guest {
+        Guest::Silent => true,
         Guest::Answered => !is_owed && place.turn == turn,
         Guest::Owed => is_owed && stays,
     }
@@ -56,7 +69,7 @@ impl Service {
 }
 
 impl<N: Sockets, C: Clocks, J: Journal, K: Keeper, H: HookHost> Tools<N, C, J, K, H> {
-    // The place whose connection came first of those, where one of them is there for longer than it may.
+    // The place whose connection counts as one of those for longest, where one does for longer than it may.
     fn eldest(&self, service: &Service, guest: Guest) -> Option<(u32, Place)>
         ensures eldest { IfSome result (IsEldestAt H.HookHost self.now.edge guest service.now) }
         ensures none { IfNone result (InEach H.HookHost self.now.edge (AreGuestsBrief guest service.now)) }
@@ -65,7 +78,8 @@ impl<N: Sockets, C: Clocks, J: Journal, K: Keeper, H: HookHost> Tools<N, C, J, K
         let mut most = service.limits.crowded;
         for k in 0..PLACES {
             let place = service.place_at(k);
-            let stay = service.times.steady.saturating_sub(place.came);
+            let since = counts_from(guest, place);
+            let stay = service.times.steady.saturating_sub(since);
             if stay <= most {
                 continue;
             }
@@ -78,17 +92,20 @@ impl<N: Sockets, C: Clocks, J: Journal, K: Keeper, H: HookHost> Tools<N, C, J, K
         eldest
     }
 
-    /// Where another connection waits still, the one that is there longest, for some seconds, gives way right behind a reply,
-    /// however busy.
-    pub(crate) fn retire_eldest(&mut self, service: &mut Service)
+    /// Where all places are taken and another connection waits still, one of those gives way: who was silent for longest, or who is
+    /// there for longest, right behind a reply, however busy.
+    pub(crate) fn give_way(&mut self, service: &mut Service, guest: Guest)
+        requires others { guest ≢ Owed }
         ensures leads { SettlesAll (promises N.Sockets C.Clocks J.Journal (keeping K.Keeper) H.HookHost) (running service.old self.old) (running service.new self.new) }
-        ensures calm { IsCalm service.old → IsCalm service.new }
-        ensures behind { service.new.queue ≡ Waits → InEach H.HookHost self.new.edge (AreGuestsBrief Answered service.new) }
+        ensures idle { NobodyIsSilent service.old → NobodyIsSilent service.new }
+        ensures tried { IsTried service.old → IsTried service.new }
+        ensures brief { service.new.queue ≡ Waits → InEach H.HookHost self.new.edge (AreGuestsBrief guest service.new) }
+        ensures still { service.new.queue ≡ Waits → (service.new ≡ service.old) × (self.new.edge ≡ self.old.edge) }
     {
         let Queue::Waits = service.queue else {
             return;
         };
-        let Some((k, place)) = self.eldest(service, Guest::Answered) else {
+        let Some((k, place)) = self.eldest(service, guest) else {
             return;
         };
         self.leave(service, k, place);

@@ -6,6 +6,7 @@ use crate::clocks::{Clocks, Times, later};
 use crate::fault::LoopFault;
 use crate::limits::PLACES;
 use crate::queue::Queue;
+use crate::room::Guest;
 use crate::service::Service;
 use crate::sockets::{Ready, Sockets};
 use crate::tools::{HookHost, Journal, Keeper, Tools};
@@ -72,7 +73,7 @@ impl Service {
 }
 
 impl<N: Sockets, C: Clocks, J: Journal, K: Keeper, H: HookHost> Tools<N, C, J, K, H> {
-    /// Shortens what is kept by a slice, where it is long. Then waits once, looks at the clocks, whose moment is
+    /// Shortens what is kept by a slice, where it is long, and tells whether that wants room. Then waits once, looks at the clocks, whose moment is
     /// kept where it is not too far ahead, notes what was found, reads each place, looks whether more came, keeps what changed, writes to each, closes and accepts, and then tells
     /// the journal what is due.
     pub(crate) fn round(
@@ -88,6 +89,7 @@ impl<N: Sockets, C: Clocks, J: Journal, K: Keeper, H: HookHost> Tools<N, C, J, K
             Ok(told) => told,
             Err(fault) => return Err(fault),
         };
+        self.tell_room(service);
         let limit = service.wait_limit(told);
         let Some(count) = self.sockets.wait(limit, found) else {
             return Err(LoopFault::Wait);
@@ -115,8 +117,8 @@ impl<N: Sockets, C: Clocks, J: Journal, K: Keeper, H: HookHost> Tools<N, C, J, K
         }
         self.write_all(service);
         self.tidy(service, is_same_second);
-        self.make_room(service);
-        self.retire_eldest(service);
+        self.give_way(service, Guest::Silent);
+        self.give_way(service, Guest::Answered);
         self.hear_out(service);
         self.admit_all(service);
         self.tell(service);

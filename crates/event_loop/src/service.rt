@@ -1,5 +1,5 @@
 //! What the loop knows.
-ghost use Rattle.std.specs.Prelude.{◌≡◌, ◌<◌, None, Some, length, slice_get};
+ghost use Rattle.std.specs.Prelude.{◌≡◌, ◌<◌, false, None, Some, length, slice_get};
 ghost use Rattle.event_loop.specs.Goes.{Empty, AllFree, IsDueNowhere};
 ghost use Rattle.event_loop.specs.Moments.{seconds_too_far};
 
@@ -54,7 +54,7 @@ impl Service {
         ensures due { IsDueNowhere result }
         ensures queue { result.queue ≡ Empty }
         ensures noted { result.noted ≡ None }
-        ensures told { result.told ≡ record { report = times.steady; full = None } }
+        ensures told { result.told ≡ record { report = times.steady; full = None; room = false } }
         ensures refused { result.refused ≡ None }
         ensures began { result.began ≡ times.steady }
         ensures accepted { result.accepted ≡ 0 }
@@ -78,6 +78,7 @@ impl Service {
             told: LastTold {
                 report: steady,
                 full: None,
+                room: false,
             },
             refused: None,
         }

@@ -1,6 +1,6 @@
 //! Telling what the server does.
 ghost use Rattle.std.specs.Prelude.{◌≡◌, Some, IsSome};
-ghost use Rattle.event_loop.specs.Goes.{open_count, is_long_ago, IsReported, LeadsLast, OnlyTells, running, SettlesAll, TellsNow, keeping, promises};
+ghost use Rattle.event_loop.specs.Goes.{open_count, is_long_ago, IsReported, LeadsLast, LeadsTelling, OnlyTells, OnlyTellsRoom, running, SettlesAll, TellsNow, keeping, promises};
 
 use crate::limits::{MINUTE, PLACES};
 use crate::report::{Notice, Report};
@@ -50,6 +50,21 @@ impl<N: Sockets, C: Clocks, J: Journal, K: Keeper, H: HookHost> Tools<N, C, J, K
             hooks: server.hook_count(),
             state: self.keeper.size(),
         }
+    }
+
+    /// Where what is kept wants room, or no longer does, the journal is told, whether reports are wanted or not.
+    pub(crate) fn tell_room(&mut self, service: &mut Service)
+        ensures leads { LeadsTelling (promises N.Sockets C.Clocks J.Journal (keeping K.Keeper) H.HookHost) (running service.old self.old) (running service.new self.new) }
+        ensures told { service.new.told.room ≡ K.wants_room self.new.keeper }
+        ensures rest { OnlyTellsRoom service.old service.new }
+        ensures tools { self.new ≡ record self.old { journal = self.new.journal } }
+    {
+        let wants = self.keeper.wants_room();
+        if wants == service.told.room {
+            return;
+        }
+        self.journal.report(&Notice::WantsRoom(wants));
+        service.told.room = wants;
     }
 
     // Where reports are wanted, the journal is told that the store was full, unless it was within a minute.

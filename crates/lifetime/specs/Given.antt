@@ -1,5 +1,5 @@
 -- What a life is handed, and what is promised of that.
-use Rattle.std.specs.Prelude.{ℕ, ◌+◌, ◌-◌, ◌^◌, min, List, Some, IsSome}
+use Rattle.std.specs.Prelude.{ℕ, ◌+◌, ◌-◌, ◌^◌, min, List, Some, IsSome, is_some}
 use Rattle.lifetime.specs.Names.{RegistryRecord, Keeping, Promises, LoopState, promises, Journal, Named, HookFact, IsLongFile, ShortensFile, SlicesFile, SeenKeeper, file_crashes, LifeEnd}
 use Rattle.batch_file.specs.declared.device.Device.{Ghosts as Device}
 use Rattle.event_loop.specs.declared.clocks.Clocks.{Ghosts as Clocks}
@@ -33,6 +33,7 @@ file_keeping device = record {
   to_go = λ keeper. keeper.to_go;
   slices = SlicesFile device;
   shortens = ShortensFile device;
+  wants_room = λ keeper. is_some keeper.file.refused;
 }
 
 -- what is promised in the loop, with a chain of hooks

@@ -54,7 +54,7 @@ TellsNoLater p given device until = Leaves p given.device device (λ left. p.dev
 abbrev pub StaysWhole : {D N C J : Type 0} → LifePromises D N C J → Given D N C J → D → List Event → Type 0
 StaysWhole p given device before = LosesNothing p given device before before × TellsNoLater p given device (until_of (recovered given.bytes))
 
--- where the clocks told these: that moment, or one that is at most ten seconds beyond the latest of them
+-- where the clocks told these: that moment, or one that is at most a minute beyond the latest of them
 abbrev pub until_with : {D N C J : Type 0} → Given D N C J → ℕ → ℕ
 until_with given clock = max (until_of (recovered given.bytes)) (horizon_bound clock)
 
@@ -79,7 +79,7 @@ LeavesKept p rules s device all =
 -- (`bounded`). What is kept at a state is in all that a crash leaves from then on, up to another state (`keeps`) or to the end
 -- of the life (`keeps_then`), and nothing that has not happened. A crash at any moment of the life left what one before it
 -- might have left, or all of `before` (`loses_nothing`); and what it left tells no moment that is later than the one that the bytes
--- told, and more than ten seconds beyond what the clocks told by then (`no_later`, `no_later_then`).
+-- told, and more than a minute beyond what the clocks told by then (`no_later`, `no_later_then`).
 pub record HasLived {D N C J : Type 0} (p : LifePromises D N C J) (given : Given D N C J) (begun : Begun D N C J) (before : List Event)
     (ending : Ending N C J (SeenKeeper D)) : Type 0 where
   pub edge : SeenEdge (List Named)

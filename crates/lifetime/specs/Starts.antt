@@ -48,9 +48,9 @@ abbrev pub ended_notices : Option ℕ → List Notice
 ended_notices None = []
 ended_notices (Some count) = Narrowed count ∷ []
 
--- how many seconds the state is ahead of the clocks, where these are more than ten
+-- how many seconds the state is ahead of the clocks, where these are more than a minute
 abbrev pub ahead_notices : ℕ → List Notice
-ahead_notices seconds = if nat_lt 10 seconds then Ahead seconds ∷ [] else []
+ahead_notices seconds = if nat_lt 60 seconds then Ahead seconds ∷ [] else []
 
 -- all that a start tells
 abbrev pub start_notices : Plan → Option Times → List Notice

@@ -14,7 +14,7 @@ use state_file::StateFault;
 use state_keeper::{NotStarted, Started};
 
 /// A state that is no more seconds ahead of the clock is not told: a horizon of its moment may be as many.
-const QUIET: u64 = 10;
+const QUIET: u64 = 60;
 
 /// Puts aside what an unfinished write left, where that is something, and tells the journal how much it is.
 fn put_aside<D: Device, J: Journal>(

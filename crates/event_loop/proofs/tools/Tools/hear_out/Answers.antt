@@ -5,7 +5,7 @@ use Rattle.event_loop.proofs.Doing.{none_more}
 use Rattle.event_loop.proofs.Leaving.{leaves_to}
 use Rattle.event_loop.proofs.Putting.{put_still, put_within, set_cases, set_here}
 use Rattle.event_loop.proofs.Resting.{all_settled, put_others}
-use Rattle.event_loop.proofs.Rooming.{leaves_settled}
+use Rattle.event_loop.proofs.Rooming.{leaves_settled, owed_eldest}
 use Rattle.event_loop.proofs.tools.Tools.hear_out.Goals as goal
 
 pub returns-then-left-eq0-clause-leads : goal.returns-then-left-eq0-clause-leads
@@ -17,7 +17,7 @@ returns-then-left-eq0-clause-leads g c = λ found first past served settled.
     (λ now later reached.
     let left = rw c.new.ensures at (c.left_of_reply-left.ensures.left later.journey reached) in
     let none : c.left_of_reply-left.result ≡ 0 = omega (arith, c.if-left-eq0.true) in
-    leaves_rest c.in-Waits.is eldest.late (eldest.eldest later.journey reached) (c.is_one_leaving.ensures.none c.if-is_one_leaving.false)
+    leaves_rest c.in-Waits.is eldest.late (owed_eldest g.H.HookHost c.args.self.now.edge c.args.service.now (c.in-Some.k, c.in-Some.place) eldest later.journey reached) (c.is_one_leaving.ensures.none c.if-is_one_leaving.false)
     (subst (λ n. AreLeftOfReply (connection_at later.journey.world.connections c.in-Some.k) n) none left))
     c.leave.ensures.away (ap (λ (s : Service). s.places) c.leave.ensures.rest) (ap (λ (s : Service). s.due) c.leave.ensures.rest) found first past served settled
 
@@ -45,7 +45,7 @@ returns-clause-leads g c = λ found first past served settled.
     let found_at = c.in-Some.ensures.eldest in
     let now = c.args.service.now in
     let reached = (served_answered p first _ served).reached in
-    let eldest = found_at.eldest past.journey reached in
+    let eldest = owed_eldest g.H.HookHost c.args.self.now.edge now (k, place) found_at past.journey reached in
     let left = c.left_of_reply-left.result in
     let is_left = rw c.new.ensures at (c.left_of_reply-left.ensures.left past.journey reached) in
     let some : 0 < left = omega (arith, c.if-left-eq0.false) in
@@ -88,7 +88,7 @@ returns-clause-room g c = λ journey reached waits.
     let now = c.args.service.now in
     let places = now.places in
     let found_at = c.in-Some.ensures.eldest in
-    let eldest = found_at.eldest journey reached in
+    let eldest = owed_eldest g.H.HookHost c.args.self.now.edge now (k, c.in-Some.place) found_at journey reached in
     let left = c.left_of_reply-left.result in
     let place' : Place = record c.in-Some.place { stage = Leaving left; came = now.times.steady } in
     record {
