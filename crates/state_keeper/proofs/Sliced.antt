@@ -183,7 +183,7 @@ waited device old rules was mid new now On keeps way same nearer slice waits = r
   same = front_kept device rules mid new now waits.0 ∙ same;
   nearer = nearer;
   slice = λ true. slice (waits.0.truth true);
-  down = waits.2;
+  down = λ portion. waits.2;
 }
 waited device old rules was mid new now (Placed size) keeps way same nearer slice waits = absurd waits
 waited device old rules was mid new now (Refused fault) keeps way same nearer slice waits =

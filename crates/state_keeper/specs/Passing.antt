@@ -69,6 +69,12 @@ IsDownIn device file (stage.Leaving leaving batch draft) = device.next_on_disk f
 IsDownIn device file (stage.Following draft) = device.next_on_disk file.device ≡ device.next file.device
 IsDownIn device file now = Unit {0}
 
+-- how many bytes of frames stand beside it
+abbrev pub written_in : Stage → ℕ
+written_in (stage.Leaving leaving batch draft) = draft.next.end
+written_in (stage.Following draft) = draft.next.end
+written_in now = 0
+
 -- a file, and how far its shortening has come
 pub record Hand (D : Type 0) : Type 0 where
   pub file : BatchFile D

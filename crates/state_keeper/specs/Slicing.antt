@@ -1,5 +1,5 @@
 -- How a keeper is seen that may have a shortening on the way, and what a slice of it does.
-use Rattle.std.specs.Prelude.{◌≡◌, ◌≢◌, ◌⊎◌, ◌+◌, ◌-◌, ◌*◌, ◌<◌, ℕ, List, Option, None, Some, IsSome}
+use Rattle.std.specs.Prelude.{◌≡◌, ◌≢◌, ◌⊎◌, ◌+◌, ◌-◌, ◌*◌, ◌/◌, ◌^◌, ◌<◌, ℕ, Bool, nat_lt, IsTrue, List, Option, None, Some, IsSome}
 use Rattle.change_codec.specs.Keeping.{HeldMeanwhile, HoldsStill, KeepsBasis, TellsBasis}
 use Rattle.change_codec.specs.declared.keeper.Length.{Length}
 use Rattle.change_codec.specs.declared.keeper.Length.TheVariants.{Short, Long}
@@ -10,7 +10,7 @@ use Rattle.batch_file.specs.Frames.{IsOldOrNew, IsOnDisk, IsReadable}
 use Rattle.state_keeper.specs.Names.{Device, recovered}
 use Rattle.state_keeper.specs.Seen.{GoesOn, IsLongFile, IsSlice, SeenKeeper, ShortensFile, SlicesFile, file_crashes}
 use Rattle.batch_file.specs.declared.appending.BatchFile.{BatchFile}
-use Rattle.state_keeper.specs.Passing.{IsDownIn, IsOnTheWay, IsReady, KeepsFile, front_of, to_go_of}
+use Rattle.state_keeper.specs.Passing.{IsDownIn, IsOnTheWay, IsReady, KeepsFile, front_of, to_go_of, written_in}
 use Rattle.state_keeper.specs.declared.course.Shortening.{Shortening}
 use Rattle.state_keeper.specs.declared.course.Stage.{Stage}
 use Rattle.state_keeper.specs.declared.renewing.Came.{Came}
@@ -105,6 +105,10 @@ pub record Ends {D : Type 0} (device : Device D) (old : BatchFile D) (was : Shor
   pub slice : device.reads_true mid.device → IsSlice (recovered (device.seen old.device)) (to_go_of was old.end) (to_go_of now old.end)
   pub puts : Puts device mid now new came
 
+-- whether a portion of 1 MB more was begun than when so many bytes were written
+abbrev pub is_portion : ℕ → ℕ → Bool
+is_portion before written = nat_lt (before / 2 ^ 20) (written / 2 ^ 20)
+
 -- what comes of a slice
 pub record GoesFurther {D : Type 0} (device : Device D) (old : BatchFile D) (rules : List ℕ) (was : Shortening) (new : BatchFile D) (now : Shortening) : Type 0 where
   pub keeps : KeepsFile device old new
@@ -112,7 +116,7 @@ pub record GoesFurther {D : Type 0} (device : Device D) (old : BatchFile D) (rul
   pub same : front_of device new now ≡ front_of device old was
   pub nearer : to_go_of now old.end < to_go_of was old.end
   pub slice : device.reads_true new.device → IsSlice (recovered (device.seen old.device)) (to_go_of was old.end) (to_go_of now old.end)
-  pub down : IsDownIn device new now.stage
+  pub down : IsTrue (is_portion (written_in was.stage) (written_in now.stage)) → IsDownIn device new now.stage
 
 abbrev pub GoesOver : {D : Type 0} → Device D → BatchFile D → List ℕ → Shortening → BatchFile D → Shortening → Came → Type 0
 GoesOver device old rules was new now On = GoesFurther device old rules was new now

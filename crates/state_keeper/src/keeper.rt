@@ -14,7 +14,7 @@ use std::alloc::Global;
 use std::marker::Model;
 
 /// A horizon is so many seconds ahead of the clock, so that no more than one is written in that time.
-const SPAN: u64 = 10;
+const SPAN: u64 = 60;
 
 /// The greatest moment.
 const LAST: u64 = (1 << 63) - 1;
@@ -57,7 +57,7 @@ impl<D: Device> Model for StateKeeper<D> {
 
 /// The moment of a horizon that is written at a moment.
 fn horizon_at(now: Moment) -> Moment
-    ensures is { result ≡ min (now + 10) (2 ^ 63 - 1) }
+    ensures is { result ≡ min (now + 60) (2 ^ 63 - 1) }
     ensures later { now ≤ result }
     ensures in_range { result < 2 ^ 63 }
 {
@@ -100,7 +100,7 @@ impl<D: Device> StateKeeper<D> {
 }
 
 impl<D: Device> Keeper for StateKeeper<D> {
-    ghost use Rattle.std.specs.Prelude.{◌≡◌, ◌+◌, ◌-◌, ◌^◌, Some, IsSome, min};
+    ghost use Rattle.std.specs.Prelude.{◌≡◌, ◌+◌, ◌-◌, ◌^◌, Some, IsSome, is_some, min};
     ghost use Rattle.std.proofs.Common.{inl};
     ghost use Rattle.state_keeper.specs.Seen.{IsLongFile, MayBe, ShortensFile, SlicesFile};
     ghost use Rattle.state_file.specs.Knowing.{LeftTells};
@@ -129,6 +129,9 @@ impl<D: Device> Keeper for StateKeeper<D> {
     ghost slices = { SlicesFile D.Device };
 
     ghost shortens = { ShortensFile D.Device };
+
+    // Its file was not made longer when that was asked last.
+    ghost wants_room = { λ k. is_some k.file.refused };
 
     ghost only_now = { λ k c left. inl (D.only_now k.file.device c left) };
 
@@ -178,5 +181,9 @@ impl<D: Device> Keeper for StateKeeper<D> {
 
     fn size(&self) -> Option<u64> {
         Some((self.file.end as u64).saturating_add(1))
+    }
+
+    fn wants_room(&self) -> bool {
+        self.file.refused.is_some()
     }
 }

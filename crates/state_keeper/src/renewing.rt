@@ -5,8 +5,8 @@ ghost use Rattle.change_codec.specs.declared.keeper.Length.TheVariants.{Short, L
 ghost use Rattle.change_codec.specs.declared.keeper.ShortenFault.TheVariants.{Failed};
 ghost use Rattle.batch_file.specs.Frames.{IsOnDisk};
 ghost use Rattle.state_file.specs.Knowing.{IsLong};
-ghost use Rattle.state_keeper.specs.Passing.{IsDownIn, IsOnTheWay, IsReady, KeepsFile};
-ghost use Rattle.state_keeper.specs.Slicing.{GivesUp, GoesOver, Puts, Slices, SlicesNot, Waits};
+ghost use Rattle.state_keeper.specs.Passing.{IsDownIn, IsOnTheWay, IsReady, KeepsFile, written_in};
+ghost use Rattle.state_keeper.specs.Slicing.{GivesUp, GoesOver, Puts, Slices, SlicesNot, Waits, is_portion};
 ghost use Rattle.state_keeper.specs.declared.renewing.Came.TheVariants.{Refused};
 
 use crate::course::{Stage, refusal};
@@ -16,6 +16,26 @@ use batch_file::appending::{BatchFault, BatchFile, RenewFault};
 use batch_file::device::Device;
 use change_codec::{Length, ShortenFault};
 use state_file::is_short;
+
+/// So many bytes beside the file are waited for at once.
+const PORTION: usize = 1 << 20;
+
+/// How many bytes of frames stand beside the file.
+fn written(stage: &Stage) -> usize
+    ensures { result ≡ written_in stage.now }
+{
+    match stage {
+        Stage::Leaving(_, _, draft) | Stage::Following(draft) => draft.next.end,
+        _ => 0,
+    }
+}
+
+/// Whether a portion more was begun than when so many bytes were written.
+fn is_portion(before: usize, written: usize) -> bool
+    ensures { result ≡ is_portion before written }
+{
+    before / PORTION < written / PORTION
+}
 
 /// Whether batches that take so many bytes are long, beside what was left when they were shortened.
 fn length_of(end: usize, shortened: usize) -> Length
@@ -95,14 +115,21 @@ fn put<D: Device>(shortening: &Shortening, file: &mut BatchFile<D>) -> Came
     }
 }
 
-/// Goes over a slice, and puts what was written in the place of the file once that is all.
+/// Goes over a slice, waits behind each portion until what was written is on the disk, and puts what was written in the place of the file once that is all.
 fn go_over<D: Device>(shortening: &mut Shortening, file: &mut BatchFile<D>, rules: &[u8]) -> Came
     requires on_disk { IsOnDisk D.seen D.may_leave D.faults file.old }
     requires begun { IsOnTheWay D.Device file.old rules.now shortening.old }
     ensures { GoesOver D.Device file.old rules.now shortening.old file.new shortening.new result }
 {
+    let before = written(&shortening.stage);
     match go_on(shortening, file, rules) {
-        Ok(Step::On) => wait(&shortening.stage, file),
+        Ok(Step::On) => {
+            if is_portion(before, written(&shortening.stage)) {
+                wait(&shortening.stage, file)
+            } else {
+                Came::On
+            }
+        }
         Ok(Step::Ready) => put(shortening, file),
         Err(fault) => give_up(file, fault),
     }
