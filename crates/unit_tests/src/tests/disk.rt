@@ -1,6 +1,7 @@
 //! A file of batches over files without a system: which calls are made of them, and in which order.
 
 ghost use Rattle.std.specs.Prelude.{◌≡◌, IfOk};
+ghost use Rattle.batch_file.specs.Frames.{IsOnDisk};
 
 use batch_file::appending::BatchFile;
 use batch_file::device::{Device, ReplaceFault};
@@ -25,7 +26,9 @@ struct Calls {
     successes: Cell<usize>,
     /// Where zeros end that were written just now.
     zeros: Cell<u64>,
-    /// There is no room for more.
+    /// Zeros have no room beyond it.
+    most: Cell<u64>,
+    /// Whether it says so: else it fails there.
     is_full: Cell<bool>,
 }
 
@@ -152,7 +155,7 @@ impl FileExt for Open<'_> {
 }
 
 impl Open<'_> {
-    /// Notes zeros, or refuses them where there is no room.
+    /// Notes zeros, or refuses them where they would reach too far.
     fn write_zeros(&self, size: usize, offset: u64) -> io::Result<usize>
         ensures { IfOk result (λ count. count ≡ size) }
     {
@@ -161,10 +164,12 @@ impl Open<'_> {
             let call = format!(in self.machine.alloc; "zeros from {offset}")?;
             self.machine.note(&call, &self.path, b"")?;
         }
-        if calls.is_full.get() {
-            return Err(io::Error::from_raw_os_error(28));
+        let end = offset.saturating_add(size as u64);
+        if end > calls.most.get() {
+            let number = if calls.is_full.get() { 28 } else { 5 };
+            return Err(io::Error::from_raw_os_error(number));
         }
-        calls.zeros.set(offset.saturating_add(size as u64));
+        calls.zeros.set(end);
         Ok(size)
     }
 }
@@ -241,7 +246,8 @@ enum Call {
     Open,
     Append,
     AppendMore,
-    AppendNoMore,
+    AppendWithin(u64),
+    AppendBroken,
     Read,
     Replace,
     PutNext,
@@ -287,6 +293,21 @@ fn begin_anew(calls: &Calls, successes: usize) {
     calls.successes.set(successes);
 }
 
+/// Adds a batch, over a disk that takes no zeros beyond that place, and says that it has no room for them, or else fails.
+fn append_within<D: Device>(
+    alloc: Global,
+    file: &mut BatchFile<D>,
+    calls: &Calls,
+    most: u64,
+    is_full: bool,
+) -> Result<String, AllocError>
+    requires { IsOnDisk D.seen D.may_leave D.faults file.old }
+{
+    calls.most.set(most);
+    calls.is_full.set(is_full);
+    told(alloc, file.append(alloc, b"abc"))
+}
+
 /// Opens a file. For another call it then reads it to its end, puts one in its place, of a batch where that is to be read, else of
 /// none, and does that, over a disk that refuses a sync or a read once so many have succeeded. It gives how the call ended.
 fn ended(machine: Machine<'_>, call: Call, successes: usize) -> Result<String, Fail> {
@@ -320,13 +341,10 @@ fn ended(machine: Machine<'_>, call: Call, successes: usize) -> Result<String, F
                 return Err(Fail::from("no batch is added"));
             };
             begin_anew(calls, successes);
-            calls.is_full.set(true);
-            told(alloc, file.append(alloc, b"abc"))?
+            append_within(alloc, &mut file, calls, 0, true)?
         }
-        Call::AppendNoMore => {
-            calls.is_full.set(true);
-            told(alloc, file.append(alloc, b"abc"))?
-        }
+        Call::AppendWithin(most) => append_within(alloc, &mut file, calls, most, true)?,
+        Call::AppendBroken => append_within(alloc, &mut file, calls, 0, false)?,
         Call::Read => told_bytes(alloc, file.read_batch(alloc, 16))?,
         Call::Replace => told(alloc, file.replace(Frames::new(alloc)?))?,
         Call::PutNext => told(alloc, put_next(&mut file.device))?,
@@ -348,10 +366,26 @@ const APPENDED: [&str; 5] = [
     "sync_data state.next",
 ];
 
-/// What was written of the zeros is cut off again, and that is on the disk, before it is told that there is no room.
-const NO_ROOM: [&str; 3] = [
+/// What was written of the zeros is cut off again, and that is on the disk. Then as many are tried as the batch needs, before it is
+/// told that there is no room.
+const NO_ROOM: [&str; 6] = [
     "zeros from 17 state.next",
     "cut to 17 state.next",
+    "sync_data state.next",
+    "zeros from 17 state.next",
+    "cut to 17 state.next",
+    "sync_data state.next",
+];
+
+/// Where these have room, the batch is written over them.
+const JUST_ROOM: [&str; 8] = [
+    "zeros from 17 state.next",
+    "cut to 17 state.next",
+    "sync_data state.next",
+    "zeros from 17 state.next",
+    "zeros to 56 state.next",
+    "sync_data state.next",
+    "write at 16 state.next ff0000000355704a4f5f04acab6036b0847d662aba616263",
     "sync_data state.next",
 ];
 
@@ -426,16 +460,20 @@ const UNMADE: &str = "remove other\nMake(InputOutput)";
 #[test]
 fn what_is_acknowledged_is_on_the_disk(rt: HostRuntime) -> Result<(), Fail> {
     let alloc = rt.alloc();
-    let cases: [(Call, usize, &[&str], &str); 28] = [
+    let cases: [(Call, usize, &[&str], &str); 32] = [
         (Call::Open, 9, &OPENED, "done"),
         (Call::Append, 9, &APPENDED, "done"),
         (Call::Append, 0, &APPENDED[..3], FAILED),
         (Call::Append, 1, &APPENDED, FAILED),
         (Call::AppendMore, 9, &MORE, "done"),
         (Call::AppendMore, 0, &MORE, FAILED),
-        (Call::AppendNoMore, 9, &NO_ROOM, "NoRoom(StorageFull)"),
-        (Call::AppendNoMore, 0, &NO_ROOM[..2], FAILED),
-        (Call::AppendNoMore, 1, &NO_ROOM, FAILED),
+        (Call::AppendWithin(55), 9, &NO_ROOM, "NoRoom(StorageFull)"),
+        (Call::AppendWithin(55), 0, &NO_ROOM[..2], FAILED),
+        (Call::AppendWithin(55), 1, &NO_ROOM[..3], FAILED),
+        (Call::AppendWithin(55), 3, &NO_ROOM, FAILED),
+        (Call::AppendWithin(56), 9, &JUST_ROOM, "done"),
+        (Call::AppendWithin(56), 2, &JUST_ROOM[..6], FAILED),
+        (Call::AppendBroken, 9, &NO_ROOM[..1], FAILED),
         (Call::Read, 9, &READ, "616263"),
         (Call::Read, 0, &READ[..1], FAILED),
         (Call::Read, 1, &READ, FAILED),
@@ -461,7 +499,8 @@ fn what_is_acknowledged_is_on_the_disk(rt: HostRuntime) -> Result<(), Fail> {
             rows: RefCell::new(String::new(alloc)),
             successes: Cell::new(9),
             zeros: Cell::new(0),
-            is_full: Cell::new(false),
+            most: Cell::new(u64::MAX),
+            is_full: Cell::new(true),
         };
         let machine = Machine {
             alloc,

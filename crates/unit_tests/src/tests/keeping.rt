@@ -15,6 +15,14 @@ use std::test::Fail;
 const ASKS: &str =
     "POST /token HTTP/1.1\r\nContent-Length: 61\r\n\r\ngrant_type=client_credentials&client_id=bot&client_secret=b0t";
 
+/// It keeps nine batches, and has nothing to shorten.
+const PATIENT: Ways = Ways {
+    most: 9,
+    slices: 0,
+    is_refusing: false,
+    pressed_until: 0,
+};
+
 /// It changes nothing.
 const STRAYS: &str = "GET /x HTTP/1.1\r\n\r\n";
 
@@ -104,6 +112,9 @@ struct Patient<'t> {
     slices: usize,
     /// Whether it refuses them.
     is_refusing: bool,
+    /// Before it keeps so many batches, its disk refuses room behind each.
+    pressed_until: usize,
+    is_pressed: bool,
     has_failed: bool,
 }
 
@@ -132,6 +143,8 @@ impl Keeper for Patient<'_> {
 
     ghost shortens = { λ _ _. ⊥ };
 
+    ghost wants_room = { λ keeper. keeper.is_pressed };
+
     fn keep_moment(&mut self, _now: Moment) -> Result<(), KeepFault> {
         if self.has_failed {
             return Err(KeepFault::Failed);
@@ -152,6 +165,7 @@ impl Keeper for Patient<'_> {
             return Err(KeepFault::Failed);
         };
         self.kept.set(self.changes.len());
+        self.is_pressed = self.changes.len() < self.pressed_until;
         self.has_failed = false;
         Ok(())
     }
@@ -179,10 +193,24 @@ impl Keeper for Patient<'_> {
         None
     }
 
+    fn wants_room(&self) -> bool {
+        self.is_pressed
+    }
+
     ghost only_now = { λ keeper c left. left };
 }
 
-/// What came of the requests, where so many batches can be kept.
+/// How many batches can be kept, how many slices are to be gone over, whether that is refused, and before how many batches the disk
+/// refuses room.
+#[derive(Clone, Copy)]
+struct Ways {
+    most: usize,
+    slices: usize,
+    is_refusing: bool,
+    pressed_until: usize,
+}
+
+/// What came of the requests.
 #[derive(Drop)]
 struct Outcome {
     fault: LoopFault,
@@ -191,17 +219,11 @@ struct Outcome {
     moments: usize,
     asked: usize,
     slices: usize,
-    refusals: u64,
+    journal: Count,
 }
 
-/// Where so many slices are to be gone over, and the keeper refuses that or not.
-fn outcome_of(
-    alloc: Global,
-    requests: &[&str],
-    most: usize,
-    slices: usize,
-    is_refusing: bool,
-) -> Result<Outcome, ConfigFault> {
+/// What comes of requests.
+fn outcome_of(alloc: Global, requests: &[&str], ways: Ways) -> Result<Outcome, ConfigFault> {
     let kept = Cell::new(0);
     let asked = Cell::new(0);
     let mut tools = Tools {
@@ -215,20 +237,18 @@ fn outcome_of(
         edge: edge_that_notes(alloc, true)?,
         clocks: Ticking { steady: 0 },
         generator: ChaCha20Rng::from_seed([0; 32]),
-        journal: Count {
-            reports: 0,
-            last: None,
-            refusals: 0,
-        },
+        journal: Count::new(),
         keeper: Patient {
             alloc,
-            most,
+            most: ways.most,
             kept: &kept,
             changes: Vec::new(alloc),
             moments: 0,
             asked: &asked,
-            slices,
-            is_refusing,
+            slices: ways.slices,
+            is_refusing: ways.is_refusing,
+            pressed_until: ways.pressed_until,
+            is_pressed: false,
             has_failed: false,
         },
     };
@@ -240,7 +260,7 @@ fn outcome_of(
         moments: tools.keeper.moments,
         asked: asked.get(),
         slices: tools.keeper.slices,
-        refusals: tools.journal.refusals,
+        journal: tools.journal,
     })
 }
 
@@ -254,7 +274,8 @@ fn what_changes_is_kept_before_the_reply(rt: HostRuntime) -> Result<(), Fail> {
         (0, LoopFault::Keep, &[], &[], (2, 2)),
     ];
     for (most, fault, writes, changes, (asked, moments)) in rows {
-        let outcome = outcome_of(rt.alloc(), &[ASKS, STRAYS, ASKS], most, 0, false)?;
+        let ways = Ways { most, ..PATIENT };
+        let outcome = outcome_of(rt.alloc(), &[ASKS, STRAYS, ASKS], ways)?;
         assert_eq!(rt; outcome.fault, fault, "most {most}");
         assert_eq!(rt; outcome.writes.as_slice(), writes, "most {most}");
         assert_eq!(rt; outcome.changes.as_slice(), changes, "most {most}");
@@ -270,7 +291,8 @@ fn what_is_kept_is_shortened_while_requests_are_answered(rt: HostRuntime) -> Res
     let writes: &[usize] = &[1, 1, 2];
     let rows: [(usize, usize); 2] = [(3, 0), (7, 2)];
     for (slices, left) in rows {
-        let outcome = outcome_of(rt.alloc(), &[ASKS, STRAYS, ASKS], 9, slices, false)?;
+        let ways = Ways { slices, ..PATIENT };
+        let outcome = outcome_of(rt.alloc(), &[ASKS, STRAYS, ASKS], ways)?;
         assert_eq!(rt; outcome.writes.as_slice(), writes, "slices {slices}");
         assert_eq!(rt; outcome.asked, 5, "slices {slices}");
         assert_eq!(rt; outcome.slices, left, "slices {slices}");
@@ -280,10 +302,33 @@ fn what_is_kept_is_shortened_while_requests_are_answered(rt: HostRuntime) -> Res
 
 #[test]
 fn a_refusal_to_shorten_is_tried_each_minute_and_told_once(rt: HostRuntime) -> Result<(), Fail> {
-    let outcome = outcome_of(rt.alloc(), &[STRAYS; 200], 9, 1, true)?;
+    let ways = Ways {
+        slices: 1,
+        is_refusing: true,
+        ..PATIENT
+    };
+    let outcome = outcome_of(rt.alloc(), &[STRAYS; 200], ways)?;
     assert_eq!(rt; outcome.fault, LoopFault::Wait);
     // In the seconds 1, 61, 121 and 181.
     assert_eq!(rt; outcome.asked, 4);
-    assert_eq!(rt; outcome.refusals, 1);
+    assert_eq!(rt; outcome.journal.refusals, 1);
+    Ok(())
+}
+
+#[test]
+fn a_disk_without_room_is_told_once_and_once_there_is_some(rt: HostRuntime) -> Result<(), Fail> {
+    // Each batch but the strays' is one of these requests.
+    let rows: [(usize, u64, u64); 4] = [(0, 0, 0), (1, 0, 0), (3, 1, 1), (9, 1, 0)];
+    for (pressed_until, wants, has_room) in rows {
+        let ways = Ways {
+            pressed_until,
+            ..PATIENT
+        };
+        let requests = [ASKS, STRAYS, ASKS, STRAYS, ASKS, STRAYS];
+        let outcome = outcome_of(rt.alloc(), &requests, ways)?;
+        assert_eq!(rt; outcome.changes.len(), 3, "until {pressed_until}");
+        assert_eq!(rt; outcome.journal.wants, wants, "until {pressed_until}");
+        assert_eq!(rt; outcome.journal.has_room, has_room, "until {pressed_until}");
+    }
     Ok(())
 }

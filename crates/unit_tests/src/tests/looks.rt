@@ -94,11 +94,7 @@ fn a_request_that_comes_meanwhile_is_kept_with_the_first(rt: HostRuntime) -> Res
         edge: edge_that_notes(rt.alloc(), true)?,
         clocks: Ticking { steady: 0 },
         generator: ChaCha20Rng::from_seed([0; 32]),
-        journal: Count {
-            reports: 0,
-            last: None,
-            refusals: 0,
-        },
+        journal: Count::new(),
         keeper: NoKeeper,
     };
     assert_eq!(rt; serve_all(&mut tools, limits(None)), LoopFault::Wait);

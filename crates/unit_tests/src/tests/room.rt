@@ -148,11 +148,7 @@ fn serve_crowd(alloc: Global, most: usize) -> Result<(Crowd, LoopFault), ConfigF
         edge: edge_that_notes(alloc, false)?,
         clocks: Ticking { steady: 0 },
         generator: ChaCha20Rng::from_seed([0; 32]),
-        journal: Count {
-            reports: 0,
-            last: None,
-            refusals: 0,
-        },
+        journal: Count::new(),
         keeper: NoKeeper,
     };
     let limits = Limits {

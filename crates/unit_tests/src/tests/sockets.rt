@@ -284,12 +284,28 @@ impl Clocks for Ticking {
     }
 }
 
-/// How many reports were told, and the last one, and how often that shortening is refused.
+/// How many reports were told, and the last one, how often that shortening is refused, and that what is kept wants room, or no
+/// longer does.
 #[derive(Drop)]
 pub(super) struct Count {
     pub(super) reports: u64,
     pub(super) last: Option<Report>,
     pub(super) refusals: u64,
+    pub(super) wants: u64,
+    pub(super) has_room: u64,
+}
+
+impl Count {
+    /// Nothing was told yet.
+    pub(super) fn new() -> Count {
+        Count {
+            reports: 0,
+            last: None,
+            refusals: 0,
+            wants: 0,
+            has_room: 0,
+        }
+    }
 }
 
 impl Journal for Count {
@@ -308,6 +324,13 @@ impl Journal for Count {
                 self.last = Some(*report);
             }
             Notice::ShorteningRefused => self.refusals = self.refusals.saturating_add(1),
+            Notice::WantsRoom(wants) => {
+                if *wants {
+                    self.wants = self.wants.saturating_add(1);
+                } else {
+                    self.has_room = self.has_room.saturating_add(1);
+                }
+            }
             _ => {}
         }
     }
@@ -351,11 +374,7 @@ fn ended(alloc: Global, seed: u8, failures: Option<u32>) -> Result<Run, ConfigFa
         edge: edge_that_notes(alloc, false)?,
         clocks: Ticking { steady: 0 },
         generator: ChaCha20Rng::from_seed([0; 32]),
-        journal: Count {
-            reports: 0,
-            last: None,
-            refusals: 0,
-        },
+        journal: Count::new(),
         keeper: NoKeeper,
     };
     let fault = serve_all(&mut tools, limits(Some(5)));
