@@ -2,7 +2,7 @@
 """A login and a consent page for oauthd, behind nginx, of Python's standard library alone.
 
     login.py serve CONFIG KEPT    serves; CONFIG is as login.json, KEPT the file of what owners have allowed
-    login.py password             reads a password from its input, and prints what CONFIG has of it
+    login.py password             reads a password, unseen where it is typed, and prints what CONFIG has of it
     login.py passwords CONFIG     gives each user of CONFIG a new password, and prints them: a line NAME PASSWORD each
 
 nginx passes /login on, and asks /owner itself before each /authorize (deploy/nginx/oauthd.conf). The answer of /owner:
@@ -13,13 +13,16 @@ nginx passes /login on, and asks /owner itself before each /authorize (deploy/ng
 
 So an owner's key goes from here to nginx and to oauthd, and never to a browser. A session is a cookie that is signed with
 the key in KEPT.key, so it outlives a restart; it ends after eight hours, when its user signs out, which KEPT.ended tells, and
-when the user gets another password or goes. What owners have allowed is kept in KEPT, and told to oauthd again whenever it
+when the user gets another password or goes. A password that a user chose is kept in KEPT.passwords, and counts until CONFIG has
+another one of that user than then. What owners have allowed is kept in KEPT, and told to oauthd again whenever it
 counts, for oauthd may have forgotten it. A user who denies changes nothing at oauthd: the client hears access_denied, once.
 
 A user of CONFIG with an owner_key is the owner of that key. For one without, CONFIG has the gateway_key of oauthd's registry,
 and the owner's number is drawn here, once, and kept in KEPT.numbers: such users come and go without an edit of the registry.
 """
 import base64
+import concurrent.futures
+import getpass
 import hashlib
 import hmac
 import html
@@ -38,6 +41,7 @@ SESSION_LIFE = 8 * 3600     # in seconds
 DENIALS = 10000             # of more, the oldest is forgotten: its user is asked again
 TRIES_OF_USER = (10, 30)    # wrong passwords for one user from one address: so many at once, then one in so many seconds
 TRIES = (100, 2)            # and for all users from it
+LEAST_PASSWORD = 12         # characters of one that a user chooses
 LEAST_NUMBER = 65537        # of an owner; those below are places in oauthd's registry
 MOST_NUMBER = 4294967295
 HEADERS = (
@@ -84,8 +88,9 @@ def renew(config_file):
     with open(config_file, encoding="utf-8") as file:
         config = json.load(file)
     drawn = {name: secrets.token_urlsafe(12) for name in config["users"]}
-    for name, password in drawn.items():
-        config["users"][name]["password"] = kept_form(password)
+    with concurrent.futures.ThreadPoolExecutor(4) as pool:
+        for user, form in zip(config["users"].values(), pool.map(kept_form, drawn.values())):
+            user["password"] = form
     with open(config_file, "w", encoding="utf-8") as file:
         json.dump(config, file, indent=2, ensure_ascii=False)
     for name, password in drawn.items():
@@ -161,6 +166,7 @@ class Login:
         self.kept = self.read(kept_file)
         self.ended = self.read(kept_file + ".ended")    # the sessions that were left, and until when they would have lasted
         self.numbers = self.read(kept_file + ".numbers")        # of owners, by their users' names
+        self.chosen = self.read(kept_file + ".passwords")       # by users' names: what CONFIG had of the password then, and what counts
 
     def read(self, path):
         try:
@@ -189,7 +195,7 @@ class Login:
 
     def signature(self, user, ends, number):
         """Of a session. Another password of its user gives another one."""
-        told = json.dumps([user, ends, number, self.users[user]["password"]])
+        told = json.dumps([user, ends, number, self.form_of(user)])
         return hmac.new(self.key, b"session " + told.encode(), "sha256").hexdigest()
 
     def begin(self, user):
@@ -244,9 +250,24 @@ class Login:
         self.tries_of_user.give_back((user, address))
         return False
 
+    def form_of(self, user):
+        """What is kept of the user's password."""
+        listed = self.users.get(user, {}).get("password", self.nobody)
+        then, chosen = self.chosen.get(user, (listed, listed))
+        return chosen if then == listed else listed
+
+    def choose(self, user, password):
+        """The user's password is this one from now on."""
+        with self.at_once:
+            form = kept_form(password)
+        with self.kept_lock:
+            chosen = {**self.chosen, user: (self.users[user]["password"], form)}
+            write_whole(self.kept_file + ".passwords", json.dumps(chosen).encode())
+            self.chosen = chosen
+
     def entered(self, user, password, address):
         """Is this the user's password? Takes as long for users that there are not."""
-        form = self.users.get(user, {}).get("password", self.nobody)
+        form = self.form_of(user)
         with self.at_once:
             right = matches(password, form) and user in self.users
         if right:
@@ -417,7 +438,13 @@ class Handler(http.server.BaseHTTPRequestHandler):
                 f'<p>{html.escape(login.clients.get(client, {}).get("name", client))}: {html.escape(", ".join(scopes))} '
                 f'<input type="hidden" name="client" value="{html.escape(client)}">'
                 '<button name="do" value="withdraw">Withdraw</button></p>')) for client, scopes in list(kept.items()) if scopes)
-            return self.page("What you have allowed", (rows or "<p>Nothing.</p>") + leave)
+            change = self.form(name, "", (
+                (f'<p class="wrong">{wrong}</p>' if wrong else "") +
+                '<p><label>Your password <input name="password" type="password" autocomplete="current-password"></label>'
+                '<label>A new one <input name="new" type="password" autocomplete="new-password"></label>'
+                '<label>The new one again <input name="again" type="password" autocomplete="new-password"></label>'
+                '<button name="do" value="change">Change it</button></p>'))
+            return self.page("What you have allowed", (rows or "<p>Nothing.</p>") + change + leave, 403 if wrong else 200)
         asked = login.asked(back)
         if asked is None:
             return self.send(back)                  # oauthd says what is wrong with it
@@ -427,6 +454,24 @@ class Handler(http.server.BaseHTTPRequestHandler):
             f"<p><b>{html.escape(login.clients[client]['name'])}</b> wants to:</p><ul>{listed}</ul>"
             f"<p>You then go back to {html.escape(to)}.</p>"
             '<button name="do" value="allow">Allow</button><button name="do" value="deny">Deny</button>')) + leave)
+
+    def enter(self, form, name, session, back):
+        """Signs a user in, by name and password; or changes the password of the one who is, by that of before."""
+        login, changes = self.server.login, form["do"] == "change"
+        user = session.user if changes else form.get("user", "")
+        address = self.headers.get("X-Address", "")             # nginx's word
+        if not login.may_try(user, address):
+            return self.page("Too many tries", "<p>Wait for a minute, and try again.</p>", 429)
+        if not login.entered(user, form.get("password", ""), address):
+            wrong = "This is not your password." if changes else "Name and password do not belong together."
+            return self.show(session if changes else None, name, back, wrong)
+        if changes:
+            new = form.get("new", "")
+            if len(new) < LEAST_PASSWORD or new != form.get("again"):
+                return self.show(session, name, "", f"A new password has {LEAST_PASSWORD} characters or more, twice the same.")
+            login.choose(user, new)                 # no session of before is one any more
+        login.end(name)                             # and a new name: nobody else can have set it
+        self.send(back or "/login", self.cookie(login.begin(user)))
 
     def do_POST(self):
         login = self.server.login
@@ -443,15 +488,8 @@ class Handler(http.server.BaseHTTPRequestHandler):
             return self.page("Again, please", '<p>This page was too old. <a href="' + html.escape(
                 "/login?back=" + back if back else "/login") + '">Go on</a></p>', 403)
         do = form.get("do", "")
-        if do == "enter":
-            user = form.get("user", "")
-            address = self.headers.get("X-Address", "")         # nginx's word
-            if not login.may_try(user, address):
-                return self.page("Too many tries", "<p>Wait for a minute, and try again.</p>", 429)
-            if not login.entered(user, form.get("password", ""), address):
-                return self.show(None, name, back, "Name and password do not belong together.")
-            login.end(name)                         # and a new name: nobody else can have set it
-            return self.send(back or "/login", self.cookie(login.begin(user)))
+        if do == "enter" or do == "change" and session:
+            return self.enter(form, name, session, back)
         if session is None:
             return self.show(None, name, back)
         if do == "leave":
@@ -481,7 +519,7 @@ class Server(http.server.ThreadingHTTPServer):
 
 def main(words):
     if words == ["password"]:
-        print(kept_form(sys.stdin.readline().rstrip("\n")))
+        print(kept_form(getpass.getpass() if sys.stdin.isatty() else sys.stdin.readline().rstrip("\n")))
     elif len(words) == 2 and words[0] == "passwords":
         renew(words[1])
     elif len(words) == 3 and words[0] == "serve":
