@@ -157,8 +157,8 @@ class Client:
 
     def faults(self):
         """What the server answers otherwise than it acknowledged, of what is remembered; and forgets what is older. A grant
-        that began half a life ago is not asked for: its tokens may have expired."""
-        self.grants = [grant for grant in self.grants if time.monotonic() - grant["since"] < LIFE / 2]
+        that began a quarter of a life ago is not asked for: behind a restart the server may be a minute ahead, and its tokens expired."""
+        self.grants = [grant for grant in self.grants if time.monotonic() - grant["since"] < LIFE / 4]
         live = [it for grant in self.grants for it in [grant["refresh"], *grant["access"]]]
         dead = [it for grant in self.ended for it in [grant["refresh"], *grant["access"]]] + self.used
         told = [f"lost {it}" for it in live if not self.is_active(it)] + [f"revived {it}" for it in dead if self.is_active(it)]

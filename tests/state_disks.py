@@ -15,6 +15,8 @@ from state_trials import bytes_of, is_named
 
 # It is told once that the file cannot be shortened.
 LONG = "oauthd: state: the file cannot be shortened; it grows until that works"
+# Once that it wants room, while what was reserved serves.
+FULL = "oauthd: state: no room on the disk; what was reserved serves until it is used up"
 # It ends where there is no room for one batch more.
 NO_ROOM = "oauthd: stopped: State: NoRoom: no storage space"
 # In so many seconds a server that nobody asks has gone over a file of a megabyte.
@@ -150,15 +152,15 @@ def gets_short(trials, what, path, size):
 
 
 def tries_a_full_disk(trials, _):
-    """On a full disk the zeros serve that were written ahead; then the server stops, says so, and what it acknowledged is there once there
-    is room."""
+    """On a full disk the zeros serve that were written ahead, of which it tells once; then the server stops, says so, and what it
+    acknowledged is there once there is room."""
     with disk_of(trials, "1100k") as disk:
         path = trials.make(f"{disk}/state")
         begun, client = trials.served("a small disk", path)
         consents(client, "read")
         grows_to(client, path, 900000)
         status, told = until_it_stops(begun, client)
-        if status != 2 or told[-1:] != [NO_ROOM] or told[:-1] not in ([], [LONG]):
+        if status != 2 or told[-1:] != [NO_ROOM] or sorted(told[:-1]) not in ([FULL], [FULL, LONG]):
             trials.wrong("a full disk", f"status {status}, {told}")
         full = bytes_of(path)
         if len(full) - size_of(full) > 500:
@@ -168,6 +170,23 @@ def tries_a_full_disk(trials, _):
             trials.wrong("a start on a full disk", f"something was written: {os.listdir(disk)}")
         resize(disk, "4m")
         asks_again(trials, "a disk that was full", path, client)
+
+
+def tries_less_room_than_zeros(trials, _):
+    """Where less than a megabyte is free, the file grows by what a batch needs, until the disk is full."""
+    with disk_of(trials, "600k") as disk:
+        path = trials.make(f"{disk}/state")
+        begun, client = trials.served("a disk of less than a megabyte", path)
+        consents(client, "read")
+        grows_to(client, path, 400000)
+        status, told = until_it_stops(begun, client)
+        if status != 2 or told[-1:] != [NO_ROOM]:
+            trials.wrong("less room than zeros", f"status {status}, {told}")
+        full = bytes_of(path)
+        if size_of(full) < 500000 or len(full) - size_of(full) > 500:
+            trials.wrong("less room than zeros", f"{size_of(full)} bytes, and {len(full) - size_of(full)} behind them did not serve")
+        resize(disk, "4m")
+        asks_again(trials, "a disk of less than a megabyte that was full", path, client)
 
 
 def tries_no_room_to_shorten(trials, _):
@@ -180,7 +199,7 @@ def tries_no_room_to_shorten(trials, _):
             installs(client, f"kept-{number}")
         grows_to(client, path, 2000000)
         status, told = until_it_stops(begun, client)
-        if status != 2 or told != [LONG, NO_ROOM]:
+        if status != 2 or told[-1:] != [NO_ROOM] or sorted(told[:-1]) != [FULL, LONG]:
             trials.wrong("no room to shorten", f"status {status}, {told}")
         if size_of(bytes_of(path)) < 2000000 or os.path.exists(f"{path}.next"):
             trials.wrong("no room to shorten", f"{size_of(bytes_of(path))} bytes; {os.listdir(disk)}")
@@ -218,4 +237,5 @@ def all_trials():
     if os.geteuid() != 0:
         print("full disks and mounts were not tried: that wants root")
         return [tries_a_long_round, tries_copies]
-    return [tries_a_long_round, tries_copies, tries_a_full_disk, tries_no_room_to_shorten, tries_a_file_mounted_by_itself]
+    full = [tries_a_full_disk, tries_less_room_than_zeros, tries_no_room_to_shorten]
+    return [tries_a_long_round, tries_copies, *full, tries_a_file_mounted_by_itself]

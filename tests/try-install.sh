@@ -69,6 +69,40 @@ check guesses '[19]* 403 [23] 429' "$(for _ in $(seq 12); do signed_in ann guess
 check guesses-of-another-one 303 "$(signed_in bob "$(password_of bob)")"
 check passwords-are-root-s '600 root' "$(stat -c '%a %U' /root/oauthd-passwords)"
 
+# 60 users sign in at once, from an address of their own: the login keeps far below its MemoryMax
+python3 - <<'PY'
+import json
+path = "/etc/oauthd-login/login.json"
+config = json.load(open(path))
+for number in range(60): config["users"][f"user{number}"] = {"password": config["users"]["bob"]["password"]}
+json.dump(config, open(path, "w"))
+PY
+cat >/run/rush.py <<'PY'
+import collections, http.client, re, ssl, sys, threading, urllib.parse
+context = ssl.create_default_context(cafile="/etc/ssl/certs/auth.example.pem")
+seen = collections.Counter()
+begin = threading.Barrier(60)
+def enter(number):
+    connection = http.client.HTTPSConnection("auth.example", context=context, source_address=("127.0.0.4", 0))
+    connection.request("GET", "/login")
+    reply = connection.getresponse()
+    token = re.search('name="token" value="([0-9a-f]*)"', reply.read().decode())[1]
+    cookie = reply.getheader("Set-Cookie").split(";")[0]
+    form = {"do": "enter", "user": f"user{number}", "password": sys.argv[1], "token": token}
+    begin.wait()
+    connection.request("POST", "/login", urllib.parse.urlencode(form), {"Cookie": cookie, "Content-Type": "application/x-www-form-urlencoded"})
+    seen[connection.getresponse().status] += 1
+threads = [threading.Thread(target=enter, args=(number,)) for number in range(60)]
+for thread in threads: thread.start()
+for thread in threads: thread.join()
+print(*(f"{seen[status]} times {status}" for status in sorted(seen)))
+PY
+systemctl restart oauthd-login
+awaits 10 takes_connections 9000
+check 60-sign-in '60 times 303' "$(python3 /run/rush.py "$(password_of bob)")"
+check memory-of-the-login 'below 128 MB' "$(awk '/^VmHWM/ { print ($2 < 131072 ? "below 128 MB" : $2) }' \
+    /proc/"$(systemctl show -p MainPID --value oauthd-login)"/status)"
+
 # Many connections at once: each is answered
 cat >/run/many.py <<'PY'
 import base64, collections, http.client, ssl, sys, threading
@@ -131,6 +165,7 @@ check backup-is-root-s '600 root' "$(stat -c '%a %U' /var/backups/oauthd/state)"
 
 # The folder of hooks: another file takes the place of a hook, a hook without a file is named, a refused one keeps nginx closed
 said() { journalctl --no-pager -o cat -u oauthd | grep -cF -- "$1"; }
+is_said() { [ "$(said "$1")" -gt 0 ]; }
 install_hook() { printf "$1" | install -m 640 -g oauthd /dev/stdin "/etc/oauthd/hooks/$2"; }
 deny='\xb7\0\0\0\0\0\0\0\x95\0\0\0\0\0\0\0'
 mv /etc/oauthd/hooks/10.capped.bin /run/capped
@@ -148,37 +183,34 @@ curl -s -o /dev/null -H @/etc/oauthd/operator -d name=denied http://127.0.0.1:80
 install_hook 'no hook at all' 10.faulty.bin
 systemctl restart oauthd 2>/dev/null
 check refused-hook 503 "$(status -u "$bot" -d grant_type=client_credentials $auth/token)"
-awaits 40 systemctl is-failed -q oauthd
+awaits 40 is_said 'the hook of /etc/oauthd/hooks/10.faulty.bin is refused'
 check refused-hook-is-named '[1-9]*' "$(said 'the hook of /etc/oauthd/hooks/10.faulty.bin is refused')"
 rm /etc/oauthd/hooks/10.faulty.bin
 install_hook "$deny" 10.denied.hex
-systemctl reset-failed oauthd
 systemctl restart oauthd 2>/dev/null
-awaits 40 systemctl is-failed -q oauthd
+awaits 40 is_said 'hooks/10.denied.hex is refused'
 check file-that-is-no-bin '[1-9]* 503' "$(said 'hooks/10.denied.hex is refused') $(status -u "$bot" -d grant_type=client_credentials $auth/token)"
 rm /etc/oauthd/hooks/10.denied.hex
-check too-many-starts 1 "$(systemctl start oauthd 2>/dev/null; echo $?)"
-systemctl reset-failed oauthd
-systemctl start oauthd
+check starts-without-end 0 "$(systemctl show -P StartLimitIntervalUSec oauthd)"
+systemctl restart oauthd
 check started-again '{"hooks":\["capped"\]}' "$(hooks)"
 systemctl stop oauthd
 
 # The state file: one that is gone is not made anew, one of another group is refused, and each is named
 state=/var/lib/oauthd/state
 not_started() {
-    systemctl reset-failed oauthd
     systemctl start oauthd 2>/dev/null
-    awaits 40 systemctl is-failed -q oauthd || differs 'never failed'
+    awaits 40 is_said "$1" || differs 'never said'
+    systemctl stop oauthd
 }
 mv $state /run/state
-not_started
+not_started "State Missing: $state"
 check no-state-file '[1-9]* 0' "$(said "State Missing: $state") $(find $state 2>/dev/null | wc -l)"
 mv /run/state $state
 chgrp root $state
-not_started
+not_started "State Device: permission denied: $state"
 check state-file-of-another-group '[1-9]* root' "$(said "State Device: permission denied: $state") $(stat -c %G $state)"
 chgrp oauthd $state
-systemctl reset-failed oauthd
 systemctl start oauthd
 check started-on-its-own '{"hooks":\["capped"\]}' "$(hooks)"
 check state-file-s-owner '600 oauthd oauthd' "$(stat -c '%a %U %G' $state)"
@@ -257,5 +289,5 @@ print("\n".join([registry["operator"], *registry["owners"], *(client["secret"] f
 PY
 cut -d ' ' -f 2 /root/oauthd-passwords)
 check secrets-in-logs 0 "$( (journalctl --no-pager; cat /var/log/nginx/*) | grep -cF -e "$secrets")"
-[ "$tried" = 69 ] || differs 'wanted 69 checks'
+[ "$tried" = 71 ] || differs 'wanted 71 checks'
 end_with checks

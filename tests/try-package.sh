@@ -36,6 +36,8 @@ first=$(kept)
 check first-token '{"active":true*' "$(active)"
 check keys-of-the-example 0 "$(cat /etc/oauthd/* /etc/oauthd-login/* 2>/dev/null | grep -cE 'op-key|ann-key|gate-key|s3cret|b0t')"
 check who-reads-what '640 root oauthd 640 root oauthd-login 600 oauthd oauthd' "$(stat -c '%a %U %G' /etc/oauthd/registry.json /etc/oauthd-login/login.json /var/lib/oauthd/state | xargs)"
+check how-it-was-built "version: $(dpkg-query -W -f '${Version}' oauthd) build: not known* program: sha256 $(sha256sum </usr/bin/oauthd | cut -d ' ' -f 1)" \
+    "$(xargs </usr/share/doc/oauthd/BUILD)"
 check pages '.TH OAUTHD-START 1 * .TH OAUTHD 1 *' "$(zcat /usr/share/man/man1/oauthd-start.1.gz /usr/share/man/man1/oauthd.1.gz | grep ^.TH | xargs)"
 
 process=$(systemctl show -p MainPID --value oauthd)

@@ -28,8 +28,8 @@ struct record {
     const u32 version; /* 1 */
     const u32 kind;    /* enum grant_kind */
     const u64 now;     /* the moment, in Unix seconds */
-    const u64 client;  /* the client's number in the registry, from 1 */
-    const u64 owner;   /* the owner's number in the registry, from 1; 0 where the grant has no owner */
+    const u64 client;  /* the client's place in the registry, from 1 */
+    const u64 owner;   /* the owner's number, 1 to 4294967295; 0 where the grant has no owner */
     const u64 asked;   /* the scope that was asked: bit 0 is the first name of the registry's scopes */
     u64 scope;         /* the scope to grant; may be written */
     u32 life;          /* the lifetime of the access token in seconds; may be written */

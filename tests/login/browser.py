@@ -6,6 +6,7 @@ of carol, whose owner the gateway names. Drives chromedriver by HTTP, with the s
 import base64
 import http.client
 import json
+import socket
 import subprocess
 import sys
 import time
@@ -74,6 +75,29 @@ def press(value):
         time.sleep(0.05)
 
 
+def restart_login():
+    subprocess.run(["systemctl", "restart", "oauthd-login"], check=True)
+    for _ in range(100):
+        try:
+            socket.create_connection(("127.0.0.1", 9000)).close()
+            return
+        except OSError:
+            time.sleep(0.1)
+
+
+def sign_in(user, password):
+    fill("[name=user]", user)
+    fill("[name=password]", password)
+    press("enter")
+
+
+def change(password, new):
+    fill("[name=password]", password)
+    fill("[name=new]", new)
+    fill("[name=again]", new)
+    press("change")
+
+
 def address():
     return command("GET", browser + "/url")
 
@@ -86,13 +110,9 @@ def seen():
 try:
     visit("https://app.example/begin?read")
     check("not-signed-in", "Who are you? | auth.example", seen())
-    fill("[name=user]", "ann")
-    fill("[name=password]", "guessed")
-    press("enter")
+    sign_in("ann", "guessed")
     check("wrong-password", "do not belong together", text(".wrong"))
-    fill("[name=user]", "ann")
-    fill("[name=password]", password)
-    press("enter")
+    sign_in("ann", password)
     check("consent", "The example's app asks | auth.example", seen())
     check("consent-scopes", "read what you have written (read)", text("ul"))
     with open(screenshot, "wb") as file:
@@ -117,8 +137,7 @@ try:
     subprocess.run(["systemctl", "restart", "oauthd"], check=True)
     visit("https://app.example/begin?read+write")
     check("after-a-restart-of-the-server", "scope read write, active True, refreshed True", text("#told"))
-    subprocess.run(["systemctl", "restart", "oauthd-login"], check=True)
-    time.sleep(1)
+    restart_login()
     visit("https://app.example/begin?read+write")
     check("after-a-restart-of-the-login", "scope read write, active True, refreshed True", text("#told"))
     visit("https://app.example/begin?admin")
@@ -134,6 +153,23 @@ try:
     visit("https://auth.example/login")
     press("withdraw")
     check("withdrawn", "Nothing.", text("body"))
+    change("guessed", "of-my-own-choice")
+    check("change-without-the-password", "This is not your password.", text(".wrong"))
+    change(password, "short")
+    check("change-to-a-short-one", "12 characters or more", text(".wrong"))
+    before = command("GET", browser + "/cookie")[0]
+    change(password, "of-my-own-choice")
+    check("changed", "What you have allowed", seen())
+    del before["domain"]
+    command("POST", browser + "/cookie", {"cookie": before})
+    visit("https://auth.example/login")
+    check("changed-with-the-old-cookie", "Who are you?", seen())
+    restart_login()
+    visit("https://auth.example/login")
+    sign_in("ann", password)
+    check("old-password", "do not belong together", text(".wrong"))
+    sign_in("ann", "of-my-own-choice")
+    check("new-password", "What you have allowed", seen())
     visit("https://app.example/begin?read")
     check("asked-after-it", "The example's app asks", seen())
     left = command("GET", browser + "/cookie")[0]
@@ -145,16 +181,13 @@ try:
     check("signed-out-with-the-old-cookie", "Who are you?", seen())
     visit("https://app.example/begin?read")
     check("not-signed-in-again", "Who are you?", seen())
-    fill("[name=user]", "carol")
-    fill("[name=password]", other)
-    press("enter")
+    sign_in("carol", other)
     check("another-user", "The example's app asks", seen())
     press("allow")
     with open("/var/lib/oauthd-login/allowed.json.numbers", encoding="utf-8") as file:
         number = json.load(file)["carol"]
     check("another-user-by-number", f"scope read, active True, refreshed True, sub {number}", text("#told"))
-    subprocess.run(["systemctl", "restart", "oauthd-login"], check=True)
-    time.sleep(1)
+    restart_login()
     visit("https://app.example/begin?read")
     check("the-same-number-after-a-restart", f"scope read, active True, refreshed True, sub {number}", text("#told"))
     log = json.dumps(command("POST", browser + "/se/log", {"type": "performance"}))
