@@ -94,7 +94,7 @@ printf 'while a state file is written and shortened, /token at %d a second: 99.9
 end $pid
 
 # users' grants: what a server takes that starts on a file of so many, each a spent code with an access and a refresh token
-grants=100000
+grants=300000
 python3 benches/grants.py "$disk/grants" "$grants" || exit 2
 none=$(records=1000000 start none 3600 && kilobytes VmRSS $pid)
 began=$(date +%s%N)
