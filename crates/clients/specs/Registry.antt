@@ -112,9 +112,13 @@ registry_of value = do
     limits = limits;
   })
 
+-- this is the key of a digest, and has the form of a key
+abbrev pub is_key_of : List ℕ → List ℕ → Bool
+is_key_of key of = option_map_or (λ digest. bytes_eq digest of) (sent_digest key) false
+
 -- this is the operator's key: it has the form of a key, and the operator's digest
 abbrev pub is_operator_key : List ℕ → RegistryRecord → Bool
-is_operator_key key rules = option_map_or (λ digest. bytes_eq digest rules.operator) (sent_digest key) false
+is_operator_key key rules = is_key_of key rules.operator
 
 -- an owner has the operator's key
 abbrev pub has_operator_among_owners : RegistryRecord → Bool

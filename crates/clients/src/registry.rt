@@ -21,6 +21,7 @@ use crate::client::{Client, Clients, client_list, clients_within};
 use crate::digest::{are_same, key_digest, sent_digest, unknown_digest};
 use crate::gateway::{before_space, behind_space, number_in};
 use crate::limits::{Limits, limits_member};
+use crate::operator::OperatorKey;
 use crate::owner::{OwnerSub, Owners, owner_list, owners_within};
 use crate::scope::{catalogue_of, scope_list};
 use consent::{ClientNo, Digest, OwnerNo};
@@ -304,7 +305,14 @@ impl Registry {
     pub fn is_operator(&self, key: &[u8]) -> bool
         ensures { result ≡ is_operator_key key.now self.now }
     {
-        sent_digest(key).is_some_and(|digest| are_same(&digest, &self.operator))
+        self.operator_key().is(key)
+    }
+
+    /// What the operator's key is known by.
+    pub fn operator_key(&self) -> OperatorKey
+        ensures { result ≡ self.now.operator }
+    {
+        OperatorKey(self.operator)
     }
 
     /// The life of an access token, in seconds.

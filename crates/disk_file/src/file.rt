@@ -188,6 +188,17 @@ fn is_same<F: OpenFile>(found: io::Result<Metadata>, file: &F) -> bool {
 }
 
 impl<'r, F: SystemFile, R: Files<File = F> + AllocGlobal, B: Before> DiskFile<'r, R, F, B> {
+    /// The file as if it was opened now, and still locked. A next file that was begun is let go of.
+    pub(crate) fn as_opened(self) -> DiskFile<'r, R, F, B>
+        ensures { result.log.calls ≡ only_opened [] }
+    {
+        DiskFile {
+            next: None,
+            log: opened(),
+            ..self
+        }
+    }
+
     /// Opens the file of a path and locks it: nothing is made but the file beside it that holds the lock. What is read of it
     /// may not be on the disk, where an earlier program could not write it.
     pub fn open(rt: &'r R, path: &str) -> Result<DiskSource<'r, R, F, B>, OpenFault>

@@ -40,6 +40,13 @@ impl<'r, F: SystemFile, R: Files<File = F> + AllocGlobal, B: Before> DiskSource<
         }
     }
 
+    /// A file that was a device, to be read anew from its beginning, as one that was opened now.
+    pub fn again(device: DiskFile<'r, R, F, B>) -> DiskSource<'r, R, F, B>
+        ensures { ⟦<DiskSource<'r, R, F, B> as ByteSource>⟧.told result ≡ [] }
+    {
+        DiskSource::new(device.as_opened())
+    }
+
     /// The file as a device: what it has is what was read, where it was read to its end. What a crash may leave of it is what may
     /// have stood on the disk before.
     pub fn into_device(self) -> DiskFile<'r, R, F, B>

@@ -1,0 +1,4 @@
+pub mod Asking
+pub mod Sizes
+pub mod Refusals
+pub mod Narrowed
