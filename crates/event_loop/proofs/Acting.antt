@@ -3,7 +3,7 @@ use Rattle.std.proofs.Common.{◌≡◌, ◌≢◌, inl, inr, ℕ, Some, refl, s
 use Rattle.event_loop.proofs.Names.{Place, IsOccupied, MayRead, MayWrite, read_limit, AreWithin, same_Some, connection_at, Progress, known, led, Promises, LoopState, IsAllKept, with_call, with_place}
 use Rattle.event_loop.proofs.Names.{Ended, Broken, CallKind, IsDone, Transfer, Reading, Writing, Served, goes, Running, Standing, Past, Duty, DoneAfter, ActsAt, ReadsAt, IsReadyFor, state_of, to_read}
 use Rattle.event_loop.proofs.Names.{to_write, taken_stage, ReadsPlace, WritesPlace, offered, Read, Write, Refused}
-use Rattle.event_loop.specs.Calls as call
+use Rattle.outside.specs.Calls as call
 use Rattle.event_loop.specs.Reading as reading
 use Rattle.event_loop.specs.Writing as writing
 use Rattle.event_loop.specs.Served as step

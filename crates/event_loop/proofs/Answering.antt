@@ -5,15 +5,15 @@ use Rattle.event_loop.proofs.Names.{GivesPieces, false≢true, no_other, Promise
 use Rattle.event_loop.proofs.Names.{hears_of, hears_out, comes, reads, writes, closes, keeps, begins, goes, ReadsPlace, WritesPlace, Read, Write, Refused}
 use Rattle.event_loop.specs.Coming.{fails}
 use Rattle.event_loop.specs.declared.place.Stage.{Stage}
-use Rattle.event_loop.specs.declared.sockets.Accepted.TheVariants as accepted
-use Rattle.event_loop.specs.Calls as call
+use Rattle.outside.specs.declared.sockets.Accepted.TheVariants as accepted
+use Rattle.outside.specs.Calls as call
 use Rattle.event_loop.specs.Reading as reading
 use Rattle.event_loop.specs.Writing as writing
-use Rattle.event_loop.specs.Answered.{PlaceExchange, IsAllAnswered, read_at, written_at}
+use Rattle.event_loop.specs.Answered.{PlaceExchange, IsAllAnswered, has_ended, read_at, written_at}
 use Rattle.event_loop.proofs.Putting.{set_cases}
 use Rattle.event_loop.proofs.Kept.{kept_connections}
 use Rattle.event_loop.proofs.Others.{is_itself, opens_other, ends_other, takes_other, forgets_other}
-use Rattle.event_loop.proofs.Telling.{talk_given, closing_taken, gives_reached, gives_other}
+use Rattle.event_loop.proofs.Telling.{talk_given, closing_taken, ended_taken, gives_reached, gives_other, gives_unended, opened_here}
 use Rattle.serving.specs.Talks.{Talk}
 use Rattle.serving.proofs.Talking.{talk_opened, talk_lost, talk_ended, talk_written}
 
@@ -39,11 +39,12 @@ open_before stage count is = is
 
 module _ {N C J K H : Type 0} where
   exchange_of : (s : LoopState N C J K H) (k : ℕ) (place : Place) (read written lost : List ℕ) → read_at k s.calls ≡ read → written_at k s.calls ≡ written → (t : Talk read written lost (known s.progress k)) →
-      (place.stage ≡ Open → is_closing (known s.progress k) ≡ false → lost ≡ []) → PlaceExchange s k place
-  exchange_of s k place read written lost same_read same_written t whole = record {
+      (place.stage ≡ Open → is_closing (known s.progress k) ≡ false → lost ≡ []) → (place.stage ≡ Open → has_ended (known s.progress k) ≡ false) → PlaceExchange s k place
+  exchange_of s k place read written lost same_read same_written t whole unended = record {
     lost = lost;
     talk = subst (λ r. Talk r (written_at k s.calls) lost (known s.progress k)) (sym same_read) (subst (λ w. Talk read w lost (known s.progress k)) (sym same_written) t);
     whole = whole;
+    unended = unended;
   }
 
   -- nothing happened to it
@@ -51,7 +52,7 @@ module _ {N C J K H : Type 0} where
       (place'.stage ≡ Open → place.stage ≡ Open) → PlaceExchange s' k place'
   stays_same s s' k place place' x same_known same_read same_written opened =
       exchange_of s' k place' _ _ x.lost same_read same_written (subst (Talk (read_at k s.calls) (written_at k s.calls) x.lost) (sym same_known) x.talk)
-      (λ is_open stays. x.whole (opened is_open) (ap is_closing (sym same_known) ∙ stays))
+      (λ is_open stays. x.whole (opened is_open) (ap is_closing (sym same_known) ∙ stays)) (λ is_open. ap has_ended same_known ∙ x.unended (opened is_open))
 
   -- the place of a step at j, and another
   module _ (p : Promises N C J K H) (s : LoopState N C J K H) (before : IsAllAnswered p s) where
@@ -119,7 +120,7 @@ module _ {N C J K H : Type 0} where
         record {
           reached = gives_reached p.hosting (piece_of j bytes s.times.moment) s.progress given progress giving before.reached;
           exchanges =
-              at_places _ j place' refl (λ taken. exchange_of _ j place' _ _ lost read refl (talk_lost _ _ [] lost _ t') whole)
+              at_places _ j place' refl (λ taken. exchange_of _ j place' _ _ lost read refl (talk_lost _ _ [] lost _ t') whole (λ is_open. gives_unended p.hosting (piece_of j bytes s.times.moment) s.progress given progress giving (x.unended may.is_open)))
               (λ k other. gives_other p.hosting (piece_of j bytes s.times.moment) k s.progress given progress giving other)
               (λ k other. read_other j k bytes s.calls other) (λ k other. refl);
         }
@@ -137,7 +138,7 @@ module _ {N C J K H : Type 0} where
           reached = on.reached;
           exchanges =
               at_places _ j (record place { stage = Ended }) refl
-              (λ taken'. exchange_of _ j (record place { stage = Ended }) _ _ x.lost refl refl (talk_ended s.progress.journey.world on.world j _ _ x.lost on.happens x.talk) (λ is_open stays. absurd (cc)))
+              (λ taken'. exchange_of _ j (record place { stage = Ended }) _ _ x.lost refl refl (talk_ended s.progress.journey.world on.world j _ _ x.lost on.happens x.talk) (λ is_open stays. absurd (cc)) (λ is_open. absurd (cc)))
               (λ k other. ends_other s.progress.journey.world on.world j k on.happens other) (λ k other. refl) (λ k other. refl);
         }
     reads_answered j place s' here may (reading.ends_nothing n fault done refused) =
@@ -156,7 +157,8 @@ module _ {N C J K H : Type 0} where
           reached = on.reached;
           exchanges =
               at_places _ j (record place { stage = taken_stage place.stage count; since = s.times.steady; turn = s.turn }) refl
-              (λ taken'. exchange_of _ j (record place { stage = taken_stage place.stage count; since = s.times.steady; turn = s.turn }) _ _ x.lost refl (wrote_here j room front s.calls) t' (λ is_open stays. x.whole (open_before place.stage count is_open) (sym (closing_taken s.progress.journey.world on.world j count on.happens) ∙ stays)))
+              (λ taken'. exchange_of _ j (record place { stage = taken_stage place.stage count; since = s.times.steady; turn = s.turn }) _ _ x.lost refl (wrote_here j room front s.calls) t' (λ is_open stays. x.whole (open_before place.stage count is_open) (sym (closing_taken s.progress.journey.world on.world j count on.happens) ∙ stays))
+              (λ is_open. ended_taken s.progress.journey.world on.world j count on.happens ∙ x.unended (open_before place.stage count is_open)))
               (λ k other. takes_other s.progress.journey.world on.world j k count on.happens other) (λ k other. refl) (λ k other. wrote_other j k room front s.calls other);
         }
     writes_answered j place s' here taken (writing.finds_no_room n done) =
@@ -180,7 +182,7 @@ module _ {N C J K H : Type 0} where
       reached = on.reached;
       exchanges =
           at_places _ j (fresh_place s.times.steady) refl
-          (λ taken. exchange_of _ j (fresh_place s.times.steady) [] [] [] (came_here j s.calls).0 (came_here j s.calls).1 (talk_opened s.progress.journey.world on.world j on.happens) (λ is_open stays. refl))
+          (λ taken. exchange_of _ j (fresh_place s.times.steady) [] [] [] (came_here j s.calls).0 (came_here j s.calls).1 (talk_opened s.progress.journey.world on.world j on.happens) (λ is_open stays. refl) (λ is_open. ap has_ended (opened_here s.progress.journey.world on.world j on.happens)))
           (λ k other. opens_other s.progress.journey.world on.world j k on.happens other) (λ k other. (came_other j k s.calls other).0) (λ k other. (came_other j k s.calls other).1);
     }
     step_answered s' (comes s'' told (denies j n n' fault noted within free done refused closed noting)) = record {

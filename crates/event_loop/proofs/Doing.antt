@@ -2,8 +2,8 @@
 use Rattle.std.proofs.Common.{suc, ◌≡◌, ◌≢◌, ◌⊎◌, inl, inr, ◌<◌, ℕ, List, Some, refl, sym, ◌∙◌, arith, [], ◌∷◌}
 use Rattle.event_loop.proofs.Names.{Place, Closes, leaves, same_Some, Promises, LoopState, Call, CallKind, Keeping, Looking, Shortening, IsDone, done_since, Served, DoneMore, DoneAfter, LeadsOn, Running, Standing, standing}
 use Rattle.event_loop.proofs.Names.{state_of}
-use Rattle.event_loop.specs.Calls.{waits}
-use Rattle.event_loop.specs.Calls as call
+use Rattle.outside.specs.Calls.{waits}
+use Rattle.outside.specs.Calls as call
 
 -- nothing
 pub none_more : (calls : List Call) → DoneAfter calls calls

@@ -4,7 +4,7 @@ use Rattle.event_loop.proofs.Names.{Event, IsFrontOf, Holds, Keeps, KeepsBasis, 
 use Rattle.event_loop.proofs.Names.{TakesOutput, TakesNothing, AnsweredPiece, Piece, piece_of, Journey, Progress, IsReached, led, GivesPieces, nothing, gives, Message, Outset, Promises, LoopState}
 use Rattle.event_loop.proofs.Names.{IsAllKept, IsUnkept, with_call, Ready, Call, Transfer, Wrote, waits_done, opens, denies, finds_nobody, asks, LoopStep, Served, Shuts, TellsLast, tells_nothing}
 use Rattle.event_loop.proofs.Names.{comes, reads, writes, closes, keeps, shortens, no_slice, begins, goes, stops, shuts, reports_last, LoopFault, Carries, Onward, stays, onward, KeeperHolds, StandsBetween}
-use Rattle.event_loop.proofs.Names.{IsWriteKept, MomentIsHeld, CannotGoOn, no_wait, looks_again, fails_to_look, no_time, too_far, no_moment, not_kept, not_shortened, no_more, Queue, LastTold, Noted, ReadsPlace, WritesPlace, Hosting}
+use Rattle.event_loop.proofs.Names.{IsWriteKept, MomentIsHeld, CannotGoOn, no_wait, looks_again, fails_to_look, no_time, too_far, no_moment, not_kept, not_shortened, no_more, to_reload, passes_on, Passes, hands_on, Queue, LastTold, Noted, ReadsPlace, WritesPlace, Hosting}
 use Rattle.event_loop.specs.Coming.{fails}
 use Rattle.event_loop.specs.Served.{waits}
 use Rattle.event_loop.specs.Done as deed
@@ -111,8 +111,8 @@ module _ {N C J K H : Type 0} (p : Promises N C J K H) where
   not_longer calls call is = let more = ap length is in omega (arith, more)
 
   -- no call is made, and the server's side is as it was
-  quiet : {limit : ℕ} (s : LoopState N C J K H) {found : List Ready} {queue : Queue} {places : List Place} {told : LastTold} {refused : Option ℕ} {noted : Noted J} →
-      Does p limit s (record s { found = found; queue = queue; places = places; told = told; refused = refused; noted = noted })
+  quiet : {limit : ℕ} (s : LoopState N C J K H) {found : List Ready} {queue : Queue} {places : List Place} {told : LastTold} {refused reload : Option ℕ} {noted : Noted J} →
+      Does p limit s (record s { found = found; queue = queue; places = places; told = told; refused = refused; reload = reload; noted = noted })
   quiet s = record {
     moves = goes_on (refl, (refl, refl), refl) (grows_not s.times.moment _ _ refl);
     did = λ first before. before;
@@ -151,6 +151,9 @@ module _ {N C J K H : Type 0} (p : Promises N C J K H) where
 
   closes_does : {limit : ℕ} (j : ℕ) (place : Place) (s s' : LoopState N C J K H) → Closes p j place s s' → Does p limit s s'
   closes_does j place s s' (leaves n e on noted done noting) = calls_on s _ n (led s.progress on) done refl (λ k room took is. absurd (cc)) refl (grows_still s.times.moment s.progress.journey.world on.world on.happens.still)
+
+  passes_does : {limit : ℕ} (j : ℕ) (place : Place) (s s' : LoopState N C J K H) → Passes p j place s s' → Does p limit s s'
+  passes_does j place s s' (hands_on n e on done) = calls_on s _ n (led s.progress on) done refl (λ k room took is. absurd (cc)) refl (grows_still s.times.moment s.progress.journey.world on.world on.happens.still)
 
   pub step_does : (s s' : LoopState N C J K H) (step : LoopStep p s s') → Does p (horizon_bound (told_by step)) s s'
   step_does s s' (waits limit room found n times c keeper may done told near kept further) = record {
@@ -207,6 +210,7 @@ module _ {N C J K H : Type 0} (p : Promises N C J K H) where
   fails_does s s' fault (no_moment limit room found n times c keeper may done told near lost basis asked) = record { did = λ first before. deed.did _ n before done; reached = λ was. was; tells = basis }
   fails_does s s' fault (not_kept keeper unkept undone lost basis asked) = record { did = λ first before. before; reached = λ was. was; tells = tells_within p.keeping.crashes 0 (horizon_bound 0) s.keeper keeper (omega arith) basis }
   fails_does s s' fault (not_shortened keeper all undone lost basis asked) = record { did = λ first before. before; reached = λ was. was; tells = tells_within p.keeping.crashes 0 (horizon_bound 0) s.keeper keeper (omega arith) basis }
+  fails_does s s' fault (to_reload time) = record { did = λ first before. before; reached = λ was. was; tells = (keeps_same p.keeping.crashes (horizon_bound 0) s.keeper s.keeper refl).meanwhile }
   fails_does s s' fault (no_more many) = record { did = λ first before. before; reached = λ was. was; tells = (keeps_same p.keeping.crashes (horizon_bound 0) s.keeper s.keeper refl).meanwhile }
 
   -- what was kept is a front of what happened, wherever steps lead to
@@ -281,16 +285,17 @@ module _ {N C J K H : Type 0} (p : Promises N C J K H) where
   served_did first s (begins is) = subst (λ (calls : List Call). HaveDone p.sockets first.sockets calls s.sockets) (sym is.calls) deed.nothing
   served_did first s (goes {s = before} served next) = (step_does before s next).did first.sockets (served_did first before served)
 
-  shuts_did : (first : N) (s s' : LoopState N C J K H) → Shuts p s s' → HaveDone p.sockets first s.calls s.sockets → HaveDone p.sockets first s'.calls s'.sockets
+  shuts_did : {fault : LoopFault} (first : N) (s s' : LoopState N C J K H) → Shuts p fault s s' → HaveDone p.sockets first s.calls s.sockets → HaveDone p.sockets first s'.calls s'.sockets
   shuts_did first s s' stops before = before
-  shuts_did first s s' (shuts {s = middle} k place shut here taken closing) before = (closes_does {limit = 0} k place middle s' closing).did first (shuts_did first s middle shut before)
+  shuts_did first s s' (shuts {s = middle} k place shut here taken apart closing) before = (closes_does {limit = 0} k place middle s' closing).did first (shuts_did first s middle shut before)
+  shuts_did first s s' (passes_on {s = middle} k place shut here wanted between passing) before = (passes_does {limit = 0} k place middle s' passing).did first (shuts_did first s middle shut before)
 
-  emptied_did : (first last failed emptied : LoopState N C J K H) (fault : LoopFault) → Served p first last → CannotGoOn p last fault failed → Shuts p failed emptied → HaveDone p.sockets first.sockets emptied.calls emptied.sockets
+  emptied_did : (first last failed emptied : LoopState N C J K H) (fault : LoopFault) → Served p first last → CannotGoOn p last fault failed → Shuts p fault failed emptied → HaveDone p.sockets first.sockets emptied.calls emptied.sockets
   emptied_did first last failed emptied fault served failing shut = shuts_did first.sockets failed emptied shut ((fails_does last failed fault failing).did first.sockets (served_did first last served))
 
   -- and up to the end
   pub end_did : (first last failed emptied end : LoopState N C J K H) (fault : LoopFault) → Served p first last → CannotGoOn p last fault failed →
-      Shuts p failed emptied → TellsLast p emptied end → HaveDone p.sockets first.sockets end.calls end.sockets
+      Shuts p fault failed emptied → TellsLast p emptied end → HaveDone p.sockets first.sockets end.calls end.sockets
   end_did first last failed emptied end fault served failing shut (reports_last report journal wanted tells done) = emptied_did first last failed emptied fault served failing shut
   end_did first last failed emptied end fault served failing shut (tells_nothing none) = emptied_did first last failed emptied fault served failing shut
 
@@ -338,7 +343,7 @@ module _ {N C J K H : Type 0} (p : Promises N C J K H) where
     fails_leave last failed fault on failing = leaves_same p.keeping.crashes s.keeper last.keeper last.keeper _ _ (leaves_between last on) refl (λ c. inl)
 
     -- and so it does up to the end
-    pub leaves_to_end : (last failed emptied end : LoopState N C J K H) (fault : LoopFault) → Onward p s last → CannotGoOn p last fault failed → Shuts p failed emptied → TellsLast p emptied end →
+    pub leaves_to_end : (last failed emptied end : LoopState N C J K H) (fault : LoopFault) → Onward p s last → CannotGoOn p last fault failed → Shuts p fault failed emptied → TellsLast p emptied end →
         Leaves p.keeping.crashes s.keeper end.keeper (λ c. StandsBetween p s before last c ⊎ p.keeping.crashes.stands_for c last.progress.journey.world.history)
     leaves_to_end last failed emptied end fault on failing shut told =
         leaves_same p.keeping.crashes s.keeper failed.keeper end.keeper _ _ (fails_leave last failed fault on failing) (end_keeper p failed emptied end shut told) (λ c stands. stands)

@@ -2,7 +2,7 @@
 use Rattle.std.proofs.Common.{◌≡◌, ◌≢◌, inl, inr, ◌<◌, ◌≤◌, ◌+◌, ℕ, suc, List, ◌∷◌, [], Option, Some, None, true, false, refl, sym, ap, subst, ◌∙◌, arith, replicate, slice_get, slice_set}
 use Rattle.event_loop.proofs.Names.{Promises, LoopState, IsUnkept, Hosting, InEach, Service, Ready, Tools, Past, Running, Standing, standing, running, state_of, Served, goes, looks_again, fails_to_look, MayLook, CallKind, Reading, Writing, Keeping}
 use Rattle.event_loop.proofs.Names.{Looking, Call, IsDone, DoneAfter, IsHeardAt, IsHearing, GoesReading, ReadsAt, GoesFurther, LeadsToHearing, LeadsReading, NobodyIsSilent, waits_done, eqb_tells, false≢true, below_more}
-use Rattle.event_loop.specs.Calls as call
+use Rattle.outside.specs.Calls as call
 use Rattle.event_loop.proofs.Answering.{served_answered}
 use Rattle.event_loop.proofs.Doing.{done_then, not_another, not_of_kind}
 use Rattle.event_loop.proofs.Putting.{get_replicate, set_other}

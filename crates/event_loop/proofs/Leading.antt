@@ -1,6 +1,6 @@
 -- Parts of the loop, one after another.
 use Rattle.std.proofs.Common.{◌≡◌, ◌≢◌, inl, inr, ◌<◌, ◌≤◌, ◌+◌, ℕ, suc, List, true, false, Some, refl, sym, subst, arith, ◌⊎◌, ◌∙◌, slice_get}
-use Rattle.event_loop.proofs.Names.{Place, NeedsNoRead, NeedsNoWrite, Closes, leaves, eqb_tells, World, known, IsReached, Promises, LoopState, IsAllKept, Service, Ready, Tools, Reading, Writing}
+use Rattle.event_loop.proofs.Names.{Place, NeedsNoRead, NeedsNoWrite, Closes, Passes, hands_on, leaves, eqb_tells, World, known, IsReached, Promises, LoopState, IsAllKept, Service, Ready, Tools, Reading, Writing}
 use Rattle.event_loop.proofs.Names.{IsDone, done_since, Served, Past, LeavesOthers, HoldsAt, LeadsToActs, LeadsToTidy, LeadsToSettled, LeadsToAccepts, GoesReading, GoesKept, GoesWriting, LeadsToKept}
 use Rattle.event_loop.proofs.Names.{LeadsWriting, AreAllSettled, DoneAfter, GoesSettled, StaysIdle, ActsAt, SettlesAt, TidiesAt, IsHeardAt, IsRestedAt, IsRested, IsSettledAt, running, standing, state_of, to_write}
 use Rattle.std.specs.Prelude.{⊤}
@@ -22,6 +22,9 @@ module _ {N C J K H : Type 0} (p : Promises N C J K H) where
   -- and it is reached
   pub closes_reached : (k : ℕ) (place : Place) (s s' : LoopState N C J K H) → Closes p k place s s' → IsReached p.hosting s'.progress
   closes_reached k place s s' (leaves n e on noted done noting) = on.reached
+
+  pub passes_reached : (k : ℕ) (place : Place) (s s' : LoopState N C J K H) → Passes p k place s s' → IsReached p.hosting s'.progress
+  passes_reached k place s s' (hands_on n e on done) = on.reached
 
   -- a write, and a close where it is over
   pub turn_then : (k : ℕ) (b c d : Service) (u v w : Tools N C J K H) → LeadsToActs p (to_write k) (running b u) (running c v) → LeadsToTidy p k (running c v) (running d w) →

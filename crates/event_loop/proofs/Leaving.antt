@@ -10,6 +10,7 @@ use Rattle.event_loop.specs.Served as served
 use Rattle.change_codec.specs.declared.keeper.Length.{Length}
 use Rattle.change_codec.specs.declared.keeper.Length.TheVariants.{Short, Long}
 use Rattle.event_loop.specs.Goes as limited
+use Rattle.event_loop.specs.Goes.{MayEnd, ServesOn}
 use Rattle.event_loop.proofs.Doing.{closes_done, closes_some, done_some, done_then, none_more}
 use Rattle.event_loop.proofs.Answering.{served_answered}
 use Rattle.event_loop.proofs.Leading.{closes_other}
@@ -118,9 +119,9 @@ pub record ComesToWait {N C J K H : Type 0} (p : Promises N C J K H) (first : Lo
 
 pub may_wait : {N C J K H : Type 0} (p : Promises N C J K H) (a b c : Service) (s t v : Tools N C J K H) (told : Option Length) (limit : Option ℕ) (room : ℕ) → length a.places ≡ 64 → b ≡ record a { refused = b.refused } →
     OnlyTellsRoom b c → v ≡ record t { journal = v.journal } → c.told.room ≡ p.keeping.wants_room v.keeper → LeadsTelling p (running b t) (running c v) → IsLimit c told limit →
-    65 ≤ room → LeadsToShort p (running a s) told (running b t) → (first : LoopState N C J K H) (past : Past H) → Served p first (state_of (running a s) [] past) → IsReadyToWait a past → ¬ (IsDone Shortening past.calls) →
+    65 ≤ room → LeadsToShort p (running a s) told (running b t) → (first : LoopState N C J K H) (past : Past H) → Served p first (state_of (running a s) [] past) → IsReadyToWait a past → ¬ (IsDone Shortening past.calls) → ServesOn a past.journey.world →
     ComesToWait p first past (running c v) limit room
-may_wait p a b c s t v told limit room before same tells tools want telling is_limit roomy shorter first past begun was undone =
+may_wait p a b c s t v told limit room before same tells tools want telling is_limit roomy shorter first past begun was undone on =
     let now = shorter first [] past undone begun (served_answered p first _ begun).reached in
     let next : Past _ = record past { calls = now.calls } in
     let ready = ready_told b next c tells (ready_still a past b now.calls same now.done was) in
@@ -135,7 +136,7 @@ may_wait p a b c s t v told limit room before same tells tools want telling is_l
       may = record {
         patient = is_patient p c v next told limit size ready now.sliced rests short is_limit;
         fair = record { places = λ k place here. (let within = slice_get_within c.places k place here in (ready.settled k (omega (arith, size, within))).turned place here); queue = ready.queue };
-        prompt = record { idle = ready.calm.idle; crowded = ready.calm.crowded; room = ready.room; tried = ready.calm.tried; reported = ready.reported };
+        prompt = record { idle = ready.calm.idle; crowded = ready.calm.crowded; room = ready.room; tried = ready.calm.tried; reported = ready.reported; serves_on = λ time. on (subst (λ (service : Service). MayEnd service past.journey.world) same (subst (λ (service : Service). MayEnd service past.journey.world) tells time)) };
         heard = refl;
         roomy = roomy;
         short = sliced_or_short told now.sliced rests;

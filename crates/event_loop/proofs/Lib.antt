@@ -17,3 +17,4 @@ pub mod Names
 pub mod Rooming
 pub mod HeardOut
 pub mod Hearing
+pub mod Parting

@@ -2,7 +2,7 @@
 use Rattle.std.proofs.Common.{◌≡◌, ◌≢◌, ◌⊎◌, inl, inr, ◌<◌, ◌≤◌, ℕ, List, [], refl, sym, ap, subst, ◌∙◌, arith}
 use Rattle.event_loop.proofs.Names.{Until, HoldsBasis, KeepsBasis, TellsBasis, Times, AllFree, IsInService, IsStaying, IsOccupied, eqb_tells, World, Journey, Promises, LoopState, LoopStep, Served, Shuts}
 use Rattle.event_loop.proofs.Names.{TellsLast, begins, goes, LoopFault, Empty, Onward, stays, onward, MomentIsHeld, MomentStays, CannotGoOn}
-use Rattle.event_loop.specs.Calls.{waits}
+use Rattle.outside.specs.Calls.{waits}
 use Rattle.event_loop.specs.EndsLaws.{end_keeper}
 use Rattle.event_loop.specs.Served as step
 use Rattle.event_loop.proofs.Lasting.{keeps_same, keeps_then, leaves_told, tells_then}
@@ -72,6 +72,7 @@ module _ {N C J K H : Type 0} (p : Promises N C J K H) where
   untouched_on s s' u (step.looks_again nth room found n may done) = (refl, λ none. absurd (let some = may.behind in omega (arith, none, some)))
   untouched_on s s' u (step.fails_to_look nth room n may done) = (refl, λ none. absurd (let some = may.behind in omega (arith, none, some)))
   untouched_on s s' u (step.hears_of_listener more is) = absurd (let not = sym u.found ∙ is in cc)
+  untouched_on s s' u (step.hears_of_reload more is) = absurd (let not = sym u.found ∙ is in cc)
   untouched_on s s' u (step.hears_of j readable writable hung more place place' is here told) = absurd (let not = sym u.found ∙ is in cc)
   untouched_on s s' u (step.hears_of_none j readable writable hung more is none) = absurd (let not = sym u.found ∙ is in cc)
   untouched_on s s' u (step.comes s'' told coming) = absurd (let not = sym u.queue ∙ told in cc)
@@ -118,7 +119,7 @@ module _ {N C J K H : Type 0} (p : Promises N C J K H) where
       ]
 
   -- so it is told up to the end
-  pub basis_to_end : (s last failed emptied end : LoopState N C J K H) (fault : LoopFault) (on : Onward p s last) (failing : CannotGoOn p last fault failed) → Shuts p failed emptied →
+  pub basis_to_end : (s last failed emptied end : LoopState N C J K H) (fault : LoopFault) (on : Onward p s last) (failing : CannotGoOn p last fault failed) → Shuts p fault failed emptied →
       TellsLast p emptied end → TellsBasis p.keeping.crashes (horizon_bound (max (latest on) (told_then failing))) s.keeper end.keeper
   basis_to_end s last failed emptied end fault on failing shut told =
       let limit = horizon_bound (max (latest on) (told_then failing)) in

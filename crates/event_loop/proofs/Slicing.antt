@@ -2,7 +2,7 @@
 use Rattle.std.proofs.Common.{◌≡◌, ◌⊎◌, inl, inr, ◌<◌, ◌-◌, ℕ, List, ◌∷◌, Option, None, Some, true, false, refl, sym, ap, subst, arith, nat_le}
 use Rattle.event_loop.proofs.Names.{IsAllKept, Keeps, KeepsBasis, Promises, LoopState, Service, Ready, Tools, Call, Shortening, IsDone, IsKeptShort, Served, goes, shortens, is_short, no_slice, Past, DoneMore, GoesShorter, standing, running, state_of}
 use Rattle.event_loop.proofs.Names.{TellsRefusal, is_long_ago}
-use Rattle.event_loop.specs.Calls as call
+use Rattle.outside.specs.Calls as call
 use Rattle.change_codec.specs.declared.keeper.Length.{Length}
 use Rattle.change_codec.specs.declared.keeper.Length.TheVariants.{Short, Long}
 use Rattle.event_loop.proofs.Doing.{none_more}

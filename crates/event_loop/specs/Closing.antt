@@ -1,9 +1,9 @@
 -- How connections are closed.
-use Rattle.std.specs.Prelude.{◌≡◌, ◌⊎◌, ◌≤◌, ◌<◌, ◌-◌, ℕ, List, [], Option, Some, slice_get, take, length}
-use Rattle.event_loop.specs.Names.{Connection, connection_at, untaken, AreLeftOfReply, Forgotten, SeenEdge, GoesOn, Free, Leaving, Queue, Told, Empty, Barred, Asked, Waits}
-use Rattle.event_loop.specs.declared.clocks.Times.{Times}
+use Rattle.std.specs.Prelude.{◌≡◌, ◌⊎◌, ◌≤◌, ◌<◌, ◌-◌, ℕ, false, List, [], Option, None, Some, slice_get, unwrap_or, length, take}
+use Rattle.event_loop.specs.Names.{Connection, connection_at, untaken, is_closing, IsHeld, Forgotten, SeenEdge, GoesOn, Free, Open, Queue, Told, Empty, Barred, Asked, Waits, AreLeftOfReply, Leaving}
+use Rattle.outside.specs.declared.clocks.Times.{Times}
 use Rattle.event_loop.specs.declared.place.Place.{Place}
-use Rattle.event_loop.specs.Calls as call
+use Rattle.outside.specs.Calls as call
 use Rattle.event_loop.specs.Progress.{known, led}
 use Rattle.event_loop.specs.Noting.{Noted, NotesEnd}
 use Rattle.event_loop.specs.Places.{IsOccupied, IsOneLeaving, IsOver, IsStaying}
@@ -65,6 +65,27 @@ pub data Cause {N C J K H : Type 0} (s : LoopState N C J K H) (k : ℕ) (place :
   leaves_rest : s.queue ≡ Waits → s.limits.crowded < s.times.steady - place.came → IsEldest IsOwed s.places s.progress.journey.world.connections k place →
       ¬ (IsOneLeaving s.limits.crowded s.times s.places) → AreLeftOfReply (known s.progress k) 0 → Cause s k place
 
+-- It is between two requests: no reply is owed to it, and nothing of a request that is not whole was read of it.
+pub record IsBetween (place : Place) (connection : Option Connection) : Type 0 where
+  pub is_open : place.stage ≡ Open
+  pub stays : is_closing connection ≡ false
+  pub nothing_held : IsHeld connection 0
+  pub nothing_owed : untaken connection ≡ []
+
+-- so is each connection that is there
+abbrev pub AreBetween : List Place → List Connection → Type 0
+AreBetween places connections = (k : ℕ) (place : Place) → slice_get places k ≡ Some place → IsOccupied place.stage → IsBetween place (connection_at connections k)
+
+-- a reload is wanted, and all that are there are between two requests, or it is wanted for longer than so many seconds
+pub record IsTimeToReload (reload : Option ℕ) (limit : ℕ) (times : Times) (places : List Place) (connections : List Connection) : Type 0 where
+  pub since : ℕ
+  pub wanted : reload ≡ Some since
+  pub ready : AreBetween places connections ⊎ (limit < times.steady - since)
+
+-- since when a reload is wanted, where it is now
+abbrev pub asked_since : Option ℕ → ℕ → Option ℕ
+asked_since since now = Some (unwrap_or since now)
+
 -- the queue when a connection went
 abbrev pub freed_queue : Queue → Queue
 freed_queue (Barred since) = Told
@@ -78,3 +99,9 @@ pub data Closes {N C J K H : Type 0} (p : Promises N C J K H) (k : ℕ) (place :
       p.sockets.does s.sockets (call.Closed k) n → NotesEnd p.journal place.stage s.times.steady s.noted noted →
       Closes p k place s (record (with_place (with_call s (call.Closed k) n) k (record place { stage = Free }))
       { progress = led s.progress on; noted = noted; queue = freed_queue s.queue })
+
+-- A connection is handed on to whoever serves next, and forgotten, and its place is free.
+pub data Passes {N C J K H : Type 0} (p : Promises N C J K H) (k : ℕ) (place : Place) (s : LoopState N C J K H) : LoopState N C J K H → Type 0 where
+  hands_on : (n : N) (e : SeenEdge H) (on : GoesOn p.hosting e s.progress.journey (Forgotten k)) → p.sockets.does s.sockets (call.Passed k) n →
+      Passes p k place s (record (with_place (with_call s (call.Passed k) n) k (record place { stage = Free }))
+      { progress = led s.progress on; queue = freed_queue s.queue })

@@ -2,8 +2,8 @@
 use Rattle.std.specs.Prelude.{◌<◌, ◌+◌, ◌-◌, ◌^◌, ℕ, true, false, min}
 use Rattle.event_loop.specs.Names.{Opened, SeenEdge, GoesOn, IsOpeningRefusal, EdgeFault, Accept, Refused, Open, Queue, Told, Empty, Barred, Asked, Waits, Later}
 use Rattle.event_loop.specs.declared.place.Place.{Place}
-use Rattle.event_loop.specs.declared.sockets.Accepted.TheVariants.{Taken, Failed}
-use Rattle.event_loop.specs.Calls as call
+use Rattle.outside.specs.declared.sockets.Accepted.TheVariants.{Taken, Failed}
+use Rattle.outside.specs.Calls as call
 use Rattle.event_loop.specs.Progress.{led}
 use Rattle.event_loop.specs.Noting.{Noted, NotesFault}
 use Rattle.event_loop.specs.Places.{IsFreeAt, AllTaken, places_limit}

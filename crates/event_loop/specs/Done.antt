@@ -1,8 +1,8 @@
 -- What the sockets did.
 use Rattle.std.specs.Prelude.{ℕ, List, [], ◌∷◌, Some, None}
-use Rattle.event_loop.specs.declared.sockets.Ready.{Ready}
-use Rattle.event_loop.specs.declared.sockets.Sockets.{Ghosts as Sockets}
-use Rattle.event_loop.specs.Calls.{Call, Waited, WaitFailed, Looked, Kept, Shortened}
+use Rattle.outside.specs.declared.sockets.Ready.{Ready}
+use Rattle.outside.specs.declared.sockets.Sockets.{Ghosts as Sockets}
+use Rattle.outside.specs.Calls.{Call, Waited, WaitFailed, Looked, Kept, Shortened}
 
 -- These calls of the sockets were made, one after another, the last one first. To look again is to wait for 0 milliseconds. What the
 -- keeper is called for is no call of theirs.

@@ -1,7 +1,7 @@
 -- What a crash leaves of what was done.
 use Rattle.std.specs.Prelude.{◌≡◌, ◌≢◌, ◌⊎◌, ℕ, List, ◌∷◌, Some, max}
 use Rattle.event_loop.specs.Names.{Event, Until, IsFrontOf, Holds, HoldsBasis, Leaves, Journey}
-use Rattle.event_loop.specs.Calls.{Transfer, Wrote}
+use Rattle.outside.specs.Calls.{Transfer, Wrote}
 use Rattle.event_loop.specs.LoopStates.{Promises, LoopState, IsAllKept}
 use Rattle.event_loop.specs.Served.{LoopStep, waits}
 

@@ -1,15 +1,16 @@
 -- How the loop ends.
-use Rattle.std.specs.Prelude.{◌≡◌, ◌⊎◌, ◌≤◌, ◌<◌, ℕ, List, Option, Some, None, max}
+use Rattle.std.specs.Prelude.{◌≡◌, ◌⊎◌, ◌≤◌, ◌<◌, ℕ, List, Option, Some, None, max, ◌-◌}
 use Rattle.event_loop.specs.Names.{Journey, Reached, LoopFault, Ready, HeldMeanwhile, KeepsBasis, KeepsNot, TellsBasis, horizon_bound}
-use Rattle.event_loop.specs.declared.clocks.Times.{Times}
-use Rattle.event_loop.specs.declared.fault.LoopFault.TheVariants.{Wait, Clock, ClockAhead, Keep, Rounds}
+use Rattle.outside.specs.declared.clocks.Times.{Times}
+use Rattle.outside.specs.declared.fault.LoopFault.TheVariants.{Wait, Clock, ClockAhead, Keep, Rounds, Reload}
 use Rattle.event_loop.specs.declared.limits.Limits.{Limits}
 use Rattle.event_loop.specs.declared.tools.Tools.{Tools}
-use Rattle.event_loop.specs.Calls as call
-use Rattle.event_loop.specs.Calls.{Keeping, Shortening, IsDone}
+use Rattle.outside.specs.Calls as call
+use Rattle.outside.specs.Calls.{Keeping, Shortening, IsDone}
 use Rattle.event_loop.specs.Done.{HaveDone}
 use Rattle.event_loop.specs.Durable.{Carries, Onward, KeeperHolds, IsWriteKept, IsDurable, IsDurableToEnd, MomentIsHeld, MomentStays, latest}
 use Rattle.event_loop.specs.Places.{AllFree}
+use Rattle.event_loop.specs.Closing.{IsTimeToReload}
 use Rattle.event_loop.specs.Moments.{seconds_too_far}
 use Rattle.event_loop.specs.LoopStates.{Promises, LoopState, IsAllKept, IsUnkept, with_call}
 use Rattle.event_loop.specs.Answered.{IsAllAnswered}
@@ -21,7 +22,7 @@ rounds_limit = 18446744073709551615
 
 -- why it goes on no more: a wait failed; behind a wait the clocks told nothing, or a moment that is too far ahead of the greatest
 -- that was kept, or one that could not be kept, and what it found was not looked at; what is unkept could not be kept; what is kept could not be shortened, and may be lost; or so
--- many rounds were made as can be counted
+-- many rounds were made as can be counted; or it is time to reload
 pub data CannotGoOn {N C J K H : Type 0} (p : Promises N C J K H) (s : LoopState N C J K H) : LoopFault → LoopState N C J K H → Type 0 where
   no_wait : (limit : Option ℕ) (room : ℕ) (n : N) → MayWait p s limit room → p.sockets.does s.sockets (call.WaitFailed limit room) n →
       CannotGoOn p s Wait (with_call s (call.WaitFailed limit room) n)
@@ -43,6 +44,7 @@ pub data CannotGoOn {N C J K H : Type 0} (p : Promises N C J K H) (s : LoopState
   not_shortened : (keeper : K) → IsAllKept s.progress.journey.world → ¬ (IsDone Shortening s.calls) →
       KeepsNot p.keeping.crashes s.progress.journey.world.history s.progress.journey.world.history s.keeper keeper → TellsBasis p.keeping.crashes 0 s.keeper keeper → p.keeping.has_failed keeper →
       CannotGoOn p s Keep (record s { keeper = keeper })
+  to_reload : IsTimeToReload s.reload s.limits.crowded s.times s.places s.progress.journey.world.connections → CannotGoOn p s Reload s
   no_more : rounds_limit ≤ call.waits s.calls → CannotGoOn p s Rounds s
 
 -- the moment that the clocks told then, where it could not be kept
@@ -68,7 +70,7 @@ tools_at s = record {
 }
 
 -- The clocks told the first times, and steps led on, whose every state is answered, until something failed; then nothing
--- was done but that each connection that was left was closed and forgotten, and all places are free, and that behind them,
+-- was done but that each connection that was left was closed or handed on, and forgotten, and all places are free, and that behind them,
 -- where reports are wanted, there was one more. That is what the sockets did. Each state has all that had happened and was kept at
 -- those before it. With each write all that had happened was kept, and where the keeper held at first what was kept, all that was
 -- kept is durable. What crashes told at some state, each crash tells from then on, and no moment that is more than a minute
@@ -93,7 +95,7 @@ pub record HasServed {N C J K H : Type 0} (p : Promises N C J K H) (start : Begi
   pub failed : LoopState N C J K H
   pub fails : CannotGoOn p last fault failed
   pub emptied : LoopState N C J K H
-  pub shuts : Shuts p failed emptied
+  pub shuts : Shuts p fault failed emptied
   pub end : LoopState N C J K H
   pub tells_last : TellsLast p emptied end
   pub done : HaveDone p.sockets first.sockets end.calls end.sockets

@@ -1,24 +1,29 @@
 -- Laws of the keeper at the end of a loop.
 use Rattle.std.proofs.Common.{◌≡◌, ℕ, refl, sym, ap, subst, ◌∙◌}
 use Rattle.event_loop.specs.Names.{LoopFault}
-use Rattle.event_loop.specs.declared.fault.LoopFault.TheVariants.{Keep}
+use Rattle.outside.specs.declared.fault.LoopFault.TheVariants.{Keep}
 use Rattle.event_loop.specs.declared.place.Place.{Place}
 use Rattle.event_loop.specs.declared.tools.Tools.{Tools}
-use Rattle.event_loop.specs.Closing.{Closes, leaves}
-use Rattle.event_loop.specs.Ends.{Beginning, CannotGoOn, HasServed, no_more, no_moment, no_time, no_wait, too_far, not_kept, not_shortened}
+use Rattle.event_loop.specs.Closing.{Closes, Passes, hands_on, leaves}
+use Rattle.event_loop.specs.Ends.{Beginning, CannotGoOn, HasServed, no_more, no_moment, no_time, no_wait, too_far, not_kept, not_shortened, to_reload}
 use Rattle.event_loop.specs.LoopStates.{LoopState, Promises}
-use Rattle.event_loop.specs.Served.{Shuts, TellsLast, reports_last, shuts, stops, tells_nothing}
+use Rattle.event_loop.specs.Served.{Shuts, TellsLast, passes_on, reports_last, shuts, stops, tells_nothing}
 
 module _ {N C J K H : Type 0} (p : Promises N C J K H) where
   -- closing keeps nothing
   closes_keeper : (k : ℕ) (place : Place) (s s' : LoopState N C J K H) → Closes p k place s s' → s'.keeper ≡ s.keeper
   closes_keeper k place s s' (leaves n e on noted done noting) = refl
 
-  shuts_keeper : (s s' : LoopState N C J K H) → Shuts p s s' → s'.keeper ≡ s.keeper
-  shuts_keeper s s' stops = refl
-  shuts_keeper s s' (shuts {s = before} k place shut here taken closing) = closes_keeper k place before s' closing ∙ shuts_keeper s before shut
+  -- nor does handing on
+  passes_keeper : (k : ℕ) (place : Place) (s s' : LoopState N C J K H) → Passes p k place s s' → s'.keeper ≡ s.keeper
+  passes_keeper k place s s' (hands_on n e on done) = refl
 
-  pub end_keeper : (failed emptied end : LoopState N C J K H) → Shuts p failed emptied → TellsLast p emptied end → end.keeper ≡ failed.keeper
+  shuts_keeper : {fault : LoopFault} (s s' : LoopState N C J K H) → Shuts p fault s s' → s'.keeper ≡ s.keeper
+  shuts_keeper s s' stops = refl
+  shuts_keeper s s' (shuts {s = before} k place shut here taken apart closing) = closes_keeper k place before s' closing ∙ shuts_keeper s before shut
+  shuts_keeper s s' (passes_on {s = before} k place shut here wanted between passing) = passes_keeper k place before s' passing ∙ shuts_keeper s before shut
+
+  pub end_keeper : {fault : LoopFault} (failed emptied end : LoopState N C J K H) → Shuts p fault failed emptied → TellsLast p emptied end → end.keeper ≡ failed.keeper
   end_keeper failed emptied end shut (reports_last report journal wanted tells done) = shuts_keeper failed emptied shut
   end_keeper failed emptied end shut (tells_nothing unwanted) = shuts_keeper failed emptied shut
 
@@ -29,6 +34,7 @@ module _ {N C J K H : Type 0} (p : Promises N C J K H) where
   has_failed last failed fault (no_moment limit room found n times c keeper may done told near lost basis asked) is = asked
   has_failed last failed fault (not_kept keeper unkept undone lost basis asked) is = asked
   has_failed last failed fault (not_shortened keeper all undone lost basis asked) is = asked
+  has_failed last failed fault (to_reload time) is = absurd (cc)
   has_failed last failed fault (no_more many) is = absurd (cc)
 
   -- a keeper that is blamed failed when it was called last

@@ -5,17 +5,17 @@ use Rattle.event_loop.specs.declared.due.Due.{Due}
 use Rattle.event_loop.specs.declared.due.Due.TheVariants.{Work, Rest}
 use Rattle.event_loop.specs.declared.place.Place.{Place}
 use Rattle.event_loop.specs.declared.room.Guest.{Guest}
-use Rattle.event_loop.specs.declared.room.Guest.TheVariants.{Silent}
-use Rattle.event_loop.specs.declared.report.Report.{Report}
+use Rattle.event_loop.specs.declared.room.Guest.TheVariants.{Silent, Owed}
+use Rattle.outside.specs.declared.report.Report.{Report}
 use Rattle.event_loop.specs.declared.service.Service.{Service}
 use Rattle.event_loop.specs.declared.tools.Tools.{Tools}
-use Rattle.event_loop.specs.Calls.{Call, CallKind, Reading, Looking, Keeping, Writing, Accepting, Shortening, IsDone, waits, done_since}
+use Rattle.outside.specs.Calls.{Call, CallKind, Reading, Looking, Keeping, Writing, Accepting, Shortening, IsDone, waits, done_since}
 use Rattle.change_codec.specs.declared.keeper.Length.{Length}
 use Rattle.change_codec.specs.declared.keeper.Length.TheVariants.{Short, Long}
 use Rattle.event_loop.specs.Noting.{Noted}
 use Rattle.event_loop.specs.Places.{MayWrite, NeedsNoRead, NeedsNoWrite, IsOver, IsPlaceAtRest}
 use Rattle.event_loop.specs.LoopStates.{Promises, LoopState}
-use Rattle.event_loop.specs.Closing.{IsRoomMade, Closes, freed_queue}
+use Rattle.event_loop.specs.Closing.{IsRoomMade, Closes, freed_queue, AreBetween, IsTimeToReload, Passes}
 use Rattle.event_loop.specs.Reporting.{Tells}
 use Rattle.event_loop.specs.Served.{HadTurn, IsKeptShort, Served, Shuts, TellsLast}
 use Rattle.event_loop.specs.Ends.{CannotGoOn}
@@ -25,7 +25,7 @@ pub use Rattle.event_loop.specs.Names.{AreLeftOfReply, Connection, InEach, is_cl
 pub use Rattle.event_loop.specs.declared.due.Due.TheVariants.{Close}
 pub use Rattle.event_loop.specs.declared.room.Guest.TheVariants.{Answered, Owed}
 pub use Rattle.event_loop.specs.Places.{IsOccupied, IsInService, IsOneLeaving, IsStaying, to_offer, taken_stage, IsFreeAt, AllFree, AllTaken, MayRead, is_taken, open_count}
-pub use Rattle.event_loop.specs.Closing.{AreWithin, IsBehindReply, IsOwed}
+pub use Rattle.event_loop.specs.Closing.{AreWithin, IsBehindReply, IsOwed, IsBetween, asked_since}
 pub use Rattle.event_loop.specs.Reading.{read_place}
 pub use Rattle.event_loop.specs.Reporting.{TellsRefusal, is_long_ago}
 pub use Rattle.event_loop.specs.Served.{told_place}
@@ -76,6 +76,7 @@ state_of now found past = record {
   held = now.service.held;
   told = now.service.told;
   refused = now.service.refused;
+  reload = now.service.reload;
   began = now.service.began;
   accepted = now.service.accepted;
   turn = now.service.turn;
@@ -279,6 +280,32 @@ pub record IsCalm (service : Service) : Type 0 where
   pub crowded : service.queue ≡ Waits → AreWithin service.limits.crowded service.times service.places
   pub tried : IsTried service
 
+-- the connection at a place is not between two requests
+abbrev pub IsApart : Place → Option Connection → Type 0
+IsApart place connection = ¬ (IsBetween place connection)
+
+-- all connections are between two requests
+abbrev pub AreAllBetween : Service → World → Type 0
+AreAllBetween service world = AreBetween service.places world.connections
+
+-- not all are
+abbrev pub AreNotBetween : Service → World → Type 0
+AreNotBetween service world = ¬ (AreAllBetween service world)
+
+-- they are, or it is longer than the limit since then
+abbrev pub IsTimeSince : ℕ → Service → World → Type 0
+IsTimeSince since service world = AreAllBetween service world ⊎ (service.limits.crowded < service.times.steady - since)
+
+abbrev pub IsNoTimeSince : ℕ → Service → World → Type 0
+IsNoTimeSince since service world = ¬ (IsTimeSince since service world)
+
+-- it is time to reload
+abbrev pub MayEnd : Service → World → Type 0
+MayEnd service world = IsTimeToReload service.reload service.limits.crowded service.times service.places world.connections
+
+abbrev pub ServesOn : Service → World → Type 0
+ServesOn service world = ¬ (MayEnd service world)
+
 -- all places are settled, and nobody is to be accepted, or it was tried since the last wait
 pub record IsReadyToWait {H : Type 0} (service : Service) (past : Past H) : Type 0 where
   pub settled : AreAllSettled service past
@@ -344,6 +371,15 @@ module _ {N C J K H : Type 0} (p : Promises N C J K H) where
   abbrev pub LeadsAway : ℕ → Place → Running N C J K H → Running N C J K H → Type 0
   LeadsAway k place before after =
       (found : List Ready) (past : Past H) → Reached p.hosting before.tools.edge past.journey → GoesAway k place (standing before found past) after
+
+  -- or it is handed on
+  pub record GoesPassing (k : ℕ) (place : Place) (before : Standing N C J K H) (after : Running N C J K H) : Type 0 where
+    pub next : Past H
+    pub passes : Passes p k place (state_of before.now before.found before.past) (state_of after before.found next)
+
+  abbrev pub LeadsPassing : ℕ → Place → Running N C J K H → Running N C J K H → Type 0
+  LeadsPassing k place before after =
+      (found : List Ready) (past : Past H) → Reached p.hosting before.tools.edge past.journey → GoesPassing k place (standing before found past) after
 
   -- steps lead on, and all places are settled
   pub record GoesSettled (first : LoopState N C J K H) (found : List Ready) (past : Past H) (after : Running N C J K H) : Type 0 where
@@ -518,13 +554,13 @@ module _ {N C J K H : Type 0} (p : Promises N C J K H) where
   abbrev pub LeadsLast : Running N C J K H → Running N C J K H → Type 0
   LeadsLast before after = (found : List Ready) (past : Past H) → TellsLast p (state_of before found past) (state_of after found past)
 
-  -- connections that are left are closed
-  pub record GoesShut (first : LoopState N C J K H) (found : List Ready) (after : Running N C J K H) : Type 0 where
+  -- connections that are left are closed, or handed on
+  pub record GoesShut (fault : LoopFault) (first : LoopState N C J K H) (found : List Ready) (after : Running N C J K H) : Type 0 where
     pub next : Past H
-    pub shuts : Shuts p first (state_of after found next)
+    pub shuts : Shuts p fault first (state_of after found next)
     pub reached : Reached p.hosting after.tools.edge next.journey
 
-  abbrev pub LeadsShut : Running N C J K H → Running N C J K H → Type 0
-  LeadsShut before after =
-      (first : LoopState N C J K H) (found : List Ready) (past : Past H) → Shuts p first (state_of before found past) →
-      Reached p.hosting before.tools.edge past.journey → GoesShut first found after
+  abbrev pub LeadsShut : LoopFault → Running N C J K H → Running N C J K H → Type 0
+  LeadsShut fault before after =
+      (first : LoopState N C J K H) (found : List Ready) (past : Past H) → Shuts p fault first (state_of before found past) →
+      Reached p.hosting before.tools.edge past.journey → GoesShut fault first found after

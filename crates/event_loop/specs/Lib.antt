@@ -1,5 +1,4 @@
 -- What public clauses cite. docs/DEFINITIONS.md says what to read in which order.
-pub mod Calls
 pub mod Done
 pub mod Places
 pub mod Progress

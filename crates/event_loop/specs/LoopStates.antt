@@ -1,13 +1,13 @@
 -- What the loop knows and works with, at one time.
 use Rattle.std.specs.Prelude.{◌≡◌, ◌≢◌, ℕ, List, ◌∷◌, Option, Some, slice_set}
 use Rattle.event_loop.specs.Names.{Hosting, Event, World, Sockets, Journal, Queue, Ready}
-use Rattle.event_loop.specs.declared.clocks.Clocks.{Ghosts as Clocks}
+use Rattle.outside.specs.declared.clocks.Clocks.{Ghosts as Clocks}
 use Rattle.change_codec.specs.Keepers.{Keeping}
-use Rattle.event_loop.specs.declared.clocks.Times.{Times}
+use Rattle.outside.specs.declared.clocks.Times.{Times}
 use Rattle.event_loop.specs.declared.limits.Limits.{Limits}
 use Rattle.event_loop.specs.declared.place.Place.{Place}
 use Rattle.event_loop.specs.declared.report.LastTold.{LastTold}
-use Rattle.event_loop.specs.Calls.{Call}
+use Rattle.outside.specs.Calls.{Call}
 use Rattle.event_loop.specs.Progress.{Progress}
 use Rattle.event_loop.specs.Noting.{Noted}
 
@@ -25,7 +25,7 @@ promises sockets clocks journal keeping hosting = record { sockets = sockets; cl
 -- What the loop works with: sockets, clocks, a journal, a keeper, and an edge with its draws, on its progress. What it knows:
 -- its limits, its places, what the last wait found and was not looked at yet, who waits to be accepted, what the clocks
 -- told last, the greatest moment that was kept or with which it began, when a fault was noted last, and the journal was told
--- last what the server does, and whether what is kept wants room, in which second shortening was refused last, in which it began, how many connections came, and its
+-- last what the server does, and whether what is kept wants room, in which second shortening was refused last, since which a reload is wanted, in which it began, how many connections came, and its
 -- turn: how often it waited. What was done so far, the last call first.
 pub record LoopState (N C J K H : Type 0) : Type 0 where
   pub sockets : N
@@ -41,6 +41,7 @@ pub record LoopState (N C J K H : Type 0) : Type 0 where
   pub held : ℕ
   pub told : LastTold
   pub refused : Option ℕ
+  pub reload : Option ℕ
   pub began : ℕ
   pub accepted : ℕ
   pub turn : ℕ

@@ -1,7 +1,7 @@
 -- How the moment that the clocks tell is looked at and kept.
 use Rattle.std.specs.Prelude.{ℕ, ◌-◌, ◌&&◌, nat_lt, if◌then◌else◌, Option, None, Some}
 use Rattle.change_codec.specs.Keeping.{Crashes, Until, HoldsBasis, HoldsStill, KeepsBasis, horizon_bound}
-use Rattle.event_loop.specs.declared.clocks.Times.{Times}
+use Rattle.outside.specs.declared.clocks.Times.{Times}
 
 -- how many seconds the clocks are ahead of a moment, where these are more than they may be and the moment is not 0
 abbrev pub seconds_too_far : Option ℕ → Option Times → ℕ → Option ℕ

@@ -1,7 +1,7 @@
 -- What is to be done at a place.
 use Rattle.std.specs.Prelude.{◌≡◌, ◌≤◌, ◌<◌, ◌-◌, ℕ, take, Bool, true, false, List, [], Option, Some, count_by, length, slice_get, ⊤}
 use Rattle.event_loop.specs.Names.{Connection, untaken, is_closing, ConnectionFault, Stage, Free, Open, Ended, Leaving, Broken}
-use Rattle.event_loop.specs.declared.clocks.Times.{Times}
+use Rattle.outside.specs.declared.clocks.Times.{Times}
 use Rattle.event_loop.specs.declared.place.Place.{Place}
 
 -- so many connections are served at once

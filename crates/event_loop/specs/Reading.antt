@@ -1,10 +1,10 @@
 -- How connections are read.
 use Rattle.std.specs.Prelude.{◌≡◌, ◌≤◌, ◌<◌, ℕ, false, ◌||◌, List, nat_le, length}
 use Rattle.event_loop.specs.Names.{HasEnded, piece_of, SeenEdge, GoesOn, IsEndingRefusal, EdgeFault, Refused, Ended, Broken}
-use Rattle.event_loop.specs.declared.fault.ConnectionFault.TheVariants.{Read}
+use Rattle.outside.specs.declared.fault.ConnectionFault.TheVariants.{Read}
 use Rattle.event_loop.specs.declared.place.Place.{Place}
-use Rattle.event_loop.specs.Calls as call
-use Rattle.event_loop.specs.Calls.{Bytes, End, Nothing, Failed}
+use Rattle.outside.specs.Calls as call
+use Rattle.outside.specs.Calls.{Bytes, End, Nothing, Failed}
 use Rattle.event_loop.specs.Progress.{Progress, led}
 use Rattle.event_loop.specs.Giving.{AreBytesHeard, IsUnheard}
 use Rattle.event_loop.specs.Places.{read_limit}

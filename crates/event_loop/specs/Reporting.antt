@@ -2,7 +2,7 @@
 use Rattle.std.specs.Prelude.{◌≡◌, ◌≢◌, ◌≤◌, ◌-◌, ℕ, Bool, true, nat_le, Option, Some, None, IsSome, length}
 use Rattle.event_loop.specs.Names.{Journal, Notice, ShorteningRefused, WantsRoom, Reported, StoreFull}
 use Rattle.event_loop.specs.declared.report.LastTold.{LastTold}
-use Rattle.event_loop.specs.declared.report.Report.{Report}
+use Rattle.outside.specs.declared.report.Report.{Report}
 use Rattle.event_loop.specs.Places.{open_count}
 use Rattle.event_loop.specs.LoopStates.{Promises, LoopState}
 

@@ -1,11 +1,13 @@
 -- All that the loop does, step by step.
 use Rattle.std.specs.Prelude.{◌≡◌, ◌≢◌, ◌⊎◌, ◌<◌, ◌≤◌, ◌-◌, max, ℕ, Bool, true, false, ◌||◌, List, [], ◌∷◌, Option, Some, None, IsSome, slice_get, length}
 use Rattle.event_loop.specs.Names.{Told, Empty, Barred, Waits, Leaving, AreLeftOfReply, Ready, Keeps, KeepsBasis, IsNoFurther, SeenEdge, GoesOn, Connection, Notice, Reported}
-use Rattle.event_loop.specs.declared.clocks.Times.{Times}
+use Rattle.outside.specs.declared.clocks.Times.{Times}
+use Rattle.outside.specs.declared.fault.LoopFault.{LoopFault}
+use Rattle.outside.specs.declared.fault.LoopFault.TheVariants.{Reload}
 use Rattle.event_loop.specs.declared.place.Place.{Place}
-use Rattle.event_loop.specs.declared.sockets.Ready.TheVariants as ready
-use Rattle.event_loop.specs.Calls as call
-use Rattle.event_loop.specs.Calls.{Call, Reading, Looking, Keeping, Writing, Accepting, Shortening, IsDone, done_since}
+use Rattle.outside.specs.declared.sockets.Ready.TheVariants as ready
+use Rattle.outside.specs.Calls as call
+use Rattle.outside.specs.Calls.{Call, Reading, Looking, Keeping, Writing, Accepting, Shortening, IsDone, done_since}
 use Rattle.event_loop.specs.Progress.{known, led, IsReached}
 use Rattle.http_edge.specs.Schedule.{Kept}
 use Rattle.event_loop.specs.Places.{IsOccupied, IsOneLeaving, MayRead, MayWrite, NeedsNoRead, NeedsNoWrite, IsOver, IsPlaceAtRest, AllFree, places_limit, ready_limit, looks_limit}
@@ -13,11 +15,11 @@ use Rattle.event_loop.specs.LoopStates.{Promises, LoopState, IsAllKept, IsUnkept
 use Rattle.event_loop.specs.Coming.{AcceptsOne, one_more, told_queue}
 use Rattle.event_loop.specs.Reading.{ReadsPlace}
 use Rattle.event_loop.specs.Writing.{WritesPlace}
-use Rattle.event_loop.specs.Closing.{AreWithin, Cause, Closes, IsEldest, IsOwed, IsRoomMade}
+use Rattle.event_loop.specs.Closing.{AreWithin, Cause, Closes, IsBetween, IsEldest, IsOwed, IsRoomMade, IsTimeToReload, Passes, asked_since}
 use Rattle.event_loop.specs.Reporting.{IsDue, Tells, TellsRefusal, is_long_ago}
 use Rattle.event_loop.specs.Moments.{KeepsTimes, seconds_too_far}
 use Rattle.event_loop.specs.declared.report.LastTold.{LastTold}
-use Rattle.event_loop.specs.declared.report.Report.{Report}
+use Rattle.outside.specs.declared.report.Report.{Report}
 
 -- No more is kept than may be, or something is unkept, or shortening was refused less than a minute ago.
 abbrev pub IsKeptShort : {N C J K H : Type 0} → Promises N C J K H → LoopState N C J K H → Type 0
@@ -43,13 +45,14 @@ pub record IsFair {N C J K H : Type 0} (s : LoopState N C J K H) : Type 0 where
 
 -- As the clocks told last, nobody is silent for longer than the limit, nor, where another connection waits for a place, for
 -- longer than the other limit, and there is room for it, as far as there may be; where an accept failed and was not tried again, it failed in this second; and where reports
--- are wanted, one was told in this second, or less than so many seconds ago.
+-- are wanted, one was told in this second, or less than so many seconds ago; and it is no time to reload.
 pub record IsPrompt {N C J K H : Type 0} (s : LoopState N C J K H) : Type 0 where
   pub idle : AreWithin s.limits.idle s.times s.places
   pub crowded : s.queue ≡ Waits → AreWithin s.limits.crowded s.times s.places
   pub room : s.queue ≡ Waits → IsRoomMade s.turn s.limits.crowded s.times s.places s.progress.journey.world.connections
   pub tried : (since : ℕ) → s.queue ≡ Barred since → since ≡ s.times.steady
   pub reported : (every : ℕ) → s.limits.report ≡ Some every → s.told.report ≡ s.times.steady ⊎ s.times.steady - s.told.report < every
+  pub serves_on : ¬ (IsTimeToReload s.reload s.limits.crowded s.times s.places s.progress.journey.world.connections)
 
 -- How long it waits, in milliseconds: not at all only where something was done since the last wait; else, where nothing is
 -- to be done, for a second, or, while no connection is there, no accept is to be tried again, no reports are wanted and no more is
@@ -105,6 +108,7 @@ pub data LoopStep {N C J K H : Type 0} (p : Promises N C J K H) (s : LoopState N
   fails_to_look : (nth room : ℕ) (n : N) → MayLook s nth room → p.sockets.does s.sockets (call.WaitFailed (Some 0) room) n →
       LoopStep p s (with_call s (call.Looked nth room None) n)
   hears_of_listener : (more : List Ready) → s.found ≡ ready.Listener ∷ more → LoopStep p s (record s { found = more; queue = told_queue s.queue })
+  hears_of_reload : (more : List Ready) → s.found ≡ ready.Reload ∷ more → LoopStep p s (record s { found = more; reload = asked_since s.reload s.times.steady })
   hears_of : (k : ℕ) (readable writable hung : Bool) (more : List Ready) (place place' : Place) → s.found ≡ ready.Connection k readable writable hung ∷ more →
       slice_get s.places k ≡ Some place → place' ≡ told_place place readable writable hung → LoopStep p s (record (with_place s k place') { found = more })
   hears_of_none : (k : ℕ) (readable writable hung : Bool) (more : List Ready) → s.found ≡ ready.Connection k readable writable hung ∷ more →
@@ -156,6 +160,7 @@ pub record IsFirst {N C J K H : Type 0} (p : Promises N C J K H) (s : LoopState 
   pub held : s.held ≡ s.progress.journey.world.greatest
   pub told : s.told ≡ record { report = s.times.steady; full = None; room = false }
   pub refused : s.refused ≡ None
+  pub reload : s.reload ≡ None
   pub began : s.began ≡ s.times.steady
   pub accepted : s.accepted ≡ 0
   pub turn : s.turn ≡ 0
@@ -168,11 +173,14 @@ pub data Served {N C J K H : Type 0} (p : Promises N C J K H) (first : LoopState
   begins : IsFirst p first → Served p first first
   goes : {s s' : LoopState N C J K H} → Served p first s → LoopStep p s s' → Served p first s'
 
--- Connections that are left are closed and forgotten, one after another.
-pub data Shuts {N C J K H : Type 0} (p : Promises N C J K H) (first : LoopState N C J K H) : LoopState N C J K H → Type 0 where
-  stops : Shuts p first first
-  shuts : {s s' : LoopState N C J K H} (k : ℕ) (place : Place) → Shuts p first s → slice_get s.places k ≡ Some place → IsOccupied place.stage →
-      Closes p k place s s' → Shuts p first s'
+-- Connections that are left are closed and forgotten, one after another; where the loop ends for a reload, those between two requests
+-- are handed on, and no others.
+pub data Shuts {N C J K H : Type 0} (p : Promises N C J K H) (fault : LoopFault) (first : LoopState N C J K H) : LoopState N C J K H → Type 0 where
+  stops : Shuts p fault first first
+  shuts : {s s' : LoopState N C J K H} (k : ℕ) (place : Place) → Shuts p fault first s → slice_get s.places k ≡ Some place → IsOccupied place.stage →
+      (fault ≡ Reload → ¬ (IsBetween place (known s.progress k))) → Closes p k place s s' → Shuts p fault first s'
+  passes_on : {s s' : LoopState N C J K H} (k : ℕ) (place : Place) → Shuts p fault first s → slice_get s.places k ≡ Some place → fault ≡ Reload →
+      IsBetween place (known s.progress k) → Passes p k place s s' → Shuts p fault first s'
 
 -- Behind that, where reports are wanted, there is one more.
 pub data TellsLast {N C J K H : Type 0} (p : Promises N C J K H) (s : LoopState N C J K H) : LoopState N C J K H → Type 0 where

@@ -1,6 +1,6 @@
 -- How many slices a shortening takes.
 use Rattle.std.specs.Prelude.{◌≡◌, ◌⊎◌, ◌≤◌, ◌+◌, ◌*◌, ℕ, suc, List, [], ◌∷◌, None, unwrap_or}
-use Rattle.event_loop.specs.Calls.{Call, Shortened}
+use Rattle.outside.specs.Calls.{Call, Shortened}
 use Rattle.event_loop.specs.LoopStates.{Promises, LoopState}
 use Rattle.event_loop.specs.Served.{LoopStep}
 

@@ -2,15 +2,14 @@
 ghost use Rattle.std.specs.Prelude.{◌≡◌, ◌≢◌, ◌<◌, ⊤, Some, IfSome, IfNone};
 ghost use Rattle.event_loop.specs.Goes.{Told, Waits, InEach, IsFreeAt, AllTaken, IsCalm, IsRoomMadeIn, LeadsToAccepts, running, keeping, promises};
 
-use crate::fault::ConnectionFault;
 use crate::limits::PLACES;
 use crate::noting::note;
 use crate::place::{Place, Stage};
 use crate::queue::Queue;
 use crate::service::Service;
-use crate::sockets::{Accepted, Sockets};
 use crate::tools::{Clocks, HookHost, Journal, Keeper, Tools};
 use http_edge::{ConnectionNo, Event};
+use outside::{Accepted, ConnectionFault, Sockets};
 
 impl Service {
     // A place where no connection is.

@@ -4,10 +4,10 @@ ghost use Rattle.consent.specs.History.{Happened};
 ghost use Rattle.http_edge.specs.Edges.{unkept_of};
 ghost use Rattle.event_loop.specs.Goes.{InEach, IsAllKept, IsUnkept, LeadsToKept, LeadsToLoss, keeping, promises};
 
-use crate::fault::LoopFault;
 use crate::tools::{Clocks, HookHost, Journal, Keeper, Sockets, Tools};
 use change_codec::Batch;
 use http_edge::Edge;
+use outside::LoopFault;
 
 /// What is unkept, if anything is.
 pub(crate) fn unkept<H: HookHost>(edge: &Edge<H>) -> Option<&Batch>

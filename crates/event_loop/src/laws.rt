@@ -3,8 +3,8 @@
 ghost use Rattle.std.specs.Prelude.{◌≡◌, ℕ, Some, slice_get};
 ghost use Rattle.change_codec.specs.Keepers.{keeping};
 ghost use Rattle.event_loop.specs.declared.place.Place.{Place};
-ghost use Rattle.event_loop.specs.Answered.{HasAllReplies, HasWholeReplies};
-ghost use Rattle.event_loop.specs.Closing.{HasWhole, IsBehindReply};
+ghost use Rattle.event_loop.specs.Answered.{HasAllReplies, IsReadWhole, HasWholeReplies};
+ghost use Rattle.event_loop.specs.Closing.{IsBehindReply, IsBetween, HasWhole};
 ghost use Rattle.event_loop.specs.LoopStates.{LoopState, promises};
 ghost use Rattle.event_loop.specs.Progress.{known};
 ghost use Rattle.event_loop.specs.Served.{Served};
@@ -30,4 +30,12 @@ pub fn who_makes_room_is_answered<N: Sockets, C: Clocks, J: Journal, K: Keeper, 
 pub fn no_reply_is_cut_to_make_room<N: Sockets, C: Clocks, J: Journal, K: Keeper, H: HookHost>()
     ensures { (first s : LoopState N C J K H) → Served (promises N.Sockets C.Clocks J.Journal (keeping K.Keeper) H.HookHost) first s
         → (k : ℕ) (place : Place) → slice_get s.places k ≡ Some place → HasWhole place (known s.progress k) → HasWholeReplies s k }
+{}
+
+/// Who is between two requests has had all replies to what was read of its connection, and all of that were whole requests: so
+/// nothing is lost of who is handed on.
+pub fn who_is_passed_on_is_answered<N: Sockets, C: Clocks, J: Journal, K: Keeper, H: HookHost>()
+    ensures { (first s : LoopState N C J K H) → Served (promises N.Sockets C.Clocks J.Journal (keeping K.Keeper) H.HookHost) first s
+        → (k : ℕ) (place : Place) → slice_get s.places k ≡ Some place → IsBetween place (known s.progress k)
+        → HasAllReplies s k × IsReadWhole s k }
 {}

@@ -2,15 +2,16 @@
 ghost use Rattle.std.specs.Prelude.{◌≡◌, ◌≢◌, ◌<◌, ℕ, true, slice_get};
 ghost use Rattle.event_loop.specs.Goes.{AllFree, NobodyIsSilent, IsTried, LeadsAway, LeadsShut, LeadsToTidy, running, SettlesAll, FreesPlace, keeping, promises};
 
-use crate::clocks::Clocks;
 use crate::due::Due;
 use crate::limits::PLACES;
 use crate::noting::note_end;
+use crate::passing::is_handed_on;
 use crate::place::{Place, Stage};
 use crate::queue::Queue;
 use crate::service::Service;
 use crate::tools::{HookHost, Journal, Keeper, Sockets, Tools};
 use http_edge::ConnectionNo;
+use outside::{Clocks, LoopFault};
 
 impl<N: Sockets, C: Clocks, J: Journal, K: Keeper, H: HookHost> Tools<N, C, J, K, H> {
     /// Closes and forgets a connection, and notes its fault.
@@ -85,14 +86,18 @@ impl<N: Sockets, C: Clocks, J: Journal, K: Keeper, H: HookHost> Tools<N, C, J, K
         service.queue = Queue::Told;
     }
 
-    /// Closes each connection that is left.
-    pub(crate) fn leave_all(&mut self, service: &mut Service)
-        ensures shut { LeadsShut (promises N.Sockets C.Clocks J.Journal (keeping K.Keeper) H.HookHost) (running service.old self.old) (running service.new self.new) }
+    /// Closes each connection that is left; where the loop ends for a reload, those between two requests are handed on instead.
+    pub(crate) fn leave_all(&mut self, service: &mut Service, fault: LoopFault)
+        ensures shut { LeadsShut (promises N.Sockets C.Clocks J.Journal (keeping K.Keeper) H.HookHost) fault (running service.old self.old) (running service.new self.new) }
         ensures free { AllFree service.new.places }
     {
         for k in 0..PLACES {
             let place = service.place_at(k);
             if !place.stage.is_taken() {
+                continue;
+            }
+            if is_handed_on(&self.edge, place, k, fault) {
+                self.pass(service, k, place);
                 continue;
             }
             self.leave(service, k, place);

@@ -6,14 +6,13 @@
 mod admit;
 mod clocks;
 mod due;
-mod fault;
-mod journal;
 mod keep;
 mod laws;
 mod leave;
 mod limits;
 mod look;
 mod noting;
+mod passing;
 mod place;
 mod queue;
 mod read;
@@ -23,18 +22,20 @@ mod round;
 mod serve;
 mod service;
 mod shorten;
-mod sockets;
 mod tell;
 mod tools;
 mod turn;
 mod write;
 
-pub use clocks::{Clocks, Times, too_far};
-pub use fault::{ConnectionFault, LoopFault};
-pub use journal::Journal;
-pub use laws::{a_shortening_ends, no_reply_is_cut_to_make_room, who_makes_room_is_answered};
+pub use clocks::too_far;
+pub use laws::{
+    a_shortening_ends, no_reply_is_cut_to_make_room, who_is_passed_on_is_answered,
+    who_makes_room_is_answered,
+};
 pub use limits::{Limits, PLACES, READ_LIMIT};
-pub use report::{Notice, Report};
+pub use outside::{
+    Accepted, Clocks, ConnectionFault, Journal, LoopFault, Notice, Ready, Received, Report, Sent,
+    Sockets, Times,
+};
 pub use serve::serve_all;
-pub use sockets::{Accepted, Ready, Received, Sent, Sockets};
 pub use tools::Tools;

@@ -5,8 +5,8 @@ ghost use Rattle.event_loop.specs.Goes.{LeadsFurther, running, keeping, promises
 use crate::keep::unkept;
 use crate::limits::LOOKS;
 use crate::service::Service;
-use crate::sockets::{Ready, Sockets};
 use crate::tools::{Clocks, HookHost, Journal, Keeper, Tools};
+use outside::{Ready, Sockets};
 
 impl<N: Sockets, C: Clocks, J: Journal, K: Keeper, H: HookHost> Tools<N, C, J, K, H> {
     /// While something is unkept, looks without waiting what else is ready, a few times at most, and reads the places that were not

@@ -5,14 +5,13 @@ ghost use Rattle.event_loop.specs.Giving.{AreBytesHeard, IsUnheard};
 ghost use Rattle.event_loop.specs.GivingParts.{LeadsToGiving};
 ghost use Rattle.event_loop.specs.Goes.{is_closing, piece_of, MayRead, WhereKnown, LeadsToRead, running, keeping, promises};
 
-use crate::fault::ConnectionFault;
 use crate::limits::{BACKLOG_LIMIT, CUT_LIMIT};
 use crate::place::{Place, Stage};
 use crate::service::Service;
-use crate::sockets::{Received, Sockets};
 use crate::tools::{Clocks, HookHost, Journal, Keeper, Tools};
 use consent::Moment;
 use http_edge::{ConnectionNo, Edge, EdgeFault, Event};
+use outside::{ConnectionFault, Received, Sockets};
 use rand_chacha::ChaCha20Rng;
 
 /// Whether a connection may be read.

@@ -2,13 +2,13 @@
 ghost use Rattle.std.specs.Prelude.{◌≡◌, ◌≢◌, true, false, IfSome, IfNone};
 ghost use Rattle.event_loop.specs.Goes.{Answered, Owed, Waits, InEach, IsOccupied, IsOneLeaving, AreGuestsBrief, IsCalm, IsEldestAt, IsGuest, IsRoomMadeIn, IsTried, NobodyIsSilent, WhereKnown, counts_from, running, SettlesAll, keeping, promises};
 
-use crate::clocks::Clocks;
 use crate::limits::PLACES;
 use crate::place::{Place, Stage};
 use crate::queue::Queue;
 use crate::service::Service;
 use crate::tools::{HookHost, Journal, Keeper, Sockets, Tools};
 use http_edge::{ConnectionNo, Edge};
+use outside::Clocks;
 
 /// Which connections make room for others.
 #[derive(Clone, Copy)]

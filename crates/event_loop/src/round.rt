@@ -1,16 +1,15 @@
 //! Rounds.
 ghost use Rattle.std.specs.Prelude.{◌≡◌, ◌≤◌, length, true, false, OnOk, IfErr};
-ghost use Rattle.event_loop.specs.Goes.{AllFree, IsBusy, IsLimit, MayRest, MaySleep, LeadsRound, LeadsWrong, running, keeping, promises};
+ghost use Rattle.event_loop.specs.Goes.{AllFree, InEach, IsBusy, IsLimit, MayRest, MaySleep, LeadsRound, LeadsWrong, ServesOn, running, keeping, promises};
 
-use crate::clocks::{Clocks, Times, later};
-use crate::fault::LoopFault;
+use crate::clocks::later;
 use crate::limits::PLACES;
 use crate::queue::Queue;
 use crate::room::Guest;
 use crate::service::Service;
-use crate::sockets::{Ready, Sockets};
 use crate::tools::{HookHost, Journal, Keeper, Tools};
 use change_codec::Length;
+use outside::{Clocks, LoopFault, Ready, Sockets, Times};
 
 // In milliseconds.
 const SECOND: u64 = 1000;
@@ -82,6 +81,7 @@ impl<N: Sockets, C: Clocks, J: Journal, K: Keeper, H: HookHost> Tools<N, C, J, K
         found: &mut [Ready],
     ) -> Result<(), LoopFault>
         requires room { 65 ≤ length found.old }
+        requires serves_on { InEach H.HookHost self.old.edge (ServesOn service.old) }
         ensures goes { OnOk result (LeadsRound (promises N.Sockets C.Clocks J.Journal (keeping K.Keeper) H.HookHost) 1 (running service.old self.old) (running service.new self.new)) }
         ensures wrong { IfErr result (λ fault. LeadsWrong (promises N.Sockets C.Clocks J.Journal (keeping K.Keeper) H.HookHost) fault (running service.old self.old) (running service.new self.new)) }
     {

@@ -2,11 +2,10 @@
 ghost use Rattle.event_loop.specs.Ends.{RunEnds};
 ghost use Rattle.event_loop.specs.Goes.{LeadsWrong, running, keeping, promises};
 
-use crate::fault::LoopFault;
 use crate::limits::Limits;
 use crate::service::Service;
-use crate::sockets::{Ready, Sockets};
 use crate::tools::{Clocks, HookHost, Journal, Keeper, Tools};
+use outside::{LoopFault, Ready, Sockets};
 
 impl<N: Sockets, C: Clocks, J: Journal, K: Keeper, H: HookHost> Tools<N, C, J, K, H> {
     // Makes round after round.
@@ -15,6 +14,9 @@ impl<N: Sockets, C: Clocks, J: Journal, K: Keeper, H: HookHost> Tools<N, C, J, K
     {
         let mut found = [Ready::Listener; 65];
         for _nth in 0..u64::MAX {
+            if self.may_end(service) {
+                return LoopFault::Reload;
+            }
             if let Err(fault) = self.round(service, &mut found) {
                 return fault;
             }
@@ -23,8 +25,9 @@ impl<N: Sockets, C: Clocks, J: Journal, K: Keeper, H: HookHost> Tools<N, C, J, K
     }
 }
 
-/// Serves up to 64 connections at once, until a wait fails, the clocks tell nothing or are too far ahead, or changes or a moment can't be kept, and
-/// says which. Then each connection that is left is closed and forgotten, and where reports are wanted, there is a last one.
+/// Serves up to 64 connections at once, until a wait fails, the clocks tell nothing or are too far ahead, changes or a moment can't be kept, or a
+/// reload is wanted, and says which. For a reload those that are between two requests are handed on: it ends once all are, or
+/// after some seconds. Then each connection that is left is closed and forgotten, and where reports are wanted, there is a last one.
 pub fn serve_all<N: Sockets, C: Clocks, J: Journal, K: Keeper, H: HookHost>(
     tools: &mut Tools<N, C, J, K, H>,
     limits: Limits,
@@ -36,7 +39,7 @@ pub fn serve_all<N: Sockets, C: Clocks, J: Journal, K: Keeper, H: HookHost>(
     };
     let mut service = Service::new(limits, times, tools.edge.server().moment());
     let fault = tools.rounds(&mut service);
-    tools.leave_all(&mut service);
+    tools.leave_all(&mut service, fault);
     tools.tell_last(&service);
     fault
 }

@@ -3,13 +3,14 @@ ghost use Rattle.std.specs.Prelude.{◌≡◌, ◌<◌, false, None, Some, lengt
 ghost use Rattle.event_loop.specs.Goes.{Empty, AllFree, IsDueNowhere};
 ghost use Rattle.event_loop.specs.Moments.{seconds_too_far};
 
-use crate::clocks::{Times, too_far};
+use crate::clocks::too_far;
 use crate::due::DuePlaces;
 use crate::limits::{Limits, READ_LIMIT};
 use crate::place::{FREE_PLACE, Place};
 use crate::queue::Queue;
 use crate::report::LastTold;
 use consent::Moment;
+use outside::Times;
 
 /// What the loop knows.
 #[derive(Drop)]
@@ -41,6 +42,8 @@ pub struct Service {
     pub(crate) told: LastTold,
     // In which second shortening was refused last, where more was kept ever since than may be.
     pub(crate) refused: Option<u64>,
+    // Since which second a reload is wanted, if one is.
+    pub(crate) reload: Option<u64>,
 }
 
 impl Service {
@@ -56,6 +59,7 @@ impl Service {
         ensures noted { result.noted ≡ None }
         ensures told { result.told ≡ record { report = times.steady; full = None; room = false } }
         ensures refused { result.refused ≡ None }
+        ensures reload { result.reload ≡ None }
         ensures began { result.began ≡ times.steady }
         ensures accepted { result.accepted ≡ 0 }
         ensures turn { result.turn ≡ 0 }
@@ -81,6 +85,7 @@ impl Service {
                 room: false,
             },
             refused: None,
+            reload: None,
         }
     }
 

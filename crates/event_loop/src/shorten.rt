@@ -3,14 +3,13 @@ ghost use Rattle.std.specs.Prelude.{◌≡◌, None, Some, IfOk, IfErr, OnOk};
 ghost use Rattle.change_codec.specs.declared.keeper.Length.TheVariants.{Short, Long};
 ghost use Rattle.event_loop.specs.Goes.{TellsRefusal, LeadsToShort, LeadsToUnshortened, running, keeping, promises};
 
-use crate::fault::LoopFault;
 use crate::keep::unkept;
 use crate::limits::MINUTE;
-use crate::report::Notice;
 use crate::service::Service;
 use crate::tell::is_long_ago;
 use crate::tools::{Clocks, HookHost, Journal, Keeper, Sockets, Tools};
 use change_codec::{Length, ShortenFault};
+use outside::{LoopFault, Notice};
 
 impl Service {
     // Shortening is refused now. The journal is told once, until no more is kept than may be.

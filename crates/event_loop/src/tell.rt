@@ -3,9 +3,9 @@ ghost use Rattle.std.specs.Prelude.{◌≡◌, Some, IsSome};
 ghost use Rattle.event_loop.specs.Goes.{open_count, is_long_ago, IsReported, LeadsLast, LeadsTelling, OnlyTells, OnlyTellsRoom, running, SettlesAll, TellsNow, keeping, promises};
 
 use crate::limits::{MINUTE, PLACES};
-use crate::report::{Notice, Report};
 use crate::service::Service;
 use crate::tools::{Clocks, HookHost, Journal, Keeper, Sockets, Tools};
+use outside::{Notice, Report};
 
 /// Whether that was never, or so many seconds ago.
 pub(crate) fn is_long_ago(last: Option<u64>, now: u64, seconds: u64) -> bool

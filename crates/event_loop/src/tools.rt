@@ -1,10 +1,8 @@
 //! What the loop works with.
-pub use crate::clocks::Clocks;
-pub use crate::journal::Journal;
-pub use crate::sockets::Sockets;
 pub use change_codec::Keeper;
 pub use hook_host::HookHost;
 use http_edge::Edge;
+pub use outside::{Clocks, Journal, Sockets};
 use rand_chacha::ChaCha20Rng;
 
 /// What the loop works with: sockets, an edge, clocks, a generator of draws, a journal, and a keeper.

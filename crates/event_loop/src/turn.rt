@@ -5,8 +5,8 @@ ghost use Rattle.event_loop.specs.Goes.{NobodyIsSilent, HearsOf, LeadsToHearing,
 use crate::limits::PLACES;
 use crate::read::may_read;
 use crate::service::Service;
-use crate::sockets::{Ready, Sockets};
 use crate::tools::{Clocks, HookHost, Journal, Keeper, Tools};
+use outside::{Ready, Sockets};
 
 impl<N: Sockets, C: Clocks, J: Journal, K: Keeper, H: HookHost> Tools<N, C, J, K, H> {
     // What was found ready is noted.
@@ -17,6 +17,7 @@ impl<N: Sockets, C: Clocks, J: Journal, K: Keeper, H: HookHost> Tools<N, C, J, K
     {
         match ready {
             Ready::Listener => service.queue = service.queue.told(),
+            Ready::Reload => service.note_reload(),
             Ready::Connection {
                 place: k,
                 readable,

@@ -2,12 +2,11 @@
 ghost use Rattle.std.specs.Prelude.{◌≡◌, ◌<◌};
 ghost use Rattle.event_loop.specs.Goes.{LeadsToActs, running, to_write, keeping, promises};
 
-use crate::fault::ConnectionFault;
 use crate::place::{Place, Stage};
 use crate::service::Service;
-use crate::sockets::{Sent, Sockets};
 use crate::tools::{Clocks, HookHost, Journal, Keeper, Tools};
 use http_edge::ConnectionNo;
+use outside::{ConnectionFault, Sent, Sockets};
 
 impl<N: Sockets, C: Clocks, J: Journal, K: Keeper, H: HookHost> Tools<N, C, J, K, H> {
     /// Writes to a connection once, where there is output and the socket may take it.

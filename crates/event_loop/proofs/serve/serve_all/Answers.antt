@@ -22,7 +22,7 @@ returns g c = λ journey reached.
     let first : LoopState g.row.N.Denot g.row.C.Denot g.row.J.Denot g.row.K.Denot g.row.H.Denot = state_of (running c.new-service.result (record c.args.tools.now { clocks = c.read.new.self })) [] past in
     let held : c.new-service.result.held ≡ journey.world.greatest = c.new-service.ensures.held ∙ c.moment.ensures ∙ (rw c.server.ensures reached.server.greatest_is) in
     let is_first : IsFirst p first =
-    record { size = c.new-service.ensures.size; free = c.new-service.ensures.free; found = refl; noted = c.new-service.ensures.noted; held = held; told = c.new-service.ensures.told ∙ sym (ap (λ (t : Times). record { report = t.steady; full = None; room = false }) c.new-service.ensures.times); refused = c.new-service.ensures.refused; began = c.new-service.ensures.began ∙ sym (ap (λ (t : Times). t.steady) c.new-service.ensures.times); accepted = c.new-service.ensures.accepted; turn = c.new-service.ensures.turn; queue = c.new-service.ensures.queue; calls = refl; reached = reached } in
+    record { size = c.new-service.ensures.size; free = c.new-service.ensures.free; found = refl; noted = c.new-service.ensures.noted; held = held; told = c.new-service.ensures.told ∙ sym (ap (λ (t : Times). record { report = t.steady; full = None; room = false }) c.new-service.ensures.times); refused = c.new-service.ensures.refused; reload = c.new-service.ensures.reload; began = c.new-service.ensures.began ∙ sym (ap (λ (t : Times). t.steady) c.new-service.ensures.times); accepted = c.new-service.ensures.accepted; turn = c.new-service.ensures.turn; queue = c.new-service.ensures.queue; calls = refl; reached = reached } in
     let nobody : (limit : ℕ) → AreWithin limit c.new-service.result.times c.new-service.result.places = λ limit k place here taken. absurd (subst IsOccupied (c.new-service.ensures.free k place here) taken) in
     let ready : IsReadyToWait c.new-service.result past = record {
       settled = λ k less. rested_settled k c.new-service.result past (λ none place here. free_rests place _ (c.new-service.ensures.free k place here)) (c.new-service.ensures.due k less);

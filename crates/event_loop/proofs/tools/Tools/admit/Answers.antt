@@ -1,8 +1,8 @@
 use Rattle.std.proofs.Common.{inl, arith, ◌≡◌, ◌∷◌, [], Some, refl, sym, subst, inr, ◌∙◌, slice_set}
 use Rattle.event_loop.proofs.Names.{IsPlaceAtRest, Opened, connection_at, fresh, led_on, promises, Service, opens, denies, finds_nobody, fresh_place, goes, comes, Past, noted_in, keeping}
 use Rattle.event_loop.specs.Coming.{fails}
-use Rattle.event_loop.specs.declared.sockets.Accepted.TheVariants as accepted
-use Rattle.event_loop.specs.Calls as call
+use Rattle.outside.specs.declared.sockets.Accepted.TheVariants as accepted
+use Rattle.outside.specs.Calls as call
 use Rattle.event_loop.proofs.Doing.{one_more, not_of_kind, done_then}
 use Rattle.event_loop.proofs.Leading.{goes_still}
 use Rattle.event_loop.proofs.Putting.{put_within}

@@ -1,6 +1,6 @@
 use Rattle.std.proofs.Common.{◌∷◌, inl, inr, refl, arith}
 use Rattle.event_loop.proofs.Names.{promises, asks, goes, comes, keeping}
-use Rattle.event_loop.specs.Calls as call
+use Rattle.outside.specs.Calls as call
 use Rattle.event_loop.proofs.Doing.{done_then, one_more, not_of_kind}
 use Rattle.event_loop.proofs.Leading.{nowhere, accepts_then}
 use Rattle.event_loop.proofs.Resting.{settled_then}

@@ -1,11 +1,20 @@
 use Rattle.std.proofs.Common.{rules, ap, ◌∷◌, arith, ◌≤◌, length, refl, true, slice_set}
-use Rattle.event_loop.proofs.Names.{slice_get_past, told_place, goes, hears_of_listener, hears_of, hears_of_none}
+use Rattle.event_loop.proofs.Names.{Service, slice_get_past, told_place, goes, hears_of_listener, hears_of_reload, hears_of, hears_of_none}
 use Rattle.event_loop.proofs.Putting.{put_still}
 use Rattle.event_loop.proofs.Resting.{told_rested}
 use Rattle.event_loop.proofs.tools.Tools.hear.Goals as goal
 
 pub returns-in-Listener-clause-hears : goal.returns-in-Listener-clause-hears
 returns-in-Listener-clause-hears g c = λ more first past h rested. rw c.told-service.ensures (goes h (hears_of_listener more (ap (λ r. r ∷ more) c.in-Listener.is)), rested)
+
+pub returns-in-Reload-clause-hears : goal.returns-in-Reload-clause-hears
+returns-in-Reload-clause-hears g c = λ more first past h rested. rw c.note_reload.ensures (goes h (hears_of_reload more (ap (λ r. r ∷ more) c.in-Reload.is)), rested)
+
+pub returns-in-Reload-clause-within : goal.returns-in-Reload-clause-within
+returns-in-Reload-clause-within g c = λ all. rw c.note_reload.ensures all
+
+pub returns-in-Reload-clause-heard : goal.returns-in-Reload-clause-heard
+returns-in-Reload-clause-heard g c = ap (λ (s : Service). s.heard) c.note_reload.ensures
 
 pub returns-then-k-ge-PLACES-clause-hears : goal.returns-then-k-ge-PLACES-clause-hears
 returns-then-k-ge-PLACES-clause-hears g c = λ more first past h rested.

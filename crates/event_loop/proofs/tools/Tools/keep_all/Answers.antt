@@ -1,6 +1,6 @@
 use Rattle.std.proofs.Common.{arith, inr, ◌∷◌, [], refl}
 use Rattle.event_loop.proofs.Names.{Kept, led_on, goes, keeps, not_kept}
-use Rattle.event_loop.specs.Calls as call
+use Rattle.outside.specs.Calls as call
 use Rattle.event_loop.proofs.Doing.{none_more, not_another, not_of_kind}
 use Rattle.event_loop.proofs.Kept.{kept_connections, all_kept_now}
 use Rattle.event_loop.proofs.tools.Tools.keep_all.Goals as goal

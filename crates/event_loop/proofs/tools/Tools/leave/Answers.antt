@@ -1,6 +1,6 @@
 use Rattle.std.proofs.Common.{◌∷◌, []}
 use Rattle.event_loop.proofs.Names.{leaves, Forgotten, led_on, noted_in}
-use Rattle.event_loop.specs.Calls as call
+use Rattle.outside.specs.Calls as call
 use Rattle.event_loop.proofs.tools.Tools.leave.Goals as goal
 
 pub returns-clause-away : goal.returns-clause-away

@@ -1,7 +1,7 @@
 use Rattle.std.proofs.Common.{rules, ◌≡◌, ◌∷◌, [], ℕ, List, length, take, ap, refl, subst, sym, ◌∙◌, arith}
 use Rattle.event_loop.proofs.Names.{read_limit, HasEnded, led_on, hears, refuses, ends, ends_nothing, finds_nothing, read_place}
 use Rattle.event_loop.specs.Reading.{fails}
-use Rattle.event_loop.specs.Calls as call
+use Rattle.outside.specs.Calls as call
 use Rattle.event_loop.proofs.Acting.{read_done}
 use Rattle.event_loop.proofs.Putting.{taken_length}
 use Rattle.event_loop.proofs.tools.Tools.read.Goals as goal

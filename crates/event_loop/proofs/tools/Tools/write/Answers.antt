@@ -1,7 +1,7 @@
 use Rattle.std.proofs.Common.{◌≡◌, ◌<◌, ◌≤◌, ◌∷◌, [], ℕ, List, length, length-take, take, ap, arith, refl, sym, subst, ◌∙◌}
 use Rattle.event_loop.proofs.Names.{MayWrite, World, Taken, connection_at, untaken, led_on, Call, Place, Transfer, to_offer, to_write, sends, finds_no_room}
 use Rattle.event_loop.specs.Writing.{fails}
-use Rattle.event_loop.specs.Calls as call
+use Rattle.outside.specs.Calls as call
 use Rattle.event_loop.proofs.Acting.{idle_acts, write_acts}
 use Rattle.event_loop.proofs.Resting.{none_there, some_there}
 use Rattle.event_loop.proofs.Rooming.{front_offered}
