@@ -26,8 +26,8 @@ use state_file::Known;
 use std::alloc::Global;
 use std::mem;
 
-/// So many bytes are gone over at once, but for the last frame.
-const SLICE: usize = 1 << 15;
+/// So many bytes of what the file had are gone over at once, but for the last frame: few, so that requests hardly wait for it.
+const SLICE: usize = 1 << 13;
 
 /// Where it stands behind a slice.
 pub(crate) enum Step {
@@ -101,6 +101,17 @@ fn moved(from: usize, to: usize) -> usize
     from.max(to).saturating_sub(from.min(to)).saturating_add(17)
 }
 
+/// How many bytes are gone over at once, but for the last frame: of what was added since, twice as many, so that its end is reached
+/// while more is added.
+fn limit_of(stage: &Stage) -> usize
+    ensures { result ≤ 2 ^ 15 }
+{
+    match stage {
+        Stage::Following(_) => 2 * SLICE,
+        _ => SLICE,
+    }
+}
+
 /// Goes over a slice, or what is left where that is less.
 fn go_over<D: Device>(
     course: &mut Course,
@@ -114,10 +125,11 @@ fn go_over<D: Device>(
     ensures slice { IfOk result (λ new. SlicesOn D.Device rules.now (hand file.old course.old stage) (hand file.new course.new new)) }
     ensures refused { IfErr result (λ fault. fault ≢ Failed) }
 {
+    let limit = limit_of(&stage);
     let at = course.at;
     let mut stage = advance(course, stage, file, rules)?;
     let mut gone = moved(at, course.at);
-    while gone < SLICE {
+    while gone < limit {
         if is_ready(course, &stage, file.end) {
             return Ok(stage);
         }

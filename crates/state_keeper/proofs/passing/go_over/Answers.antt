@@ -9,6 +9,7 @@ use Rattle.state_keeper.proofs.passing.go_over.Goals as goal
 pub loop-gone-init : goal.loop-gone-init
 loop-gone-init g c =
     let on = c.in_ok-stage.ensures.on in record {
+      small = c.limit_of-limit.ensures;
       keeps = c.in_ok-stage.ensures.file;
       leads = on.leads;
       total = λ true front w less.
@@ -32,7 +33,9 @@ loop-gone-preserved g c =
     let on = c.in_ok-stage-2.ensures.on in
     let file = c.in_ok-stage-2.ensures.file in
     let end = l.invariant.keeps.stands.end in
+    let small = l.invariant.small in
     record {
+      small = small;
       keeps = keeps_then device c.args.file.now l.file c.advance-in-loop-gone.new.file l.invariant.keeps file;
       leads = leads_on_then device rules first mid last end l.invariant.leads on.leads;
       total = λ true front w short.
@@ -45,10 +48,10 @@ loop-gone-preserved g c =
       slice = λ true front w.
           let one = on.few true front (l.invariant.leads.way front w) in
           let a = subst (λ (n : ℕ). to_go_in l.course l.stage n ≤ to_go_in course now n + (one.size + 17)) end one.less in
-          let prior = l.invariant.total (file.truth true) front w c.loop-gone-test.true in
-          let short = c.loop-gone-test.true in (
+          let short = c.loop-gone-test.true in
+          let prior = l.invariant.total (file.truth true) front w (omega (arith, short, small)) in (
             one.size,
             subst (λ (bytes : List ℕ). IsFrameSize (recovered bytes) one.size) l.invariant.keeps.stands.seen one.is_one,
-            omega (arith, prior, a, short),
+            omega (arith, prior, a, short, small),
           );
     }

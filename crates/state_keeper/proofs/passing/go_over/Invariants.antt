@@ -4,6 +4,7 @@ use Rattle.state_keeper.proofs.passing.go_over.Given as goal
 
 abbrev pub invariant-loop-gone : goal.invariant-loop-gone
 invariant-loop-gone g l = record {
+  small : l.limit ≤ 2 ^ 15;
   keeps : KeepsFile g.D.Device l.fn.file l.file;
   leads : LeadsOn g.D.Device l.rules (hand l.fn.file l.fn.course l.fn.stage) (hand l.file l.course l.stage);
   total : g.D.Device.reads_true l.file.device → (front : List (List ℕ)) → IsWay g.D.Device l.rules front (hand l.fn.file l.fn.course l.fn.stage) → l.gone < 2 ^ 15 →
