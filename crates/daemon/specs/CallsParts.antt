@@ -1,6 +1,8 @@
 -- Beside Calls: only the contracts of this crate's own parts and their proofs cite this, no public clause.
-use Rattle.event_loop.specs.Calls.{Asked, Closed, Tried, read_call, wait_call, write_call}
-use Rattle.daemon.specs.Calls.{Logged, Did, Told, Gave}
+use Rattle.std.specs.Prelude.{option_map}
+use Rattle.desk.specs.Candidates.{text_of}
+use Rattle.outside.specs.Calls.{Asked, Closed, Passed, Tried, read_call, wait_call, write_call}
+use Rattle.daemon.specs.Calls.{Logged, Did, Told, Gave, Replied}
 use Rattle.daemon.specs.declared.call_log.SystemCall.{SystemCall}
 use Rattle.daemon.specs.declared.call_log.SystemCall.TheVariants as made
 
@@ -12,5 +14,7 @@ call_made (made.Accept place came) = Did (Tried place came)
 call_made (made.Read place came buffer) = Did (read_call came place buffer.now)
 call_made (made.Write place took bytes) = Did (write_call took place bytes.now)
 call_made (made.Close place) = Did (Closed place)
+call_made (made.Pass place) = Did (Passed place)
 call_made (made.Look times) = Told times.now
 call_made (made.Draw bytes) = Gave bytes.now
+call_made (made.Reply bytes) = Replied (option_map text_of bytes.now)

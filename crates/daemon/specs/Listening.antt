@@ -1,19 +1,10 @@
--- Where a server listens.
-use Rattle.std.specs.Prelude.{◌≡◌, ⊤, ℕ, List, ◌++◌, codes, Bool, IsTrue, Option}
+-- Where a server listens, and what is told of that.
+use Rattle.std.specs.Prelude.{◌≡◌, ⊤, ℕ, List, Bool, IsTrue, Option}
 use Rattle.std.specs.Io.KnownBytes.{Appends}
-use Rattle.std.specs.Net.Text.{socket_text}
-use Rattle.std.specs.declared.net.socket_addr.SocketAddr.{SocketAddr}
 use Rattle.lifetime.specs.declared.life.LifeEnd.{LifeEnd}
 use Rattle.lifetime.specs.declared.life.LifeEnd.TheVariants.{Unopened, Stopped}
+use Rattle.ports.specs.Listening.{Announces, listening_text}
 use Rattle.daemon.specs.declared.announcement.Announcement.{Announcement}
-
--- the line that tells where a server listens
-abbrev pub listening_text : SocketAddr → List ℕ
-listening_text address = codes "listening " ++ socket_text address ++ codes "\n"
-
--- it is written where a server listens
-abbrev pub Announces : Option (List ℕ) → Option (List ℕ) → Type 0
-Announces old new = (address : SocketAddr) × Appends old new (listening_text address)
 
 -- it is written where its address is, unless that fails
 pub record Tells {W : Type 0} (contents : W → Option (List ℕ)) (old : Announcement W) (done : Bool) (new : Announcement W) : Type 0 where

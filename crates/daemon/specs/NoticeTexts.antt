@@ -2,9 +2,9 @@
 use Rattle.std.specs.Prelude.{ℕ, Bool, true, false, List, ◌++◌, codes}
 use Rattle.std.specs.Fmt.{decimal}
 use Rattle.json.specs.Print.{print}
-use Rattle.event_loop.specs.declared.report.Notice.{Notice}
-use Rattle.event_loop.specs.declared.report.Notice.TheVariants.{Reported, StoreFull, ShorteningRefused, WantsRoom, SetAside, Narrowed, Ahead}
-use Rattle.daemon.specs.ReportTokens.{report_tokens}
+use Rattle.outside.specs.declared.report.Notice.{Notice}
+use Rattle.outside.specs.declared.report.Notice.TheVariants.{Reported, StoreFull, ShorteningRefused, WantsRoom, SetAside, Narrowed, Ahead}
+use Rattle.reports.specs.ReportTokens.{report_tokens}
 
 -- how many bytes of an unfinished write are beside the file of a path
 abbrev pub set_aside_text : List ℕ → ℕ → List ℕ

@@ -1,52 +1,50 @@
 -- What comes of a server that is started on the machine.
-use Rattle.std.specs.Prelude.{◌≡◌, ℕ, List, [], ◌∷◌, Some, length}
+use Rattle.std.specs.Prelude.{◌≡◌, ℕ, List, [], Option, Ok}
+use Rattle.batch_file.specs.declared.appending.BatchFault.{BatchFault}
+use Rattle.clients.specs.Registry.{registry_in}
+use Rattle.outside.specs.declared.fault.LoopFault.TheVariants.{Reload}
+use Rattle.lifetime.specs.declared.life.LifeEnd.{LifeEnd}
+use Rattle.lifetime.specs.declared.life.LifeEnd.TheVariants.{Refused, Stopped}
+use Rattle.state_file.specs.declared.fault.StateFault.{StateFault}
 use Rattle.std.specs.declared.fs.File.{File}
-use Rattle.rand_chacha.specs.ChaCha.{ChaCha, of_seed}
 use Rattle.disk_file.specs.Calls.{only_opened}
 use Rattle.batch_file.specs.declared.device.Device.{Ghosts as Device}
 use Rattle.disk_file.specs.declared.file.DiskFile.{DiskFile}
 use Rattle.clients.specs.RegistryRecord.{RegistryRecord}
 use Rattle.endpoints.specs.Server.{outset_of}
 use Rattle.event_loop.specs.LoopStates.{promises}
-use Rattle.event_loop.specs.declared.clocks.Clocks.{Ghosts as Clocks}
-use Rattle.event_loop.specs.declared.journal.Journal.{Ghosts as Journal}
+use Rattle.outside.specs.declared.clocks.Clocks.{Ghosts as Clocks}
+use Rattle.outside.specs.declared.journal.Journal.{Ghosts as Journal}
 use Rattle.event_loop.specs.declared.limits.Limits.{Limits}
-use Rattle.event_loop.specs.declared.sockets.Sockets.{Ghosts as Sockets}
+use Rattle.outside.specs.declared.sockets.Sockets.{Ghosts as Sockets}
 use Rattle.hook_chain.specs.Chains.{Named}
 use Rattle.hook_chain.specs.contracts.chain.ChainHookHost.TheImpl as chain
 use Rattle.rules_codec.specs.Facts.{HookFact}
 use Rattle.lifetime.specs.Anew.{IsLifeAnew, keeping_nothing}
 use Rattle.lifetime.specs.Given.{given, life_promises}
 use Rattle.lifetime.specs.Lives.{IsLife}
+use Rattle.lifetime.specs.declared.life.Life.{Life}
 use Rattle.lifetime.specs.declared.means.Means.{Means}
-use Rattle.daemon.specs.Calls.{Gave}
 use Rattle.daemon.specs.Noting.{NotesCall, NotesTimes}
+use Rattle.daemon.specs.Seeds.{IsSeeded}
 use Rattle.daemon.specs.declared.line_journal.LineJournal.{LineJournal}
 use Rattle.daemon.specs.declared.machine_clocks.MachineClocks.{MachineClocks}
 use Rattle.daemon.specs.declared.machine_random.MachineRandom.{MachineRandom}
 use Rattle.daemon.specs.declared.sockets.MachineSockets.{MachineSockets}
-use Rattle.daemon.specs.declared.starting.Lived.{Lived}
 use Rattle.daemon.specs.declared.starting.Served.{Served}
 
 -- the machine's sockets note all that they do, and its clocks all that they tell
-abbrev pub noting_sockets : Sockets MachineSockets
+abbrev pub noting_sockets : {R : Type 0} → Sockets (MachineSockets R)
 noting_sockets = record { does = NotesCall }
 
 abbrev pub noting_clocks : {R : Type 0} → Clocks (MachineClocks R)
 noting_clocks = record { tells = NotesTimes }
 
 -- at first they have noted nothing; and these are the limits
-pub record IsFresh {R J : Type 0} (means : Means MachineSockets (MachineClocks R) J) (limits : Limits) : Type 0 where
+pub record IsFresh {R J : Type 0} (means : Means (MachineSockets R) (MachineClocks R) J) (limits : Limits) : Type 0 where
   pub undone : means.sockets.log.calls ≡ []
   pub untold : means.clocks.log.calls ≡ []
   pub limits_are : means.limits ≡ limits
-
--- the generator's seed is 32 bytes that the random source gave, which gave nothing else
-pub record IsSeeded {R : Type 0} (random : MachineRandom R) (generator : ChaCha) : Type 0 where
-  pub seed : List ℕ
-  pub size : length seed ≡ 32
-  pub given : random.log.calls ≡ Gave (Some seed) ∷ []
-  pub generator_is : generator ≡ of_seed seed
 
 -- ANEW
 
@@ -61,7 +59,7 @@ handed_anew registry hooks limits = record { registry = registry; hooks = hooks;
 
 -- over the machine's sockets and clocks, and with some journal, it lived until it could not go on
 pub record ServesAnew {R E : Type 0} (journal : Journal (LineJournal E)) (handed : HandedAnew) (served : Served R) : Type 0 where
-  pub means : Means MachineSockets (MachineClocks R) (LineJournal E)
+  pub means : Means (MachineSockets R) (MachineClocks R) (LineJournal E)
   pub fresh : IsFresh means handed.limits
   pub seeded : IsSeeded served.random means.generator
   pub lines : LineJournal E
@@ -79,15 +77,67 @@ pub record HandedOn : Type 0 where
 abbrev pub handed_on : RegistryRecord → List HookFact → Limits → HandedOn
 handed_on registry hooks limits = record { registry = registry; hooks = hooks; limits = limits }
 
+-- what is left of a life: how it ended, and what it was handed by the machine
+pub record Lived (R B : Type 0) : Type 0 where
+  pub end : LifeEnd
+  pub device : DiskFile R File B
+  pub sockets : MachineSockets R
+  pub clocks : MachineClocks R
+  pub random : MachineRandom R
+
+-- a life over the machine
+abbrev pub MachineLife : Type 0 → Type 0 → Type 0 → Type 0
+MachineLife R E B = Life (DiskFile R File B) (MachineSockets R) (MachineClocks R) (LineJournal E)
+
+abbrev pub lived_of : {R E B : Type 0} → MachineLife R E B → MachineRandom R → Lived R B
+lived_of life random = record { end = life.end; device = life.device; sockets = life.sockets; clocks = life.clocks; random = random }
+
 -- the file was opened, and asked for nothing else: it had these bytes, or begins with them, where it was not read to its end. Over
 -- it, the machine's sockets and clocks, and with some journal, the server lived
 pub record LivesOn {R E B : Type 0} (disk : Device (DiskFile R File B)) (journal : Journal (LineJournal E)) (handed : HandedOn) (lived : Lived R B) : Type 0 where
   pub file : DiskFile R File B
   pub bytes : List ℕ
   pub is_opened : file.log.calls ≡ only_opened bytes
-  pub means : Means MachineSockets (MachineClocks R) (LineJournal E)
+  pub means : Means (MachineSockets R) (MachineClocks R) (LineJournal E)
   pub fresh : IsFresh means handed.limits
   pub seeded : IsSeeded lived.random means.generator
   pub lines : LineJournal E
   pub life : IsLife (life_promises disk noting_sockets noting_clocks journal) (given file bytes handed.registry handed.hooks means)
       (record { end = lived.end; device = lived.device; sockets = lived.sockets; clocks = lived.clocks; journal = lines })
+
+-- ONE LIFE BEHIND ANOTHER
+
+-- the life ended for a reload
+abbrev pub EndsForReload : LifeEnd → Type 0
+EndsForReload end = (why : Option BatchFault) × (end ≡ Stopped Reload why)
+
+-- a later life goes by a registry that some text says, with no hooks but those of its file, and by the same limits
+pub record GoesBy (handed later : HandedOn) : Type 0 where
+  pub text : List ℕ
+  pub registry : registry_in text ≡ Ok later.registry
+  pub hooks : later.hooks ≡ []
+  pub limits : later.limits ≡ handed.limits
+
+-- a life went so, on the file as it was found
+abbrev pub HasLivedBy : {R E B : Type 0} → Device (DiskFile R File B) → Journal (LineJournal E) → HandedOn → MachineLife R E B → Type 0
+HasLivedBy {R} disk journal handed life = (random : MachineRandom R) × LivesOn disk journal handed (lived_of life random)
+
+-- Behind a life that ended for a reload another one went so, by a registry that some text says; or that was refused, which left the
+-- file as it was, and another one went by another registry.
+pub data Follows {R E B : Type 0} (disk : Device (DiskFile R File B)) (journal : Journal (LineJournal E)) (handed : HandedOn) : MachineLife R E B → Type 0 where
+  goes_on : (later : HandedOn) (life : MachineLife R E B) → GoesBy handed later → HasLivedBy disk journal later life → Follows disk journal handed life
+  goes_back : (refused later : HandedOn) (not life : MachineLife R E B) (fault : StateFault) → GoesBy handed refused → HasLivedBy disk journal refused not → not.end ≡ Refused fault →
+      GoesBy handed later → HasLivedBy disk journal later life → Follows disk journal handed life
+
+-- Lives follow a life as long as one ended for a reload. The last of them ended so.
+pub data LivesOnward {R E B : Type 0} (disk : Device (DiskFile R File B)) (journal : Journal (LineJournal E)) (handed : HandedOn) : LifeEnd → LifeEnd → Type 0 where
+  is_last : (end : LifeEnd) → LivesOnward disk journal handed end end
+  follows : (end : LifeEnd) (later : MachineLife R E B) (last : LifeEnd) → EndsForReload end → Follows disk journal handed later →
+      LivesOnward disk journal handed later.end last → LivesOnward disk journal handed end last
+
+-- The first life goes by what it was handed, and that is told of it; others may follow.
+pub record LivesInRow {R E B : Type 0} (disk : Device (DiskFile R File B)) (journal : Journal (LineJournal E)) (handed : HandedOn) (Tells : LifeEnd → Type 0) (end : LifeEnd) : Type 0 where
+  pub first : MachineLife R E B
+  pub lives : HasLivedBy disk journal handed first
+  pub told : Tells first.end
+  pub onward : LivesOnward disk journal handed first.end end

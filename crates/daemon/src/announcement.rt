@@ -2,8 +2,8 @@
 
 ghost use Rattle.daemon.specs.Listening.{Tells};
 
-use crate::listening::announce;
 use lifetime::{Opening, Unopened};
+use ports::announce;
 use std::io::Write;
 use std::net::SocketAddr;
 

@@ -4,16 +4,15 @@ ghost use Rattle.std.specs.Prelude.{OnOk};
 ghost use Rattle.serving.specs.Served.{stream_service};
 ghost use Rattle.daemon.specs.Begun.{IsNewEdge};
 ghost use Rattle.daemon.specs.ByCount.{ServesCount, ServesEach, between, handed_count};
-ghost use Rattle.daemon.specs.Listening.{Announces};
+ghost use Rattle.ports.specs.Listening.{Announces};
 
-use crate::fault::ListenFault;
-use crate::listening::{listen, next_connection, see_off};
 use crate::machine_clock::MachineClock;
 use clients::Registry;
 use endpoints::Server;
 use hook_chain::Chain;
 use hook_host::HookHost;
 use http_edge::{ConnectionNo, Edge};
+use ports::{ListenFault, listen, next_connection, see_off};
 use rand_chacha::ChaCha20Rng;
 use rand_core::SeedableRng;
 use serving::{Clock, Stream, serve_one};

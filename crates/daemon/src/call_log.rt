@@ -1,4 +1,4 @@
-//! The calls that were made of the system's sockets, clocks and random source, as a list that only clauses read and that takes no memory.
+//! The calls that were made of the system's sockets, clocks and random source, and replies to who asks for a reload, as a list that only clauses read and that takes no memory.
 
 ghost use Rattle.std.specs.Prelude.{◌≡◌, List, [], ◌∷◌};
 ghost use Rattle.std.specs.Borrow.{ftrue};
@@ -40,10 +40,16 @@ pub(crate) enum SystemCall<'b> {
     Close {
         place: u32,
     },
+    /// A connection was handed on.
+    Pass {
+        place: u32,
+    },
     /// The clocks were read.
     Look(&'b Option<Times>),
     /// The source of random bytes was asked for 32.
     Draw(&'b Option<[u8; 32]>),
+    /// It was replied to who asked for a reload.
+    Reply(&'b Option<Vec<u8>>),
 }
 
 /// The calls, the last one first.

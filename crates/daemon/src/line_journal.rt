@@ -4,8 +4,8 @@ ghost use Rattle.std.specs.Prelude.{◌≡◌, ◌<◌, ◌⊎◌, ◌+◌, ◌-
 ghost use Rattle.daemon.specs.NoticeTexts.{notice_text, room_text, set_aside_text};
 
 use crate::outlet::Outlet;
-use crate::report_line::report_text;
 use event_loop::{ConnectionFault, Journal, Notice};
+use reports::report_text;
 use std::alloc::{AllocError, Global};
 use std::io::Write;
 use std::net::Net;

@@ -1,7 +1,7 @@
 //! The machine's source of random bytes.
 
 ghost use Rattle.std.specs.Prelude.{◌≡◌, []};
-ghost use Rattle.daemon.specs.Noting.{NotesSeed};
+ghost use Rattle.daemon.specs.Seeds.{NotesSeed};
 
 use crate::call_log::{CallLog, SystemCall};
 use std::random::RandomSource;

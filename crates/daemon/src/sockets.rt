@@ -1,36 +1,133 @@
 //! The machine's sockets, as the loop uses them.
 
-ghost use Rattle.std.specs.Prelude.{◌≡◌, []};
+ghost use Rattle.std.specs.Prelude.{◌≡◌, [], Bool, true, length};
 ghost use Rattle.daemon.specs.Noting.{NotesCall};
+ghost use Rattle.daemon.specs.Reloading.{IsSent, KeepsServing, KeepsWanted};
+ghost use Rattle.desk.specs.declared.judging.Judged.TheVariants as verdict;
+ghost use Rattle.ports.specs.Passing.{KeepsWaiting};
+ghost use Rattle.outside.specs.Calls.{FindsWithin, ReadsWithin};
 
 use crate::call_log::{CallLog, SystemCall};
-use crate::ports::Ports;
+use crate::reloads::Reloads;
+use desk::Judged;
 use event_loop::{Accepted, Ready, Received, Sent, Sockets};
+use ports::Ports;
+use std::random::RandomSource;
+use std::rt::Files;
 
-/// A listener and its connections, with a log of what they did.
+/// A listener and its connections, with a log of what they did. A connection that asks for a reload is taken out of its place
+/// before a byte of it is read: to the loop it ends there.
 #[derive(Drop)]
-pub struct MachineSockets {
+pub struct MachineSockets<'r, 'w, R> {
     ports: Ports,
+    reloads: Reloads<'r, 'w, R>,
     log: CallLog,
 }
 
-impl MachineSockets {
-    /// A listener without connections.
-    pub(crate) fn new(ports: Ports) -> MachineSockets
-        ensures { result.log.calls ≡ [] }
+/// What is left of sockets whose loop has ended.
+#[derive(Drop)]
+pub(crate) struct Left<'r, 'w, R> {
+    pub ports: Ports,
+    pub reloads: Reloads<'r, 'w, R>,
+}
+
+impl<'r, 'w, R> MachineSockets<'r, 'w, R> {
+    /// A listener without connections, but for those that were handed on.
+    pub(crate) fn new(ports: Ports, reloads: Reloads<'r, 'w, R>) -> MachineSockets<'r, 'w, R>
+        ensures undone { result.log.calls ≡ [] }
+        ensures ports { result.ports ≡ ports }
+        ensures reloads { result.reloads ≡ reloads.entry }
     {
         MachineSockets {
             ports,
+            reloads,
             log: CallLog::new(),
+        }
+    }
+
+    /// What is left of them.
+    pub(crate) fn left(self) -> Left<'r, 'w, R>
+        ensures ports { result.ports ≡ self.entry.ports }
+        ensures reloads { result.reloads ≡ self.entry.reloads }
+    {
+        Left {
+            ports: self.ports,
+            reloads: self.reloads,
+        }
+    }
+
+    // What the first bytes of a connection are. Where something was read of it, they are the loop's.
+    fn judged(&self, place: u32, buffer: &mut [u8]) -> Judged
+        ensures size { length buffer.new ≡ length buffer.old }
+        ensures sent { (with_key : Bool) → result ≡ verdict.Asks with_key → with_key ≡ true → IsSent self.now.reloads.key }
+    {
+        let room = self.reloads.room().min(buffer.len());
+        match self.ports.front(place, &mut buffer[..room]) {
+            Some(count) if count > 0 && count <= room => self.reloads.judge(&buffer[..count]),
+            _ => Judged::Else,
+        }
+    }
+
+    // Waits, and tells of a reload that is wanted.
+    fn find(&mut self, limit: Option<u64>, found: &mut [Ready]) -> Option<usize>
+        ensures within { FindsWithin result (length found.new) }
+        ensures serving { KeepsServing self.old.reloads self.new.reloads }
+        ensures wanted { KeepsWanted self.old.reloads self.new.reloads }
+        ensures passed { KeepsWaiting self.old.ports self.new.ports }
+        ensures log { self.new.log ≡ self.old.log }
+    {
+        if !self.reloads.is_untold() {
+            return self.ports.wait(limit, found);
+        }
+        let count = self.ports.wait(Some(0), found)?;
+        if count >= found.len() {
+            return Some(count);
+        }
+        found[count] = Ready::Reload;
+        self.reloads.tell();
+        Some(count + 1)
+    }
+}
+
+impl<'r, 'w, R: Files + RandomSource + AllocGlobal> MachineSockets<'r, 'w, R> {
+    // A connection asks for a reload: it is taken out of its place.
+    fn turn_to(&mut self, place: u32, with_key: bool)
+        requires { with_key ≡ true → IsSent self.old.reloads.key }
+        ensures serving { KeepsServing self.old.reloads self.new.reloads }
+        ensures wanted { KeepsWanted self.old.reloads self.new.reloads }
+        ensures passed { KeepsWaiting self.old.ports self.new.ports }
+        ensures log { self.new.log ≡ self.old.log }
+    {
+        let Some(asker) = self.ports.take(place) else {
+            return;
+        };
+        self.reloads.ask(asker, with_key);
+    }
+
+    // Reads a connection, unless it asks for a reload.
+    fn receive(&mut self, place: u32, buffer: &mut [u8]) -> Received
+        ensures within { ReadsWithin result (length buffer.new) }
+        ensures serving { KeepsServing self.old.reloads self.new.reloads }
+        ensures wanted { KeepsWanted self.old.reloads self.new.reloads }
+        ensures passed { KeepsWaiting self.old.ports self.new.ports }
+        ensures log { self.new.log ≡ self.old.log }
+    {
+        match self.judged(place, buffer) {
+            Judged::More if !self.ports.is_hung(place) => Received::Later,
+            Judged::Else | Judged::More => self.ports.read(place, buffer),
+            Judged::Asks { with_key } => {
+                self.turn_to(place, with_key);
+                Received::End
+            }
         }
     }
 }
 
-impl Sockets for MachineSockets {
+impl<'r, 'w, R: Files + RandomSource + AllocGlobal> Sockets for MachineSockets<'r, 'w, R> {
     ghost does = { NotesCall };
 
     fn wait(&mut self, limit: Option<u64>, found: &mut [Ready]) -> Option<usize> {
-        let count = self.ports.wait(limit, found);
+        let count = self.find(limit, found);
         self.log.note(&SystemCall::Wait {
             limit,
             count,
@@ -51,7 +148,7 @@ impl Sockets for MachineSockets {
     }
 
     fn read(&mut self, place: u32, buffer: &mut [u8]) -> Received {
-        let came = self.ports.read(place, buffer);
+        let came = self.receive(place, buffer);
         self.log.note(&SystemCall::Read {
             place,
             came,
@@ -69,5 +166,10 @@ impl Sockets for MachineSockets {
     fn close(&mut self, place: u32) {
         self.ports.close(place);
         self.log.note(&SystemCall::Close { place });
+    }
+
+    fn pass(&mut self, place: u32) {
+        self.ports.pass(place);
+        self.log.note(&SystemCall::Pass { place });
     }
 }

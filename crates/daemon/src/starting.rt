@@ -1,31 +1,41 @@
 //! Connections until the program is stopped.
 
 ghost use Rattle.std.specs.Prelude.{◌≡◌, ◌≢◌, [], OnOk, OnErr, IfOk, IfErr, map};
-ghost use Rattle.daemon.specs.Listening.{Announces, IsToldBy};
-ghost use Rattle.daemon.specs.Starts.{IsFresh, IsSeeded, LivesOn, ServesAnew, handed_anew, handed_on};
-ghost use Rattle.daemon.specs.declared.fault.ListenFault.TheVariants.{Unwritten};
-ghost use Rattle.event_loop.specs.declared.fault.LoopFault.TheVariants.{Keep};
+ghost use Rattle.daemon.specs.Listening.{IsToldBy};
+ghost use Rattle.ports.specs.Listening.{Announces};
+ghost use Rattle.daemon.specs.Seeds.{IsSeeded};
+ghost use Rattle.daemon.specs.Starts.{IsFresh, LivesInRow, ServesAnew, handed_anew, handed_on};
+ghost use Rattle.ports.specs.declared.fault.ListenFault.TheVariants.{Unwritten};
+ghost use Rattle.outside.specs.declared.fault.LoopFault.TheVariants.{Keep};
+ghost use Rattle.lifetime.specs.Given.{life_promises};
+ghost use Rattle.lifetime.specs.Lives.{LivesBy};
+ghost use Rattle.state_keeper.specs.Starting.{HasFront};
 ghost use Rattle.rules_codec.specs.Facts.{hook_fact};
 
 use crate::announcement::Announcement;
-use crate::fault::{ListenFault, OpeningFault};
+use crate::fault::OpeningFault;
 use crate::line_journal::LineJournal;
 use crate::machine_clocks::MachineClocks;
 use crate::machine_random::MachineRandom;
-use crate::ports::Ports;
+use crate::reliving::live_on;
+use crate::reloads::Reloads;
 use crate::sockets::MachineSockets;
 use batch_file::device::Device;
 use clients::Registry;
-use disk_file::{Before, DiskFile, Unknown};
-use event_loop::{Journal, Limits, LoopFault};
+use desk::Candidate;
+use disk_file::{Before, DiskFile};
+use event_loop::{Clocks, Journal, Limits, LoopFault, Sockets};
 use hook_chain::Chain;
-use lifetime::{AnewEnd, Life, LifeEnd, Means, Opening, Planned, live, live_anew, plan_of};
+use lifetime::{AnewEnd, Life, LifeEnd, Means, Opening, Plan, Planned, live, live_anew, plan_of};
+use ports::{ListenFault, Ports};
 use rand_chacha::ChaCha20Rng;
 use rand_core::SeedableRng;
 use rules_codec::KeptHook;
+use state_file::StateFault;
+use std::alloc::Global;
 use std::fs::File;
 use std::io::Write;
-use std::net::Net;
+use std::net::{Net, SocketAddr};
 use std::random::RandomSource;
 use std::rt::{Clock, Files};
 
@@ -36,10 +46,11 @@ pub struct Terms<'w> {
     pub limits: Limits,
 }
 
-/// The file on which a server is started, by its path; and the hooks that it is to have.
+/// The file on which a server is started, by its path, and that of its registry; and the hooks that it is to have.
 #[derive(Clone, Copy)]
 pub struct StateTerms<'w, 'h> {
     pub path: &'w str,
+    pub config: &'w str,
     pub hooks: &'h [KeptHook<'h>],
 }
 
@@ -48,26 +59,16 @@ pub struct StateTerms<'w, 'h> {
 #[derive(Drop)]
 pub struct Served<'r, R> {
     pub fault: LoopFault,
-    pub sockets: MachineSockets,
-    pub clocks: MachineClocks<'r, R>,
-    pub random: MachineRandom<'r, R>,
-}
-
-/// What is left of a server on the file of its state, that was not started or can't go on.
-#[derive(Drop)]
-pub struct Lived<'r, R, B = Unknown> {
-    pub end: LifeEnd,
-    pub device: DiskFile<'r, R, File, B>,
-    pub sockets: MachineSockets,
+    pub sockets: MachineSockets<'r, 'static, R>,
     pub clocks: MachineClocks<'r, R>,
     pub random: MachineRandom<'r, R>,
 }
 
 /// A listener, and draws by random bytes of the system.
 #[derive(Drop)]
-struct Begun {
-    ports: Ports,
-    generator: ChaCha20Rng,
+pub(crate) struct Begun {
+    pub ports: Ports,
+    pub generator: ChaCha20Rng,
 }
 
 /// Draws by bytes of a random source that gave none yet, and a listener at an address.
@@ -88,17 +89,20 @@ fn begin<R: Net + RandomSource + AllocGlobal>(
 }
 
 /// What a server is handed: sockets and clocks of the machine, which have noted nothing yet, and a journal.
-fn means_of<'r, 'e, R: Clock, E>(
+pub(crate) fn means_of<'r, 'w, 'e, R: Clock, E>(
     rt: &'r R,
     begun: Begun,
+    reloads: Reloads<'r, 'w, R>,
     limits: Limits,
     journal: LineJournal<'e, E>,
-) -> Means<MachineSockets, MachineClocks<'r, R>, LineJournal<'e, E>>
+) -> Means<MachineSockets<'r, 'w, R>, MachineClocks<'r, R>, LineJournal<'e, E>>
     ensures fresh { IsFresh result limits }
     ensures drawn { result.generator ≡ begun.generator }
+    ensures ports { result.sockets.ports ≡ begun.ports }
+    ensures reloads { result.sockets.reloads ≡ reloads.entry }
 {
     Means {
-        sockets: MachineSockets::new(begun.ports),
+        sockets: MachineSockets::new(begun.ports, reloads),
         clocks: MachineClocks::new(rt),
         journal,
         generator: begun.generator,
@@ -109,7 +113,13 @@ fn means_of<'r, 'e, R: Clock, E>(
 /// Listens at an address, tells where, and serves up to 64 connections at once until the program is stopped, with these
 /// hooks from the first connection on, and with draws by random bytes of the system. The fault of a connection ends that
 /// one alone, and is told to `err`, in at most one line a second. What it gives is why it can't go on.
-pub fn start<'r, 'e, R: Net + Clock + RandomSource + AllocGlobal, W: Write, E: Write>(
+pub fn start<
+    'r,
+    'e,
+    R: Files<File = File> + Net + Clock + RandomSource + AllocGlobal,
+    W: Write,
+    E: Write,
+>(
     rt: &'r R,
     terms: Terms<'_>,
     registry: Registry,
@@ -133,7 +143,9 @@ pub fn start<'r, 'e, R: Net + Clock + RandomSource + AllocGlobal, W: Write, E: W
         return Err(ListenFault::Unwritten);
     };
     let journal = LineJournal::new(rt, "", err);
-    let means = means_of(rt, begun, terms.limits, journal);
+    let key = registry.operator_key();
+    let reloads = Reloads::new(rt, None, key, Vec::new(rt.alloc()));
+    let means = means_of(rt, begun, reloads, terms.limits, journal);
     let AnewEnd {
         fault,
         sockets,
@@ -148,11 +160,31 @@ pub fn start<'r, 'e, R: Net + Clock + RandomSource + AllocGlobal, W: Write, E: W
     })
 }
 
+/// A life on what was planned, and once it serves it is told where it listens.
+#[tactic(auto, using(crate::proofs::Telling::told_by))]
+fn live_told<D: Device + Drop, N: Sockets, C: Clocks, J: Journal, W: Write>(
+    alloc: Global,
+    device: D,
+    planned: Result<Plan, StateFault>,
+    means: Means<N, C, J>,
+    address: SocketAddr,
+    out: &mut W,
+) -> Life<D, N, C, J>
+    requires faultless { D.faults device ≡ 0 }
+    requires front { IfOk planned (λ plan. HasFront (D.seen device) plan.origin plan.prepared.front) }
+    ensures life { LivesBy (life_promises D.Device N.Sockets C.Clocks J.Journal) device planned means result }
+    ensures told { IsToldBy W.contents out.old result.end out.new }
+{
+    let mut told = Announcement { address, out };
+    live(alloc, device, planned, means, &mut told)
+}
+
 /// Listens at an address, opens, locks and reads the file of a server's state, and starts the server on what stands there, with
 /// those of the hooks that it lacks. Once it is known that the start goes on it is told where it listens, and up to 64 connections are
-/// served at once, by changes that are kept before a reply tells of them, until the program is stopped. What is told to `err` is
-/// what the start ends or puts aside, and the faults of connections, in at most one line a second. `B` names what may have been
-/// on the file's disk before.
+/// served at once, by changes that are kept before a reply tells of them, until the program is stopped, or a reload is wanted: then
+/// another life begins by the registry's file as it is then, or, where that is refused, by the registry as it was. What is told to
+/// `err` is what the start ends or puts aside, and the faults of connections, in at most one line a second. `B` names what may have
+/// been on the file's disk before.
 pub fn start_on<
     'r,
     'e,
@@ -164,38 +196,25 @@ pub fn start_on<
     rt: &'r R,
     terms: Terms<'_>,
     state: StateTerms<'e, '_>,
-    registry: Registry,
+    candidate: Candidate,
     out: &mut W,
     err: &'e mut E,
-) -> Result<Lived<'r, R, B>, OpeningFault>
-    ensures told { IfOk result (λ lived. IsToldBy W.contents out.old lived.end out.new) }
-    ensures lives { IfOk result (LivesOn ⟦<DiskFile<'r, R, File, B> as Device>⟧ ⟦<LineJournal<'e, E> as Journal>⟧
-        (handed_on registry (map hook_fact state.entry.hooks.now) terms.entry.limits)) }
+) -> Result<LifeEnd, OpeningFault>
+    ensures lives { IfOk result (λ end. LivesInRow ⟦<DiskFile<'r, R, File, B> as Device>⟧ ⟦<LineJournal<'e, E> as Journal>⟧
+        (handed_on candidate.registry (map hook_fact state.entry.hooks.now) terms.entry.limits)
+        (λ first. IsToldBy W.contents out.old first out.new) end) }
     ensures silent { OnErr result (out.new ≡ out.old) }
     ensures quiet { OnErr result (err.new ≡ err.old) }
 {
     let mut random = MachineRandom::new(rt);
     let begun = begin(rt, terms.address, &mut random)?;
     let file = DiskFile::<'r, R, File, B>::open(rt, state.path)?;
+    let Candidate { text, registry } = candidate;
+    let reloads = Reloads::new(rt, Some(state.config), registry.operator_key(), text);
     let Planned { source, plan } = plan_of(rt.alloc(), file, registry, state.hooks);
-    let mut told = Announcement {
-        address: begun.ports.address(),
-        out,
-    };
+    let address = begun.ports.address();
     let journal = LineJournal::new(rt, state.path, err);
-    let means = means_of(rt, begun, terms.limits, journal);
-    let Life {
-        end,
-        device,
-        sockets,
-        clocks,
-        journal: _journal,
-    } = live(rt.alloc(), source.into_device(), plan, means, &mut told);
-    Ok(Lived {
-        end,
-        device,
-        sockets,
-        clocks,
-        random,
-    })
+    let means = means_of(rt, begun, reloads, terms.limits, journal);
+    let life = live_told(rt.alloc(), source.into_device(), plan, means, address, out);
+    Ok(live_on(rt, terms.limits, life))
 }

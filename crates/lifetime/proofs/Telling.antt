@@ -1,7 +1,7 @@
 -- What a journal is told, one notice after the other.
 use Rattle.std.proofs.Common.{List, [], ◌∷◌, ◌++◌, subst}
-use Rattle.event_loop.specs.declared.journal.Journal.{Ghosts as Journal}
-use Rattle.event_loop.specs.declared.report.Notice.{Notice}
+use Rattle.outside.specs.declared.journal.Journal.{Ghosts as Journal}
+use Rattle.outside.specs.declared.report.Notice.{Notice}
 use Rattle.lifetime.specs.Starts.{ReportsAll}
 
 pub reports_then : {J : Type 0} (journaling : Journal J) (a b c : J) (first later : List Notice) → ReportsAll journaling a first b → ReportsAll journaling b later c →

@@ -2,8 +2,8 @@
 use Rattle.std.specs.Prelude.{ℕ, ◌+◌, ◌-◌, ◌^◌, min, List, Some, IsSome, is_some}
 use Rattle.lifetime.specs.Names.{RegistryRecord, Keeping, Promises, LoopState, promises, Journal, Named, HookFact, IsLongFile, ShortensFile, SlicesFile, SeenKeeper, file_crashes, LifeEnd}
 use Rattle.batch_file.specs.declared.device.Device.{Ghosts as Device}
-use Rattle.event_loop.specs.declared.clocks.Clocks.{Ghosts as Clocks}
-use Rattle.event_loop.specs.declared.sockets.Sockets.{Ghosts as Sockets}
+use Rattle.outside.specs.declared.clocks.Clocks.{Ghosts as Clocks}
+use Rattle.outside.specs.declared.sockets.Sockets.{Ghosts as Sockets}
 use Rattle.hook_chain.specs.contracts.chain.ChainHookHost.TheImpl as chain
 use Rattle.lifetime.specs.declared.life.Life.{Life}
 use Rattle.lifetime.specs.declared.means.Means.{Means}

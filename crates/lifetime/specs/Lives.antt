@@ -9,7 +9,7 @@ use Rattle.endpoints.specs.Bounded.{AllRight, IsBounded}
 use Rattle.endpoints.specs.Hosts.{HostRun}
 use Rattle.event_loop.specs.Durable.{latest}
 use Rattle.event_loop.specs.Ends.{told_then}
-use Rattle.event_loop.specs.declared.fault.LoopFault.TheVariants.{Keep}
+use Rattle.outside.specs.declared.fault.LoopFault.TheVariants.{Keep}
 use Rattle.hook_chain.specs.contracts.chain.ChainHookHost.TheImpl as chain
 use Rattle.state_file.specs.Making.{StopsReading}
 use Rattle.lifetime.specs.Given.{Given, LifePromises, LifeState, in_loop, life_of, given as handed}

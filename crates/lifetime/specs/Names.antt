@@ -9,8 +9,8 @@ pub use Rattle.event_loop.specs.Durable.{Onward}
 pub use Rattle.event_loop.specs.Ends.{Beginning, HasServed, ServesNothing}
 pub use Rattle.event_loop.specs.LoopStates.{Promises, LoopState, promises}
 pub use Rattle.event_loop.specs.Served.{Served}
-pub use Rattle.event_loop.specs.declared.clocks.Times.{Times}
-pub use Rattle.event_loop.specs.declared.journal.Journal.{Ghosts as Journal}
+pub use Rattle.outside.specs.declared.clocks.Times.{Times}
+pub use Rattle.outside.specs.declared.journal.Journal.{Ghosts as Journal}
 pub use Rattle.hook_chain.specs.Chains.{Named}
 pub use Rattle.http_edge.specs.Edges.{SeenEdge}
 pub use Rattle.http_edge.specs.Reached.{new_journey, Reached, resumed_journey, Journey}

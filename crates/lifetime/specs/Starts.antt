@@ -1,8 +1,8 @@
 -- How a server is started on a state file: what is looked at, what is told, and what is put on the device.
 use Rattle.std.specs.Prelude.{◌≡◌, ◌⊎◌, ℕ, nat_lt, List, [], ◌∷◌, ◌++◌, length, Option, None, Some, if◌then◌else◌}
 use Rattle.lifetime.specs.Names.{Times, Journal, SeenKeeper, IsPutOn}
-use Rattle.event_loop.specs.declared.report.Notice.{Notice}
-use Rattle.event_loop.specs.declared.report.Notice.TheVariants.{Ahead, Narrowed, SetAside}
+use Rattle.outside.specs.declared.report.Notice.{Notice}
+use Rattle.outside.specs.declared.report.Notice.TheVariants.{Ahead, Narrowed, SetAside}
 use Rattle.event_loop.specs.Moments.{seconds_too_far}
 use Rattle.lifetime.specs.Clocks.{seconds_ahead}
 use Rattle.lifetime.specs.Given.{Given, LifePromises}

@@ -4,7 +4,7 @@ ghost use Rattle.std.specs.Prelude.{◌≢◌};
 ghost use Rattle.change_codec.specs.Keepers.{keeping};
 ghost use Rattle.event_loop.specs.Ends.{RunEnds};
 ghost use Rattle.event_loop.specs.LoopStates.{promises};
-ghost use Rattle.event_loop.specs.declared.fault.LoopFault.TheVariants.{Keep};
+ghost use Rattle.outside.specs.declared.fault.LoopFault.TheVariants.{Keep};
 ghost use Rattle.lifetime.specs.Anew.{IsLifeAnew, keeping_nothing};
 ghost use Rattle.lifetime.specs.Serving.{tools_of};
 

@@ -1,7 +1,7 @@
 use Rattle.std.proofs.Common.{⊎_elim, sym, ◌∙◌, ◌≡◌}
 use Rattle.event_loop.specs.EndsLaws.{blamed_failed}
-use Rattle.event_loop.specs.declared.fault.LoopFault.{LoopFault}
-use Rattle.event_loop.specs.declared.fault.LoopFault.TheVariants.{Clock, Keep}
+use Rattle.outside.specs.declared.fault.LoopFault.{LoopFault}
+use Rattle.outside.specs.declared.fault.LoopFault.TheVariants.{Clock, Keep}
 use Rattle.hook_chain.specs.contracts.chain.ChainHookHost.TheImpl as chain
 use Rattle.lifetime.specs.Anew.{has_stopped, keeping_nothing}
 use Rattle.lifetime.specs.Names.{promises}

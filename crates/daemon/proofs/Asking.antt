@@ -1,0 +1,47 @@
+-- What stays where somebody asks for a reload.
+use Rattle.std.proofs.Common.{◌≡◌, ◌∙◌, Bool, true, false, List, ℕ, Option, None, Some, ap, inl, inr, subst, sym}
+use Rattle.std.proofs.lemmas.Bool.{false≢true}
+use Rattle.std.specs.Option.{option_map_or}
+use Rattle.std.specs.Prelude.{codes, option_map}
+use Rattle.clients.specs.Registry.{is_key_of}
+use Rattle.heads.specs.Fields.{field_value}
+use Rattle.heads.specs.Message.{head_fields}
+use Rattle.desk.specs.Judging.{IsJudged}
+use Rattle.desk.specs.declared.judging.Judged.{Judged}
+use Rattle.desk.specs.declared.judging.Judged.TheVariants.{Asks}
+use Rattle.daemon.specs.Reloading.{IsAsked, IsSent, KeepsServing, KeepsWanted, Replies, begins, no_key, no_state, not_begun, not_now, untold_of}
+use Rattle.daemon.specs.declared.reloads.Reloads.{Reloads}
+
+-- what is told to be the operator's key was sent
+of_field : (key : List ℕ) (field : Option (List ℕ)) → option_map_or (λ text. is_key_of text key) field false ≡ true → IsSent key
+of_field key (Some text) is = (text, is)
+of_field key None is = absurd (false≢true is)
+
+sent_of : (bytes key : List ℕ) (with_key : Bool) → IsJudged bytes key (Asks with_key) → with_key ≡ true → IsSent key
+sent_of bytes key with_key asks is = of_field key (field_value (codes "x-operator-key") (head_fields asks.0.message.head)) (sym asks.1 ∙ is)
+
+pub sent_by : (bytes key : List ℕ) (judged : Judged) → IsJudged bytes key judged → (with_key : Bool) → judged ≡ Asks with_key → with_key ≡ true → IsSent key
+sent_by bytes key judged is with_key same = sent_of bytes key with_key (subst (λ (j : Judged). IsJudged bytes key j) same is)
+
+module _ {R : Type 0} (old new : Reloads R) where
+  by_reply : (IsSo : List ℕ → Type 0) → Replies IsSo old new → KeepsServing old new
+  by_reply IsSo replies =
+      record { config = ap (λ (r : Reloads R). r.config) replies.same; key = ap (λ (r : Reloads R). r.key) replies.same; text = ap (λ (r : Reloads R). r.text) replies.same }
+
+  pub serving_of : (with_key : Bool) → IsAsked with_key old new → KeepsServing old new
+  serving_of with_key (no_key key replies) = by_reply _ replies
+  serving_of with_key (no_state key config replies) = by_reply _ replies
+  serving_of with_key (not_now key config wanted replies) = by_reply _ replies
+  serving_of with_key (not_begun key config unwanted why replies) = by_reply _ replies
+  serving_of with_key (begins is) =
+      record { config = ap (λ (r : Reloads R). r.config) is.same; key = ap (λ (r : Reloads R). r.key) is.same; text = ap (λ (r : Reloads R). r.text) is.same }
+
+  unmoved : (IsSo : List ℕ → Type 0) → Replies IsSo old new → KeepsWanted old new
+  unmoved IsSo replies = inl (ap (λ (r : Reloads R). option_map untold_of r.wanted) replies.same)
+
+  pub wanted_of : (with_key : Bool) → (with_key ≡ true → IsSent old.key) → IsAsked with_key old new → KeepsWanted old new
+  wanted_of with_key sent (no_key key replies) = unmoved _ replies
+  wanted_of with_key sent (no_state key config replies) = unmoved _ replies
+  wanted_of with_key sent (not_now key config wanted replies) = unmoved _ replies
+  wanted_of with_key sent (not_begun key config unwanted why replies) = unmoved _ replies
+  wanted_of with_key sent (begins is) = inr (is.first, sent is.key)

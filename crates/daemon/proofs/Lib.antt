@@ -1,0 +1,4 @@
+mod Telling
+mod Resuming
+mod Relived
+mod Asking

@@ -1,5 +1,0 @@
-use Rattle.std.proofs.Common.{append_assoc}
-use Rattle.daemon.proofs.report_line.connections.Goals as goal
-
-pub returns : goal.returns
-returns c = simp append_assoc at (rw (c.in_ok-number-2.ensures, c.in_ok-number.ensures, c.in_ok-begin.ensures) at c.end.ensures)

@@ -1,0 +1,4 @@
+use Rattle.daemon.proofs.sockets.MachineSockets.judged.Goals as goal
+
+pub returns-in-Some-clause-sent : goal.returns-in-Some-clause-sent
+returns-in-Some-clause-sent g c = c.judge.ensures.sent
