@@ -9,7 +9,7 @@ use Rattle.daemon.specs.Starts.{handed_anew, handed_on}
 use Rattle.daemon.specs.declared.fault.OpeningFault.{OpeningFault}
 use Rattle.event_loop.specs.declared.limits.Limits.{Limits}
 use Rattle.command_line.specs.Faults.{IsOfListening, IsOfOpening, IsOfService, IsOfServing}
-use Rattle.daemon.specs.declared.fault.ListenFault.TheVariants.{Unwritten}
+use Rattle.ports.specs.declared.fault.ListenFault.TheVariants.{Unwritten}
 
 -- `start` has its files, where it has all
 pub has_files : (service : Service) (files : ServiceFiles) → HasAll service files → HasFiles service files

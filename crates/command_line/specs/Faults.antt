@@ -4,7 +4,7 @@ use Rattle.command_line.specs.Names.{CannotListen, CannotWrite, ClockAhead, NoSe
 use Rattle.disk_file.specs.declared.faults.OpenFault.TheVariants as opening
 use Rattle.command_line.specs.declared.service.Service.{Service}
 use Rattle.commands.specs.Faults.{IsOfState}
-use Rattle.daemon.specs.declared.fault.ListenFault.TheVariants as listen
+use Rattle.ports.specs.declared.fault.ListenFault.TheVariants as listen
 use Rattle.daemon.specs.declared.fault.OpeningFault.{OpeningFault}
 use Rattle.daemon.specs.declared.fault.OpeningFault.TheVariants.{Socket, File}
 use Rattle.lifetime.specs.declared.life.LifeEnd.TheVariants as ends

@@ -13,8 +13,9 @@ pub use Rattle.commands.specs.declared.fault.CommandFault.{CommandFault}
 pub use Rattle.commands.specs.declared.fault.CommandFault.TheVariants.{BadArguments, OutOfMemory, CannotListen, CannotWrite, ClockAhead, NoSeed, NoSocket, Stopped, Unopened, CannotRead, Hook, BadWord, BadCommand, NoAddress, NoConfig}
 pub use Rattle.commands.specs.declared.status.Status.{Status}
 pub use Rattle.commands.specs.declared.status.Status.TheVariants.{Done}
-pub use Rattle.daemon.specs.Listening.{Announces, IsToldBy}
-pub use Rattle.daemon.specs.declared.fault.ListenFault.{ListenFault}
+pub use Rattle.daemon.specs.Listening.{IsToldBy}
+pub use Rattle.ports.specs.Listening.{Announces}
+pub use Rattle.ports.specs.declared.fault.ListenFault.{ListenFault}
 pub use Rattle.hook_chain.specs.Chains.{IsInstalled, Named, RefusesInstall}
 pub use Rattle.hook_commands.specs.HexText.{IsHexOf, IsNoHex}
 pub use Rattle.rules_codec.specs.Facts.{HookFact, hook_fact}

@@ -5,15 +5,15 @@ use Rattle.std.specs.declared.fs.File.{File}
 use Rattle.batch_file.specs.declared.device.Device.{Ghosts as Device}
 use Rattle.disk_file.specs.declared.file.DiskFile.{DiskFile}
 use Rattle.daemon.specs.ByCount.{HandedCount, ServesCount}
-use Rattle.daemon.specs.Starts.{HandedAnew, HandedOn, LivesOn, ServesAnew, handed_anew, handed_on}
+use Rattle.daemon.specs.Starts.{HandedAnew, HandedOn, LivesInRow, ServesAnew, handed_anew, handed_on}
 use Rattle.daemon.specs.declared.line_journal.LineJournal.{LineJournal}
 use Rattle.daemon.specs.declared.machine_clock.MachineClock.{MachineClock}
-use Rattle.daemon.specs.declared.starting.Lived.{Lived}
 use Rattle.daemon.specs.declared.starting.Served.{Served}
 use Rattle.daemon.specs.declared.starting.StateTerms.{StateTerms}
 use Rattle.daemon.specs.declared.starting.Terms.{Terms}
-use Rattle.event_loop.specs.declared.fault.LoopFault.{LoopFault}
-use Rattle.event_loop.specs.declared.journal.Journal.{Ghosts as Journal}
+use Rattle.desk.specs.declared.candidate.Candidate.{Candidate}
+use Rattle.outside.specs.declared.fault.LoopFault.{LoopFault}
+use Rattle.outside.specs.declared.journal.Journal.{Ghosts as Journal}
 use Rattle.serving.specs.declared.clock.Clock.{Ghosts as Clock}
 use Rattle.serving.specs.declared.stream.Stream.{Ghosts as Stream}
 use Rattle.command_line.specs.Faults.{IsNotOpened, IsOfEnd, IsOfListening}
@@ -31,19 +31,19 @@ pub record Handed : Type 0 where
 pub record Startings : Type 1 where
   pub by_count : HandedCount → Type 0
   pub anew : HandedAnew → LoopFault → Type 0
-  pub on_state : HandedOn → LifeEnd → Type 0
+  pub on_state : HandedOn → (LifeEnd → Type 0) → LifeEnd → Type 0
 
 -- the machine's clock may tell anything
 abbrev pub machine_clock : (R : Type 0) → Clock (MachineClock R)
 machine_clock R = record { tells = λ _ _ _. ⊤ }
 
 -- Over the machine's sockets and clocks, and a file of it: one serves connection after connection, a server that is started anew
--- keeps nothing, and one that is started on the file of its state lives one life.
+-- keeps nothing, and one that is started on the file of its state lives one life behind another.
 abbrev pub startings : {R E S B : Type 0} → Device (DiskFile R File B) → Journal (LineJournal E) → Stream S → Startings
 startings {R} {E} {S} {B} disk journal streams = record {
   by_count = ServesCount streams (machine_clock R);
   anew = λ handed cause. (served : Served R) × (served.fault ≡ cause) × ServesAnew journal handed served;
-  on_state = λ handed end. (lived : Lived R B) × (lived.end ≡ end) × LivesOn disk journal handed lived;
+  on_state = λ handed told end. LivesInRow disk journal handed told end;
 }
 
 -- it is started anew, prints where it listens, and serves
@@ -53,7 +53,8 @@ EndsAnew starts handed fault out =
 
 -- it is started on the file at the path, and prints where it listens, once it serves
 abbrev pub EndsOn : {W : Type 0} → Startings → List ℕ → HandedOn → CommandFault → Output W → Type 0
-EndsOn starts path handed fault out = (end : LifeEnd) × starts.on_state handed end × IsOfEnd path end fault × IsToldBy out.seen out.old end out.new
+EndsOn starts path handed fault out =
+    (end : LifeEnd) × starts.on_state handed (λ first. IsToldBy out.seen out.old first out.new) end × IsOfEnd path end fault
 
 -- no socket is had where it is to listen, and nothing is printed, but for a write that failed
 abbrev pub IsNotHeard : {W : Type 0} → Terms → W → W → CommandFault → Type 0
@@ -64,8 +65,8 @@ abbrev pub NoState : {W : Type 0} → Terms → StateTerms → W → W → Comma
 NoState terms state old new fault = (new ≡ old) × IsNotOpened terms.address.now state.path.now fault
 
 -- what a server is handed by a registry, by where and how it serves, and by the file of its state
-abbrev pub handed_by : RegistryRecord → Terms → StateTerms → HandedOn
-handed_by registry terms state = handed_on registry (map hook_fact state.hooks.now) terms.limits
+abbrev pub handed_by : Candidate → Terms → StateTerms → HandedOn
+handed_by candidate terms state = handed_on candidate.registry (map hook_fact state.hooks.now) terms.limits
 
 -- the one or the other, by the path of that file
 abbrev pub EndsStart : {W : Type 0} → Startings → Option (List ℕ) → Handed → CommandFault → Output W → Type 0

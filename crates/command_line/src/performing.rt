@@ -5,7 +5,7 @@ ghost use Rattle.daemon.specs.ByCount.{ServesCount, handed_count};
 ghost use Rattle.daemon.specs.Starts.{handed_anew};
 ghost use Rattle.command_line.specs.Endings.{EndsCall, EndsWords};
 ghost use Rattle.command_line.specs.Faults.{IsOfServing};
-ghost use Rattle.daemon.specs.Listening.{Announces};
+ghost use Rattle.ports.specs.Listening.{Announces};
 ghost use Rattle.command_line.specs.Listening.{EndsService, FailsService, files_in, ServeEnded};
 ghost use Rattle.commands.specs.Outputs.{output, outputs};
 ghost use Rattle.commands.specs.Performed.{IsUnwritten};
@@ -20,10 +20,11 @@ use crate::state_performing::perform_state;
 use crate::stopping::{deaf, end_of, unheard, unopened};
 use batch_file::device::Device;
 use clients::Registry;
-use commands::{CommandFault, Printer, Status, moment_now, perform_command, registry_of, told};
+use commands::{CommandFault, Printer, Status, candidate_in, moment_now, perform_command, told};
 use daemon::{
     LineJournal, ListenFault, MachineClock, OpeningFault, StateTerms, Terms, serve, start, start_on,
 };
+use desk::Candidate;
 use disk_file::{Before, DiskFile};
 use event_loop::{Journal, Limits};
 use hook_chain::Chain;
@@ -113,21 +114,29 @@ fn start_on_state<
     rt: &'r R,
     terms: Terms<'w>,
     state: StateTerms<'w, '_>,
-    registry: Registry,
+    candidate: Candidate,
     out: &mut W,
     err: &mut E,
 ) -> CommandFault<'w>
     ensures { ((err.new ≡ err.old) × NoState terms.entry state.entry out.old out.new result)
         ⊎ EndsOn (startings ⟦<Disk<'r, R, B> as Device>⟧ ⟦<Lines<'e, E> as Journal>⟧ ⟦<R::Stream as Stream>⟧) state.entry.path.now
-        (handed_by registry terms.entry state.entry) result (output W.contents W.writes out.old out.new) }
+        (handed_by candidate terms.entry state.entry) result (output W.contents W.writes out.old out.new) }
 {
-    match start_on::<_, _, _, B>(rt, terms, state, registry, out, err) {
-        Ok(lived) => end_of(state.path, lived.end),
+    match start_on::<_, _, _, B>(rt, terms, state, candidate, out, err) {
+        Ok(end) => end_of(state.path, end),
         Err(fault) => unopened(terms.address, state.path, fault),
     }
 }
 
-/// Serves, until that is over, or can't go on. Of the registry's text nothing stays in memory.
+/// A registry by itself: its text is let go of.
+fn registry_alone(candidate: Candidate) -> Registry
+    ensures { result ≡ candidate.registry }
+{
+    candidate.registry
+}
+
+/// Serves, until that is over, or can't go on. Of the registry's text nothing stays in memory, but where the server has a file of its
+/// state: then a reload may be refused.
 fn serve_as<
     'r,
     'e,
@@ -151,10 +160,10 @@ fn serve_as<
         (outputs (output W.contents W.writes out.old out.new) (output E.contents E.writes err.old err.new))) }
 {
     let CallFiles { named, hooks } = files;
-    let registry = registry_of(rt.alloc(), service.config(), named)?;
+    let candidate = candidate_in(rt.alloc(), service.config(), named)?;
     let given = match service {
         Service::Start(given) => given,
-        Service::Serve(given) => return serve_count(rt, given, registry, out),
+        Service::Serve(given) => return serve_count(rt, given, registry_alone(candidate), out),
     };
     let HooksTaken { chain, codes } = take_hooks(rt.alloc(), &hooks)?;
     let options = &given.options;
@@ -163,14 +172,16 @@ fn serve_as<
         limits: limits_of(options),
     };
     let Some(path) = options.state() else {
+        let registry = registry_alone(candidate);
         return Err(start_anew::<_, _, _, B>(rt, terms, registry, chain, out, err));
     };
     let hooks = kept_hooks(rt.alloc(), &codes)?;
     let state = StateTerms {
         path,
+        config: service.config(),
         hooks: &hooks,
     };
-    Err(start_on_state::<_, _, _, B>(rt, terms, state, registry, out, err))
+    Err(start_on_state::<_, _, _, B>(rt, terms, state, candidate, out, err))
 }
 
 /// Serves, and says how the program then ends. `files` are what stands in the files that the service names.

@@ -25,7 +25,7 @@ mod words;
 
 pub use answer::Answer;
 pub use command::{Command, HelpWord};
-pub use config_file::registry_of;
+pub use config_file::{candidate_in, registry_of};
 pub use fault::CommandFault;
 pub use moment::moment_now;
 pub use named_file::{NamedFile, Readers, bytes_at, file_at};

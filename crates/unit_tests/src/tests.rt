@@ -12,6 +12,7 @@ mod keeping;
 mod looks;
 mod memory;
 mod programs;
+mod reloads;
 mod room;
 mod sockets;
 mod store;

@@ -94,6 +94,8 @@ impl Sockets for OneClient<'_> {
     }
 
     fn close(&mut self, _place: u32) {}
+
+    fn pass(&mut self, _place: u32) {}
 }
 
 /// It keeps so many batches.

@@ -80,6 +80,8 @@ impl Sockets for Pair {
     }
 
     fn close(&mut self, _place: u32) {}
+
+    fn pass(&mut self, _place: u32) {}
 }
 
 #[test]

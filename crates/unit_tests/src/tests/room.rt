@@ -129,6 +129,8 @@ impl Sockets for Crowd {
         }
         *guest = Guest::default();
     }
+
+    fn pass(&mut self, _place: u32) {}
 }
 
 /// 80 clients come.

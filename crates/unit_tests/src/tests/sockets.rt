@@ -262,6 +262,8 @@ impl Sockets for Fake {
         }
         *peer = Peer::default();
     }
+
+    fn pass(&mut self, _place: u32) {}
 }
 
 /// A second goes by at each look.

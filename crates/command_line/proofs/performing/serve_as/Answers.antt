@@ -5,13 +5,13 @@ use Rattle.command_line.proofs.performing.serve_as.Goals as goal
 
 pub returns-in-Serve-clause-done : goal.returns-in-Serve-clause-done
 returns-in-Serve-clause-done g c =
-    served c.serve_count.result _ c.args.service.now (files_in c.args.files) _ c.in_ok-registry.registry c.in-Serve.given c.in_ok-registry.ensures.found c.in-Serve.is
+    served c.serve_count.result _ c.args.service.now (files_in c.args.files) _ c.registry_alone.result c.in-Serve.given (rw c.registry_alone.ensures c.in_ok-candidate.ensures.found) c.in-Serve.is
     c.serve_count.ensures.done c.serve_count.ensures.served
 
 pub returns-in-Serve-clause-fault : goal.returns-in-Serve-clause-fault
 returns-in-Serve-clause-fault g c =
     not_served c.serve_count.result _ c.args.service.now (files_in c.args.files)
-    (outputs (output g.W.Write.contents g.W.Printer.writes c.args.out.now c.serve_count.new.out) (output g.E.Write.contents g.E.Printer.writes c.args.err.now c.args.err.now)) c.in_ok-registry.registry c.in-Serve.given c.in_ok-registry.ensures.found c.in-Serve.is refl
+    (outputs (output g.W.Write.contents g.W.Printer.writes c.args.out.now c.serve_count.new.out) (output g.E.Write.contents g.E.Printer.writes c.args.err.now c.args.err.now)) c.registry_alone.result c.in-Serve.given (rw c.registry_alone.ensures c.in_ok-candidate.ensures.found) c.in-Serve.is refl
     c.serve_count.ensures.refused
 
 pub returns-in_default-clause-fault : goal.returns-in_default-clause-fault
@@ -20,8 +20,8 @@ returns-in_default-clause-fault g c =
     let all : HasAll c.args.service.now (files_in c.args.files) = record {
       given = c.in-Start.given;
       service_is = c.in-Start.is;
-      registry = c.in_ok-registry.registry;
-      held = c.in_ok-registry.ensures.found;
+      registry = c.registry_alone-registry.result;
+      held = rw c.registry_alone-registry.ensures c.in_ok-candidate.ensures.found;
       hooks = c.in_ok-chain.field-0.chain;
       taken = subst (λ hooks. TakesHooks [] (map in_file hooks) c.in_ok-chain.field-0.chain) c.deref.ensures.value c.in_ok-chain.ensures.taken;
       codes = map hook_fact_of c.in_ok-chain.field-0.codes.items;
@@ -42,8 +42,8 @@ returns-clause-fault g c =
     let all : HasAll c.args.service.now (files_in c.args.files) = record {
       given = c.in-Start.given;
       service_is = c.in-Start.is;
-      registry = c.in_ok-registry.registry;
-      held = c.in_ok-registry.ensures.found;
+      registry = c.in_ok-candidate.candidate.registry;
+      held = c.in_ok-candidate.ensures.found;
       hooks = c.in_ok-chain.field-0.chain;
       taken = subst (λ hooks. TakesHooks [] (map in_file hooks) c.in_ok-chain.field-0.chain) c.deref.ensures.value c.in_ok-chain.ensures.taken;
       codes = map hook_fact_of c.in_ok-chain.field-0.codes.items;
