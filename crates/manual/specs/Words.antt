@@ -3,7 +3,7 @@ use Rattle.std.specs.Prelude.{ℕ, List, [], ◌∷◌, codes}
 
 -- those of the commands; of the faults that a command has however its files are; of those of a state file that are told
 -- with its path; of those of the text of a hook, and of its code; of the verdicts on it; of the faults of a registry, and
--- of an event
+-- of an event; and of those of a start and of a server that are told behind another one's name
 unfoldable pub all_words : List (List ℕ)
 all_words =
     codes "run" ∷ codes "ask" ∷ codes "ask2" ∷ codes "asm" ∷ codes "list" ∷ codes "check" ∷ codes "check2" ∷
@@ -23,4 +23,9 @@ all_words =
     codes "ExitsWithPointer" ∷ codes "PointerRange" ∷
     codes "NotJson" ∷ codes "BadShape" ∷ codes "BadScope" ∷ codes "BadRedirect" ∷ codes "Twice" ∷
     codes "TooMany" ∷ codes "NotOpen" ∷ codes "AlreadyOpen" ∷ codes "PieceTooLong" ∷ codes "DrawsShort" ∷
-    codes "TooManyRequests" ∷ []
+    codes "TooManyRequests" ∷
+    codes "NoRules" ∷ codes "Spelling" ∷ codes "Follows" ∷ codes "MomentBack" ∷ codes "Unknown" ∷
+    codes "DrawTaken" ∷ codes "NotRight" ∷ codes "ScopeMoved" ∷ codes "ClientMoved" ∷ codes "OwnerMoved" ∷
+    codes "HookDiffers" ∷ codes "Hook" ∷ codes "Config" ∷ codes "Full" ∷ codes "BadName" ∷ codes "NameTaken" ∷
+    codes "Insn" ∷ codes "Verify" ∷ codes "Wait" ∷ codes "Clock" ∷ codes "Rounds" ∷ codes "NoRoom" ∷
+    codes "Displaced" ∷ codes "Accept" ∷ codes "Read" ∷ codes "Write" ∷ codes "Refused" ∷ []

@@ -44,7 +44,7 @@ oauthd replay FILE         prints what the server of a transcript sends to each 
     oauthd replay transcript.txt
 oauthd help NAME           says what a command or a fault means
     oauthd help UnsetRegister
-oauthd --version           prints the version
+oauthd --version           prints the version, the commit and the kit
     oauthd --version
 
 The program ends with 0 where a command is done, 1 where a hook or an event is refused, 2
@@ -52,5 +52,10 @@ where it is used badly or a server can't go on, and 3 where memory is refused. A
 standard error.
 ";
 
-/// The version of the program, as it is printed.
-pub const VERSION: &str = "oauthd 0.1.0\n";
+/// The version of the program, as it is printed, of which commit it was built, and with which kit. `deploy/make-deb` builds it
+/// with its commit in place of the words that stand here: a source can't have the name of its own commit.
+pub const VERSION: &str = "\
+oauthd 0.1.0
+commit: that of a checkout
+kit: rattle-kit-13f logic dac8208d650f15bf
+";

@@ -7,6 +7,7 @@ mod code_faults;
 mod commands;
 mod config_faults;
 mod event_faults;
+mod serving_faults;
 mod state_faults;
 mod text_faults;
 mod use_faults;
@@ -17,12 +18,13 @@ use code_faults::CODE_FAULTS;
 use commands::COMMANDS;
 use config_faults::CONFIG_FAULTS;
 use event_faults::EVENT_FAULTS;
+use serving_faults::SERVING_FAULTS;
 use state_faults::STATE_FAULTS;
 use text_faults::TEXT_FAULTS;
 use use_faults::USE_FAULTS;
 use verdicts::VERDICTS;
 
-/// What the manual says of a name: its eight lists explain just these words.
+/// What the manual says of a name: its nine lists explain just these words.
 pub fn explained(name: &str) -> Option<&'static str>
     ensures { IsSaid name.now (option_copied result) }
 {
@@ -34,4 +36,5 @@ pub fn explained(name: &str) -> Option<&'static str>
         .or(text_named(&VERDICTS, name))
         .or(text_named(&CONFIG_FAULTS, name))
         .or(text_named(&EVENT_FAULTS, name))
+        .or(text_named(&SERVING_FAULTS, name))
 }

@@ -75,7 +75,7 @@ hook NAME: FAULT: start was to install this hook, and it is refused; no connecti
 State FAULT: FILE: start was to keep its state in FILE, and can't; no connection was taken, and the file stays as it is. So it is told where state or registry --state can't read FILE, or state --new can't make it.
 State FAULT in batch N: state or registry --state was to read the file, and its N-th batch is wrong; nothing was printed.
 
-oauthd help has each of the first fourteen:
+oauthd help has each:
 
   Missing, NotState, Version N      there is no file, or it is none of this oauthd's
   Damaged N                         what stands behind the first N batches is damaged

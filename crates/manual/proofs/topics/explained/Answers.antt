@@ -12,4 +12,5 @@ returns c =
     let said_5 = said_by_either _ _ c.args.name.now _ _ _ said_4 c.text_named-5.ensures c.or-4.ensures in
     let said_6 = said_by_either _ _ c.args.name.now _ _ _ said_5 c.text_named-6.ensures c.or-5.ensures in
     let said_7 = said_by_either _ _ c.args.name.now _ _ _ said_6 c.text_named-7.ensures c.or-6.ensures in
-    (_, refl, said_by_either _ _ c.args.name.now _ _ _ said_7 c.text_named-8.ensures c.or-7.ensures)
+    let said_8 = said_by_either _ _ c.args.name.now _ _ _ said_7 c.text_named-8.ensures c.or-7.ensures in
+    (_, refl, said_by_either _ _ c.args.name.now _ _ _ said_8 c.text_named-9.ensures c.or-8.ensures)
