@@ -57,7 +57,7 @@ ends 'check2 --why' 0 'accepted 2\n' '' check2 --why hook.hex
 ends ask 0 "$(echo "$record" | tr -d ' ')\n" '' ask 1 1000 1 1 3 300
 ends ask2 0 "02$(echo "${record:2}" | tr -d ' ')0300000000000000""2c0100002c01000000000000000000000000000000000000\n" '' ask2 1 1000 1 1 3 300
 ends 'run --trace' 0 '0: mov64 r0 1\n  r0: 1\n1: exit\nr0 1\nsteps 2\nallowed 3 300\n' '' run --trace $allow "$record"
-ends --version 0 'oauthd 0.1.0\n' '' --version
+ends --version 0 'oauthd 0.1.0\ncommit: that of a checkout\nkit: rattle-kit-13f logic dac8208d650f15bf\n' '' --version
 for word in help --help -h; do
     begins "$word" 'oauthd: an OAuth 2.0 authorization server with verified token hooks.' "$word"
 done

@@ -51,7 +51,7 @@ check hsts '*trict-*ransport-*ecurity: max-age=31536000*' "$(web -si $auth/token
 check port-80 000 "$(status http://auth.example/)"
 check metadata 'https://auth.example/token S256' "$(web $auth/.well-known/oauth-authorization-server | python3 -c \
     'import json, sys; m = json.load(sys.stdin); print(m["token_endpoint"], *m["code_challenge_methods_supported"])')"
-for path in /hooks /hooks/list /consent /owner /login/owner /%6fwner //owner /authorize/../owner; do
+for path in /hooks /hooks/list /reload /consent /owner /login/owner /%6fwner //owner /authorize/../owner; do
     check "outside$path" 404 "$(status --path-as-is -H "X-Operator-Key: $(cut -d' ' -f2 /etc/oauthd/operator)" -H "X-Owner-Key: $ann" "$auth$path")"
 done
 check not-logged-in "302 /login?back=$request" "$(web -o /dev/null -w '%{http_code} %header{location}' "$auth$request")"
@@ -134,6 +134,20 @@ check rate-of-a-client '* 401 * 429' "$(asked_often -u bot:wrong)"
 check rate-of-another-one 200 "$(status -u "$bot" -d grant_type=client_credentials $auth/token)"
 check rate-of-an-address '* 401 * 429' "$(asked_often --interface 127.0.0.3 -d client_id=bot -d client_secret=wrong)"
 check introspection-from-elsewhere 403 "$(status --interface 127.0.0.3 -u "$bot" -d token=none $auth/introspect)"
+
+# A reload: another registry in the same process. One that is refused changes nothing
+with_registry() { python3 -c "import json; path = '/etc/oauthd/registry.json'; r = json.load(open(path)); $1; json.dump(r, open(path, 'w'))"; }
+process=$(systemctl show -p MainPID --value oauthd)
+with_registry "r['clients'].append(dict(r['clients'][1], id='late'))"
+check unknown-client 401 "$(status -u "late:${bot#bot:}" -d grant_type=client_credentials $auth/token)"
+check reload 0 "$(systemctl reload oauthd; echo $?)"
+check known-client 200 "$(status -u "late:${bot#bot:}" -d grant_type=client_credentials $auth/token)"
+with_registry "r['clients'][0]['scope'] = 'nothing'"
+check reload-of-a-fault 1 "$(systemctl reload oauthd 2>/dev/null; echo $?)"
+check its-fault 1 "$(journalctl --no-pager -o cat -u oauthd | grep -c '"at":"clients\[0\].scope","detail":"BadScope"')"
+check same-process "$process 200" "$(systemctl show -p MainPID --value oauthd) $(status -u "late:${bot#bot:}" -d grant_type=client_credentials $auth/token)"
+with_registry "r['clients'][0]['scope'] = 'read write'"
+check reload-of-a-right-one 0 "$(systemctl reload oauthd; echo $?)"
 
 # A restart forgets nothing, and nothing is let through before the hooks are there
 hooks() { curl -s -H @/etc/oauthd/operator http://127.0.0.1:8080/hooks/list; }
@@ -289,5 +303,5 @@ print("\n".join([registry["operator"], *registry["owners"], *(client["secret"] f
 PY
 cut -d ' ' -f 2 /root/oauthd-passwords)
 check secrets-in-logs 0 "$( (journalctl --no-pager; cat /var/log/nginx/*) | grep -cF -e "$secrets")"
-[ "$tried" = 71 ] || differs 'wanted 71 checks'
+[ "$tried" = 79 ] || differs 'wanted 79 checks'
 end_with checks
