@@ -4,11 +4,12 @@ ghost use Rattle.std.specs.Prelude.{◌≡◌, ◌↔◌, ◌<◌, ◌≤◌, �
 ghost use Rattle.hook_host.specs.Names.{AreHookNames, hook_limit};
 ghost use Rattle.hook_chain.specs.Chains.{Accepts, HasNoPlace, HasPlace, IsAcceptedCode, IsInstalled, IsNotTaken, IsRemoved, RefusesInstall, RefusesRemove, has_name, hooks_of, hook_names};
 ghost use Rattle.hook_chain.specs.Exits.{narrowed_by};
+ghost use Rattle.hook_chain.specs.Turns.{verdicts_of};
 
 use crate::hook::Hook;
 use crate::name::is_hook_name;
 use encoding::decode;
-use hook_host::{HookFault, HookHost};
+use hook_host::{HookFault, HookHost, Verdicts};
 use hook_record::{Ask, Narrowed};
 use insn::layout::Layout;
 use std::alloc::Global;
@@ -101,7 +102,11 @@ fn accepted(alloc: Global, layout: Layout, code: &[u8]) -> Result<Verified, Hook
 }
 
 impl HookHost for Chain {
+    ghost use Rattle.hook_chain.specs.TurnLaws.{last_is_answer};
+
     ghost answer = { λ hooks ask. narrowed_by (hooks_of hooks) ask };
+
+    ghost verdicts = { verdicts_of };
 
     ghost names = { hook_names };
 
@@ -124,6 +129,19 @@ impl HookHost for Chain {
             left = hook.narrowed_further(ask, left);
         }
         left
+    }
+
+    #[tactic(auto, using(crate::specs::TurnLaws::place_left))]
+    fn explain(&self, ask: &Ask) -> Verdicts {
+        let mut verdicts = Verdicts::none();
+        let mut left = Narrowed::Allowed {
+            scope: ask.scope,
+            life: ask.life,
+        };
+        for hook in &self.hooks {
+            left = hook.judge(ask, left, &mut verdicts);
+        }
+        verdicts
     }
 
     fn check(&self, name: &str, layout: Layout, code: &[u8]) -> Result<Chain, HookFault> {
@@ -168,4 +186,6 @@ impl HookHost for Chain {
     fn name_at(&self, i: usize) -> Option<&str> {
         Some(self.hooks.get(i)?.name.as_str())
     }
+
+    ghost last_answers = { last_is_answer };
 }

@@ -1,10 +1,13 @@
 //! One hook, and what it leaves of an ask.
 
-ghost use Rattle.std.specs.Prelude.{◌≡◌, length};
+ghost use Rattle.std.specs.Prelude.{◌≡◌, ◌<◌, ◌≤◌, ◌++◌, ◌∷◌, [], length};
 ghost use Rattle.insn.specs.Values.{record_size};
 ghost use Rattle.hook_chain.specs.Exits.{narrowed_by_hook, narrowed_further, record_of};
+ghost use Rattle.hook_chain.specs.Turns.{left_in_turn};
+ghost use Rattle.hook_host.specs.Names.{hook_limit, name_limit};
 
 use flat_machine::run;
+use hook_host::Verdicts;
 use hook_record::{Ask, Narrowed, narrow, write, write_v2};
 use insn::layout::Layout;
 use std::marker::Model;
@@ -60,5 +63,19 @@ impl Hook {
             Narrowed::Denied => Narrowed::Denied,
             Narrowed::EmptyScope => Narrowed::EmptyScope,
         }
+    }
+
+    /// What the hook leaves of what is left so far, which is told where the hook is asked.
+    pub fn judge(&self, ask: &Ask, left: Narrowed, verdicts: &mut Verdicts) -> Narrowed
+        requires few { length verdicts.old < hook_limit }
+        requires short { length self.now.name ≤ name_limit }
+        ensures left { result ≡ narrowed_further ask.entry.now left self.now.hook }
+        ensures told { verdicts.new ≡ verdicts.old ++ left_in_turn ask.entry.now left (self.now ∷ []) }
+    {
+        let further = self.narrowed_further(ask, left);
+        if let Narrowed::Allowed { .. } = left {
+            verdicts.push(self.name.as_str(), further);
+        }
+        further
     }
 }

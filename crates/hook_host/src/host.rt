@@ -5,11 +5,13 @@ ghost use Rattle.std.specs.Option.{option_copied};
 ghost use Rattle.insn.specs.declared.layout.Layout.{Layout};
 ghost use Rattle.hook_record.specs.declared.Ask.{Ask};
 ghost use Rattle.hook_record.specs.declared.Narrowed.{Narrowed};
+ghost use Rattle.hook_record.specs.declared.Narrowed.TheVariants.{Allowed};
 ghost use Rattle.hook_host.specs.declared.fault.HookFault.{HookFault};
 ghost use Rattle.hook_host.specs.Names.{without, IsHookName, AreHookNames};
 ghost use Rattle.hook_host.specs.Checks.{Takes, WasChecked};
+ghost use Rattle.hook_host.specs.Verdicts.{Verdict, last_left};
 
-use crate::HookFault;
+use crate::{HookFault, Verdicts};
 use hook_record::{Ask, Narrowed};
 use insn::layout::Layout;
 
@@ -20,6 +22,10 @@ use insn::layout::Layout;
 pub trait HookHost: Drop {
     /// What the host answers to an ask.
     ghost answer: { Self → Ask → Narrowed };
+
+    /// What each of its hooks leaves of an ask, in their order, with its name: of as many as are asked, up to the first that
+    /// does not allow.
+    ghost verdicts: { Self → Ask → List Verdict };
 
     /// The names of its hooks, in the order in which they were installed.
     ghost names: { Self → List (List ℕ) };
@@ -42,6 +48,10 @@ pub trait HookHost: Drop {
     /// What may be granted of an ask.
     fn decide(&self, ask: &Ask) -> Narrowed
         ensures { result ≡ answer self.now ask.entry.now };
+
+    /// What each hook leaves of an ask.
+    fn explain(&self, ask: &Ask) -> Verdicts
+        ensures { result ≡ verdicts self.now ask.entry.now };
 
     /// Tests whether a program, which reads records of a layout, may be installed under a name. What it gives has that hook
     /// alone, and all memory that is wanted for taking it.
@@ -99,4 +109,7 @@ pub trait HookHost: Drop {
     fn name_at(&self, i: usize) -> Option<&str>
         ensures name { option_copied result ≡ slice_get (names self.now) i }
         ensures names { AreHookNames (names self.now) };
+
+    /// What the last of the hooks that are asked leaves is the answer; where none is asked, all is allowed.
+    ghost last_answers: { (host : Self) (ask : Ask) → last_left (Allowed ask.scope ask.life) (verdicts host ask) ≡ answer host ask };
 }
