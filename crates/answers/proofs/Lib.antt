@@ -1,3 +1,4 @@
 pub mod Listing
 pub mod Sizes
 pub mod Names
+pub mod LiveTokens

@@ -14,6 +14,7 @@ pub mod Told
 pub mod Paths
 pub mod Tallies
 pub mod Found
+pub mod Live
 -- What only the contracts of this crate's own parts and their proofs cite.
 pub mod ToldParts
 -- Laws, each proved: a reader may skip them.

@@ -1,15 +1,16 @@
 -- Who asks, for which client, and for which scope.
-use Rattle.std.specs.Prelude.{ℕ, List, Option, Some, None, Result, Ok, Err, option_map, option_and_then, codes, if◌then◌else◌}
-use Rattle.answers.specs.Names.{scope_mask, RegistryRecord, ids, client_at, owner_with, AuthFault, is_within, InvalidRequest, InvalidClient}
+use Rattle.std.specs.Prelude.{ℕ, List, Bool, false, not, Option, Some, None, Result, Ok, Err, option_map, option_and_then, codes, if◌then◌else◌}
+use Rattle.answers.specs.Names.{scope_mask, RegistryRecord, ids, client_at, owner_with, AuthFault, is_within, InvalidRequest, InvalidClient, AccessDenied, option_map_or}
 use Rattle.std.specs.Result.{result_ok}
 use Rattle.params.specs.Form.{read_params, value_sent}
 use Rattle.clients.specs.ClientRecord.{ClientRecord}
 use Rattle.clients.specs.Numbers.{number_among}
+use Rattle.clients.specs.Registry.{is_operator_key}
 use Rattle.authentication.specs.Authentication.{authenticated}
 use Rattle.authentication.specs.declared.authentication.AuthFault.TheVariants as auth
 use Rattle.messages.specs.Asked.{Asked}
 use Rattle.messages.specs.MediaType.{is_form}
-use Rattle.answers.specs.Outcomes.{Outcome, need, refuse, unavailable}
+use Rattle.answers.specs.Outcomes.{Outcome, need, point, refuse, unavailable}
 
 abbrev pub Parameters : Type 0
 Parameters = List (List ℕ × List ℕ)
@@ -64,6 +65,16 @@ with_authenticated rules asked next =
 -- the owner for whom the request speaks: by its own key, or by the gateway's with its number
 abbrev pub owner_of_key : RegistryRecord → Asked → Option ℕ
 owner_of_key rules asked = option_and_then (λ key. owner_with key rules) asked.owner_key
+
+-- THE OPERATOR
+
+-- the operator's key was sent
+abbrev pub is_operator : RegistryRecord → Asked → Bool
+is_operator rules asked = option_map_or (λ key. is_operator_key key rules) asked.operator_key false
+
+-- the point "the operator's key"
+abbrev pub with_operator : RegistryRecord → Asked → Outcome → Outcome
+with_operator rules asked next = point (not (is_operator rules asked)) (refuse AccessDenied) next
 
 -- SCOPES (RFC 6749, section 3.3)
 

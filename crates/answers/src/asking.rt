@@ -3,7 +3,7 @@ ghost use Rattle.std.specs.Prelude.{◌≡◌, option_map};
 ghost use Rattle.messages.specs.Asked.{asked_of};
 ghost use Rattle.answers.specs.Halts.{LeadsOnWith, LeadsOrHalts};
 ghost use Rattle.answers.specs.Outcomes.{Outcome};
-ghost use Rattle.answers.specs.Requesters.{Parameters, with_form, with_credentials, client_named, owner_of_key, scope_asked, scope_within};
+ghost use Rattle.answers.specs.Requesters.{Parameters, with_form, with_credentials, client_named, is_operator, owner_of_key, scope_asked, scope_within, with_operator};
 ghost use Rattle.answers.specs.Views.{known_of};
 
 use crate::halt::Halt;
@@ -73,6 +73,28 @@ pub fn owner(rules: &Registry, request: &Request<'_>) -> Option<OwnerNo>
 {
     let key = request.owner_key?;
     rules.owner_no(key)
+}
+
+/// Whether the operator's key was sent.
+pub fn is_operator(rules: &Registry, request: &Request<'_>) -> bool
+    ensures { result ≡ is_operator rules.now (asked_of request.entry.now) }
+{
+    match request.operator_key {
+        Some(key) => rules.is_operator(key),
+        None => false,
+    }
+}
+
+/// The operator's key was sent.
+pub fn operator(rules: &Registry, request: &Request<'_>) -> Result<(), Halt>
+    ensures { (next : Outcome) →
+        LeadsOrHalts result (with_operator rules.now (asked_of request.entry.now) next) (λ _. next) }
+{
+    if is_operator(rules, request) {
+        Ok(())
+    } else {
+        Err(Halt::Refuse(ErrorName::AccessDenied))
+    }
 }
 
 /// The scope that is asked for, and this one where none is. None: the text is no scope text (RFC 6749, section 3.3).

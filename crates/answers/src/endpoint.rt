@@ -42,8 +42,8 @@ pub const ENDPOINTS: [Endpoint; ENDPOINT_COUNT] = [
 ];
 
 impl Endpoint {
-    // Its place among all.
-    pub(crate) fn place(self) -> usize
+    /// Its place among all.
+    pub fn place(self) -> usize
         ensures value { result ≡ place_of self }
         ensures there { slice_get ENDPOINTS result ≡ Some self }
         ensures inside { result < 9 }

@@ -29,7 +29,7 @@ pub(crate) struct Presented<'a> {
 }
 
 // The unexpired code of the digest, spent or not, which is the client's.
-fn own_code<'a>(view: &View<'a>, client: ClientNo, digest: &Digest) -> Option<Found<'a>>
+pub(crate) fn own_code<'a>(view: &View<'a>, client: ClientNo, digest: &Digest) -> Option<Found<'a>>
     ensures value { Finds view.now digest.now result (λ history. told_code history view.now.moment client digest.now) }
     ensures found { (history : List Event) → Shows view.now history →
         IfSome result (IsFound history digest.now view.now.moment) }

@@ -22,7 +22,7 @@ use token_store::Found;
 
 // The unexpired refresh token of the digest, spent or not, which is the client's.
 #[tactic(auto, using(crate::proofs::Telling::refresh_as_told))]
-fn own_token<'a>(view: &View<'a>, client: ClientNo, digest: &Digest) -> Option<Found<'a>>
+pub(crate) fn own_token<'a>(view: &View<'a>, client: ClientNo, digest: &Digest) -> Option<Found<'a>>
     ensures value { Finds view.now digest.now result (λ history. refresh_of_client history view.now.moment client digest.now) }
     ensures found { (history : List Event) → Shows view.now history →
         IfSome result (IsFound history digest.now view.now.moment) }

@@ -1,0 +1,4 @@
+pub mod Changing
+pub mod Ending
+pub mod Revoking
+pub mod Showing

@@ -1,0 +1,13 @@
+use Rattle.std.proofs.Common.{ap, sym, ◌∙◌}
+use Rattle.std.specs.Prelude.{Some, option_map}
+use Rattle.answers.specs.Setting.{Setting}
+use Rattle.answers.specs.Views.{setting_of}
+use Rattle.token_endpoint.specs.Asks.{lineage_of}
+use Rattle.token_endpoint.proofs.Asking.{token_presented}
+use Rattle.token_endpoint.proofs.asks.presented_token.Goals as goal
+
+pub returns : goal.returns
+returns c = λ history host shows.
+    let s : Setting = setting_of c.args.view.now history host in
+    ap Some (c.lineage_of.ensures c.in-Some-digest_told.digest) ∙ ap (option_map lineage_of) (c.in-Some-own_token.ensures.value history shows)
+    ∙ sym (token_presented s c.args.params.now c.args.client c.in-Some.text.now c.in-Some-digest_told.digest (sym c.in-Some.ensures) (sym c.in-Some-digest_told.ensures))
