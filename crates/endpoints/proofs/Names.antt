@@ -45,7 +45,7 @@ pub use Rattle.endpoints.specs.Right.{comes_of, comes_of_family, is_right, may_h
 pub use Rattle.endpoints.specs.Ruling.{CanMakeAll, CanMake, CanTake}
 pub use Rattle.endpoints.specs.RulingParts.{IsHookRefused, RulesHooks}
 pub use Rattle.endpoints.specs.Rulings.{Asking, FitsNow, IsRuling, comes_to, setting_now, IsRuled, asking_of}
-pub use Rattle.endpoints.specs.RulingsParts.{AnswersRequest, before_now, IsAlone, IsHalted}
+pub use Rattle.endpoints.specs.RulingsParts.{AnswersRequest, before_now, IsAlone}
 pub use Rattle.endpoints.specs.Server.{SeenServer, Outset, Before, FitsServer, AreUnkept, AreNoted, IsStep, outset_of}
 pub use Rattle.endpoints.specs.Steps.{Arrival, IsSwept, Steps, Sweeps}
 pub use Rattle.endpoints.specs.declared.revoke.Presented.{Presented}

@@ -7,9 +7,7 @@ use Rattle.endpoints.proofs.Names.{Setting, Halt, consent_given, introspect, tol
 use Rattle.std.specs.Prelude.{◌==◌, length, not, option_map}
 use Rattle.clients.specs.Owners.{sub_of}
 use Rattle.consent.specs.History.Change.{Consented}
-use Rattle.consent.specs.History.{consents_of, families_of, is_good, is_spent}
-use Rattle.consent.specs.Seen.{told_as, told_at}
-use Rattle.consent.specs.SeenLaws.{told_token}
+use Rattle.consent.specs.History.{consents_of, families_of}
 use Rattle.endpoints.proofs.Names.{grant_at, is_code, where_passes}
 use Rattle.answers.specs.declared.answer.Answer.TheVariants.{Ended}
 use Rattle.endpoints.proofs.Besides.{withdrawn_are}
@@ -76,24 +74,6 @@ pub agrees : (b : Bool) (n k : ℕ) → b ≡ not (n == k) → b ≡ false → n
 agrees b n k is false_is = eqb-true n k (not-false (n == k) (sym is ∙ false_is))
 
 -- WHAT WAS PRESENTED
-
--- of a live token all is told
-pub live_as_told : (history : List Event) (m : ℕ) (digest : List ℕ) →
-    where_passes (λ g. not (is_code g.kind)) (where_good history digest m (told_at history digest m)) ≡ live_of history m (Some digest)
-live_as_told history m digest = by (grant_at history digest m)
-  where
-    spent : Bool
-    spent = is_spent history digest m
-
-    some : (g : Grant) (code good : Bool) → is_code g.kind ≡ code → is_good history digest m g ≡ good →
-        where_passes (λ g. not (is_code g.kind)) (where_good history digest m (Some (told_as spent g))) ≡ where_passes (λ g. not (is_code g.kind)) (where_good history digest m (Some g))
-    some g true true is good = rw (good, is) refl
-    some g true false is bad = rw bad refl
-    some g false good is its = ap (λ (x : Grant). where_passes (λ (g : Grant). not (is_code g.kind)) (cond {A = Option Grant} (is_good history digest m g) (Some x) None)) (told_token spent g is)
-
-    by : (o : Option Grant) → where_passes (λ g. not (is_code g.kind)) (where_good history digest m (option_map (told_as spent) o)) ≡ where_passes (λ g. not (is_code g.kind)) (where_good history digest m o)
-    by None = refl
-    by (Some g) = some g (is_code g.kind) (is_good history digest m g) refl refl
 
 module _ (s : Setting) (asked : Asked) (number : ℕ) (digest : Option (List ℕ)) (live : Option Grant) where
   abbrev LeadsOn : Type 0

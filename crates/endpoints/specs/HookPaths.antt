@@ -2,20 +2,12 @@
 use Rattle.std.specs.Prelude.{ℕ, List, [], ◌∷◌, not, codes, bytes_eq, Bool, false, Option, Some, None, if◌then◌else◌, option_and_then, option_map}
 use Rattle.endpoints.specs.Names.{option_map_or, result_ok, read_params, value_sent, RegistryRecord, RecordVersion, First, Second, HookFault, Asked, query_of, InvalidRequest, AccessDenied, hook_body}
 use Rattle.endpoints.specs.Names.{plain, refused_body, Outcome, point, need, only, refuse, unavailable, Parameters, form_of, Setting, Endpoint}
-use Rattle.clients.specs.Registry.{is_operator_key}
+pub use Rattle.answers.specs.Requesters.{is_operator, with_operator}
 use Rattle.consent.specs.History.{Change}
 use Rattle.consent.specs.History.Change.{HookSet, HookGone}
 use Rattle.hook_host.specs.declared.fault.HookFault.TheVariants as hook
 use Rattle.hook_host.specs.Faults.{hook_fault_text}
 use Rattle.answers.specs.declared.endpoint.Endpoint.TheVariants as endpoint
-
--- the operator's key was sent
-abbrev pub is_operator : RegistryRecord → Asked → Bool
-is_operator rules asked = option_map_or (λ key. is_operator_key key rules) asked.operator_key false
-
--- the point "the operator's key"
-abbrev pub with_operator : RegistryRecord → Asked → Outcome → Outcome
-with_operator rules asked next = point (not (is_operator rules asked)) (refuse AccessDenied) next
 
 -- WHAT IS ASKED
 

@@ -22,6 +22,7 @@ pub mod Faults
 pub mod Remaking
 pub mod Redo
 pub mod Steps
+pub mod Telling
 pub mod Listing
 -- What only the contracts of this crate's own parts and their proofs cite.
 pub mod Parts

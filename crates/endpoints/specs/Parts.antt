@@ -5,8 +5,7 @@ use Rattle.endpoints.specs.Names.{InvalidRequest, InvalidScope, UnauthorizedClie
 use Rattle.endpoints.specs.Names.{client_named, owner_of_key, scope_asked, scope_within, with_authenticated, Setting, digest_told, where_passes, LeadsOrHalts, Halt}
 use Rattle.consent.specs.History.{Change}
 use Rattle.consent.specs.declared.change.CodeFacts.{CodeFacts}
-use Rattle.token_store.specs.declared.found.Found.{Found}
-use Rattle.answers.specs.Found.{grant_found}
+pub use Rattle.answers.specs.Live.{FindsLive, live_of}
 use Rattle.answers.specs.Views.{known_of}
 use Rattle.endpoints.specs.declared.revoke.Presented.{Presented}
 use Rattle.endpoints.specs.declared.authorize.Requester.{Requester}
@@ -87,15 +86,6 @@ abbrev pub with_presented : RegistryRecord → Asked → (Presented → Outcome)
 with_presented rules asked next =
     with_authenticated rules asked (λ params known.
     need (value_sent (codes "token") params) (refuse InvalidRequest) (λ text. next (record { client = known.number; digest = digest_told text })))
-
--- the live access or refresh token of the digest
-abbrev pub live_of : List Event → ℕ → Option (List ℕ) → Option Grant
-live_of history m told =
-    where_passes (λ g. not (is_code g.kind)) (option_and_then (λ digest. live_grant history digest m) told)
-
--- it was found
-abbrev pub FindsLive : List ℕ → Setting → Option Found → Type 0
-FindsLive digest s found = option_map (grant_found digest) found ≡ live_of s.history s.moment (Some digest)
 
 -- /hooks AND /hooks/remove
 

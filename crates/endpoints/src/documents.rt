@@ -7,8 +7,7 @@ ghost use Rattle.answers.specs.Told.{Decides};
 ghost use Rattle.answers.specs.Views.{InEachSetting};
 ghost use Rattle.endpoints.specs.Documents.{document_at, document_outcome};
 
-use crate::hooks::is_operator;
-use answers::{Answer, Decision, Document, Halt, View};
+use answers::{Answer, Decision, Document, Halt, View, is_operator};
 use consent::Changes;
 use messages::{ErrorName, Request};
 

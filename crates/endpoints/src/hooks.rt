@@ -2,45 +2,19 @@
 ghost use Rattle.std.specs.Prelude.{◌≡◌, IfOk, codes};
 ghost use Rattle.params.specs.Form.{value_sent};
 ghost use Rattle.consent.specs.History.{Change};
-ghost use Rattle.messages.specs.Asked.{asked_of};
-ghost use Rattle.answers.specs.Halts.{LeadsOrHalts};
-ghost use Rattle.answers.specs.Outcomes.{Outcome};
 ghost use Rattle.answers.specs.Setting.{Setting};
 ghost use Rattle.answers.specs.Short.{IsShortAnswer};
 ghost use Rattle.endpoints.specs.HookAsking.{IsAskedFor};
-ghost use Rattle.endpoints.specs.HookPaths.{hook_gone, hook_set_by, is_operator, version_asked, with_operator};
+ghost use Rattle.endpoints.specs.HookPaths.{hook_gone, hook_set_by, version_asked};
 ghost use Rattle.endpoints.specs.RulingParts.{IsHookRefused, RulesHooks};
 
 use crate::redo::layout_of;
 use crate::ruling::{Checked, Ruling};
 use answers::{Answer, Decision, Halt};
-use clients::Registry;
 use consent::{Change, Changes, RecordVersion};
 use hook_host::{HookFault, HookHost};
-use messages::{ErrorName, Request};
+use messages::ErrorName;
 use params::Params;
-
-/// Whether the operator's key was sent.
-pub(crate) fn is_operator(rules: &Registry, request: &Request<'_>) -> bool
-    ensures { result ≡ is_operator rules.now (asked_of request.entry.now) }
-{
-    match request.operator_key {
-        Some(key) => rules.is_operator(key),
-        None => false,
-    }
-}
-
-/// The operator's key was sent.
-pub(crate) fn operator(rules: &Registry, request: &Request<'_>) -> Result<(), Halt>
-    ensures { (next : Outcome) →
-        LeadsOrHalts result (with_operator rules.now (asked_of request.entry.now) next) (λ _. next) }
-{
-    if is_operator(rules, request) {
-        Ok(())
-    } else {
-        Err(Halt::Refuse(ErrorName::AccessDenied))
-    }
-}
 
 // A hook to be installed: its name, and the version of the record that it reads.
 #[derive(Clone, Copy)]

@@ -6,8 +6,8 @@ ghost use Rattle.answers.specs.Told.{Decides};
 ghost use Rattle.answers.specs.Views.{InEachSetting};
 ghost use Rattle.endpoints.specs.Introspect.{introspect};
 
-use crate::revoke::{live_token, presented_by};
-use answers::{Answer, Decision, Halt, View};
+use crate::revoke::presented_by;
+use answers::{Answer, Decision, Halt, View, live_token};
 use consent::{Changes, Kind};
 use messages::Request;
 use std::alloc::Global;

@@ -6,8 +6,7 @@ ghost use Rattle.answers.specs.Told.{Decides, outcome_told};
 ghost use Rattle.answers.specs.Views.{InEachSetting};
 ghost use Rattle.endpoints.specs.OwnerPath.{end_owner, owner_asked, owner_ended};
 
-use crate::hooks::operator;
-use answers::{Answer, Decision, Halt, View, form};
+use answers::{Answer, Decision, Halt, View, form, operator};
 use clients::owner_number_in;
 use consent::{Changes, OwnerNo};
 use messages::{ErrorName, Request};

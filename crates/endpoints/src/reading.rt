@@ -5,8 +5,7 @@ ghost use Rattle.answers.specs.Short.{state_limit};
 ghost use Rattle.endpoints.specs.Reading.{EndsAt, IsRequestRead, IsShortReading, endpoint_of};
 
 use crate::authorize::query;
-use crate::hooks::operator;
-use answers::{Document, Endpoint, Halt, form};
+use answers::{Document, Endpoint, Halt, form, operator};
 use clients::Registry;
 use messages::Request;
 use params::Params;

@@ -7,15 +7,14 @@ ghost use Rattle.answers.specs.Short.{IsShortAnswer};
 ghost use Rattle.answers.specs.Told.{Decides};
 ghost use Rattle.answers.specs.Views.{InEachSetting};
 ghost use Rattle.endpoints.specs.declared.revoke.Presented.{Presented};
-ghost use Rattle.endpoints.specs.Parts.{FindsLive, with_presented};
+ghost use Rattle.endpoints.specs.Parts.{with_presented};
 ghost use Rattle.endpoints.specs.Revoke.{revoke_token};
 
-use answers::{Answer, Decision, Halt, View, authenticated_client, digest_told, form};
+use answers::{Answer, Decision, Halt, View, authenticated_client, digest_told, form, live_token};
 use clients::Registry;
-use consent::{Change, Changes, ClientNo, Digest, Kind, TokenKind};
+use consent::{Change, Changes, ClientNo, Digest};
 use messages::{ErrorName, Request};
 use std::alloc::Global;
-use token_store::Found;
 
 /// What is presented: the client that presents it, and the digest of the token that it may be.
 #[derive(Clone, Copy)]
@@ -47,22 +46,6 @@ pub(crate) fn presented_by(
         client: known.number,
         digest: digest_told(text),
     })
-}
-
-// The live access or refresh token of the digest.
-#[tactic(auto, using(crate::proofs::Telling::live_as_told))]
-pub(crate) fn live_token<'a>(view: &View<'a>, digest: &Digest) -> Option<Found<'a>>
-    ensures { InEachSetting view.now (λ s. FindsLive digest.now s result) }
-{
-    let Some(found) = view.at(digest) else {
-        return None;
-    };
-    let is_live = match found.kind {
-        Kind::Code => false,
-        Kind::Token(TokenKind::Access) => !found.ended,
-        Kind::Token(TokenKind::Refresh) => !found.ended && !found.spent,
-    };
-    if is_live { Some(found) } else { None }
 }
 
 /// Decides on a revocation: the client's own token is revoked, and its family with it.

@@ -1,5 +1,5 @@
 //! The server.
-ghost use Rattle.std.specs.Prelude.{◌≡◌, ◌≤◌, [], None, Some, IfErr, IfOk, OnErr, OnOk, max, length, option_map, unwrap_or, ◌⊎◌, ◌+◌};
+ghost use Rattle.std.specs.Prelude.{◌≡◌, ◌≤◌, [], None, Some, IfErr, IfOk, OnErr, OnOk, is_some, max, length, option_map, unwrap_or, ◌⊎◌, ◌+◌};
 ghost use Rattle.consent.specs.Changes.{as_list};
 ghost use Rattle.messages.specs.Asked.{asked_of};
 ghost use Rattle.answers.specs.Short.{IsShortReply, IsShortAnswer, state_limit};
@@ -15,10 +15,11 @@ ghost use Rattle.endpoints.specs.Noting.{IsNothingPrepared, with_notes};
 ghost use Rattle.endpoints.specs.Reading.{EndsAt, IsRequestRead, IsShortReading, endpoint_of};
 ghost use Rattle.endpoints.specs.Ruling.{CanTake};
 ghost use Rattle.endpoints.specs.Rulings.{RulesRead, asking_at, read_request};
-ghost use Rattle.endpoints.specs.RulingsParts.{AnswersRequest, IsHalted, RulesReadAlone};
+ghost use Rattle.endpoints.specs.RulingsParts.{AnswersRequest, Begins, RulesReadAlone};
 ghost use Rattle.endpoints.specs.Listing.{AreConsentsOf, AreRecordsOf, IsLastOf};
 ghost use Rattle.endpoints.specs.Server.{FitsServer, Notes, NowNotes, outset_of};
-ghost use Rattle.endpoints.specs.Steps.{Reaches, Steps, Sweeps};
+ghost use Rattle.endpoints.specs.Steps.{Reaches, Sweeps};
+ghost use Rattle.endpoints.specs.Telling.{StepsTelling};
 ghost use Rattle.token_store.specs.Fits.{FitsStore};
 
 use crate::authorize::authorize;
@@ -34,15 +35,16 @@ use crate::reading::{Reading, read};
 use crate::redo::layout_of;
 use crate::revoke::revoke;
 use crate::ruling::{Checked, Ruling};
-use answers::{Answer, Cause, Decision, Endpoint, Halt, Tally, View, Want, status_of, write};
+use answers::{Answer, Cause, Decision, Endpoint, Halt, Tally, View, Want, write};
 use change_codec::Batch;
 use clients::Registry;
 use consent::{Change, Changes, Consents, KeptConsent, KeptRecord, Moment, RecordVersion};
-use hook_host::{HookFault, HookHost};
+use hook_host::{HookFault, HookHost, hook_count};
 use http::StatusCode;
-use messages::{Draws, Request, Response, failure};
+use messages::{Draws, Request};
 use std::alloc::{AllocError, Global};
 use std::marker::Model;
+use telling::{Stepped, Telling};
 use token_endpoint::decide;
 use token_store::Store;
 
@@ -336,6 +338,27 @@ impl<H: HookHost> Server<H> {
         self.store.apply(changes, self.greatest);
     }
 
+    // What a request at the endpoint shows by itself, where it is to be told of.
+    fn begin(
+        &self,
+        endpoint: Endpoint,
+        request: &Request<'_>,
+        draws: &Draws,
+        is_told: bool,
+    ) -> Result<Telling, AllocError>
+        ensures begun { IfOk result (Begins H.HookHost self.now (asking_at endpoint (asked_of request.now) draws.now)) }
+        ensures wanted { IfOk result (λ telling. is_some telling.facts ≡ is_told) }
+    {
+        let view = View {
+            rules: &self.rules,
+            store: &self.store,
+            consents: &self.consents,
+            moment: self.greatest,
+            draws,
+        };
+        Telling::begin(self.alloc, &view, &self.host, endpoint, request, is_told)
+    }
+
     // Answers a request at its endpoint, and makes what comes of it. Where memory is refused, nothing is made. The cause of
     // the reply is told, where there is one.
     fn answer_at(
@@ -344,25 +367,29 @@ impl<H: HookHost> Server<H> {
         request: &Request<'_>,
         draws: &Draws,
         cause: &mut Option<Cause>,
-    ) -> Result<Response, AllocError>
+        is_told: bool,
+    ) -> Result<Stepped, AllocError>
         ensures replies { AnswersRequest H.HookHost self.old
             (asking_at endpoint (asked_of request.now) draws.now) result self.new }
-        ensures short { length request.now.target.now ≤ state_limit → IfOk result IsShortReply }
+        ensures wanted { IfOk result (λ stepped. is_some stepped.told ≡ is_told) }
+        ensures short { length request.now.target.now ≤ state_limit → IfOk result (λ stepped. IsShortReply stepped.reply) }
     {
+        let telling = self.begin(endpoint, request, draws, is_told)?;
         let reading = match self.read(endpoint, request) {
             Ok(reading) => reading,
-            Err(halt) => return halted(self.alloc, halt),
+            Err(halt) => return telling.halted(self.alloc, halt),
         };
         let Ruling { decision, checked } = match self.decide(request, &reading, draws) {
             Ok(ruling) => ruling,
-            Err(halt) => return halted(self.alloc, halt),
+            Err(halt) => return telling.halted(self.alloc, halt),
         };
         *cause = Cause::of(&decision.answer);
         let reply = write(self.alloc, &self.rules, &self.host, &decision.answer)?;
+        let told = telling.told(&decision.answer, &decision.changes);
         let now = self.moment();
         self.reserve(now, &decision.changes)?;
         self.apply(&decision.changes, checked);
-        Ok(reply)
+        Ok(Stepped { reply, told })
     }
 
     // Answers a request, and tells the cause of the reply, where there is one.
@@ -372,24 +399,32 @@ impl<H: HookHost> Server<H> {
         moment: Moment,
         draws: &Draws,
         cause: &mut Option<Cause>,
-    ) -> Response
-        ensures replies { Steps H.HookHost self.old
+        is_told: bool,
+    ) -> Stepped
+        ensures replies { StepsTelling H.HookHost self.old
             (record { asked = asked_of request.now; moment = moment; draws = draws.now }) result self.new }
-        ensures short { length request.now.target.now ≤ state_limit → IsShortReply result }
+        ensures wanted { is_some result.told ≡ is_told }
+        ensures short { length request.now.target.now ≤ state_limit → IsShortReply result.reply }
     {
         self.greatest = greater(self.greatest, moment);
         make_way(&mut self.store, self.rules.limits().records, self.greatest);
+        let now = self.greatest;
         let Some(endpoint) = Endpoint::at(request.path()) else {
-            return Response::bare(StatusCode::NOT_FOUND);
+            return Stepped::bare(is_told, now, None, StatusCode::NOT_FOUND);
         };
         if request.method != endpoint.method() {
-            return Response::bare(StatusCode::METHOD_NOT_ALLOWED);
+            return Stepped::bare(is_told, now, Some(endpoint), StatusCode::METHOD_NOT_ALLOWED);
         }
-        let Ok(reply) = self.answer_at(endpoint, request, draws, cause) else {
+        let Ok(stepped) = self.answer_at(endpoint, request, draws, cause, is_told) else {
             *cause = Some(Cause::Wants(Want::Memory));
-            return Response::bare(StatusCode::SERVICE_UNAVAILABLE);
+            return Stepped::bare(
+                is_told,
+                now,
+                Some(endpoint),
+                StatusCode::SERVICE_UNAVAILABLE,
+            );
         };
-        reply
+        stepped
     }
 
     /// From now on nothing is answered by an earlier moment.
@@ -412,20 +447,28 @@ impl<H: HookHost> Server<H> {
 
     /// Answers a request at the greatest moment so far: the reply of the first point of its endpoint's list that holds, or
     /// the 503 of refused memory, with which nothing happens. What no endpoint answers (404, 405) takes no memory. It is
-    /// counted. Afterwards nothing is kept that has expired, or 62 codes and tokens fewer are kept than before.
-    pub fn step(&mut self, request: &Request<'_>, moment: Moment, draws: &Draws) -> Response
-        ensures replies { Steps H.HookHost self.old
+    /// counted, and told of where that is wanted. Afterwards nothing is kept that has expired, or 62 codes and tokens fewer are
+    /// kept than before.
+    pub fn step(
+        &mut self,
+        request: &Request<'_>,
+        moment: Moment,
+        draws: &Draws,
+        is_told: bool,
+    ) -> Stepped
+        ensures replies { StepsTelling H.HookHost self.old
             (record { asked = asked_of request.now; moment = moment; draws = draws.now }) result self.new }
+        ensures wanted { is_some result.told ≡ is_told }
         ensures kept { Sweeps H.HookHost self.old self.new }
-        ensures short { length request.now.target.now ≤ state_limit → IsShortReply result }
+        ensures short { length request.now.target.now ≤ state_limit → IsShortReply result.reply }
     {
         let before = self.record_count();
         let mut cause = None;
-        let reply = self.answer(request, moment, draws, &mut cause);
+        let stepped = self.answer(request, moment, draws, &mut cause, is_told);
         self.sweep(before);
-        self.tally
-            .count(Endpoint::at(request.path()), reply.status(), cause);
-        reply
+        let endpoint = Endpoint::at(request.path());
+        self.tally.count(endpoint, stepped.reply.status(), cause);
+        stepped
     }
 }
 
@@ -433,6 +476,13 @@ impl<H: HookHost> Server<H> {
     /// How many requests were answered, and how.
     pub fn tally(&self) -> &Tally {
         &self.tally
+    }
+
+    /// Its rules.
+    pub fn rules(&self) -> &Registry
+        ensures { result.now ≡ self.now.rules }
+    {
+        &self.rules
     }
 
     /// How many codes and tokens it has in memory.
@@ -454,26 +504,5 @@ impl<H: HookHost> Server<H> {
         ensures { result ≡ length (H.names self.now.host) }
     {
         hook_count(&self.host)
-    }
-}
-
-// How many hooks a host has.
-fn hook_count<H: HookHost>(host: &H) -> usize
-    ensures { result ≡ length (H.names host.now) }
-{
-    let mut count = 0;
-    while let Some(_name) = host.name_at(count) {
-        count += 1;
-    }
-    count
-}
-
-// What ended the request is answered.
-fn halted(alloc: Global, halt: Halt) -> Result<Response, AllocError>
-    ensures { IfOk result (IsHalted halt) }
-{
-    match halt {
-        Halt::Refuse(error) => failure(alloc, status_of(error), error),
-        Halt::NoMemory => Err(AllocError),
     }
 }

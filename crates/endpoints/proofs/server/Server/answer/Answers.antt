@@ -4,24 +4,30 @@ use Rattle.std.specs.Prelude.{not, bytes_eq}
 use Rattle.endpoints.proofs.Answering.{at_moment, swept, bare_step, none_made, stepped, unkept_as, host_as}
 use Rattle.answers.proofs.Sizes.{written_short}
 use Rattle.endpoints.proofs.Shorter.{bare_small}
+use Rattle.endpoints.proofs.Answering.{bare_tells}
 use Rattle.endpoints.proofs.server.Server.answer.Goals as goal
 
 pub returns-in_default-clause-short : goal.returns-in_default-clause-short
-returns-in_default-clause-short g c = λ few. written_short _ _ (bare_small 404 refl) c.bare.ensures
+returns-in_default-clause-short g c = λ few. written_short _ _ (bare_small 404 refl) c.bare.ensures.reply
 
 pub returns-then-ne-clause-short : goal.returns-then-ne-clause-short
-returns-then-ne-clause-short g c = λ few. written_short _ _ (bare_small 405 refl) c.bare-then-ne.ensures
+returns-then-ne-clause-short g c = λ few. written_short _ _ (bare_small 405 refl) c.bare-then-ne.ensures.reply
 
 pub returns-in_default-answer_at-clause-short : goal.returns-in_default-answer_at-clause-short
-returns-in_default-answer_at-clause-short g c = λ few. written_short _ _ (bare_small 503 refl) c.bare-in_default-answer_at.ensures
+returns-in_default-answer_at-clause-short g c = λ few. written_short _ _ (bare_small 503 refl) c.bare-in_default-answer_at.ensures.reply
 
 pub returns-in_default-clause-replies : goal.returns-in_default-clause-replies
 returns-in_default-clause-replies g c = λ outset history m fits0.
     let fits = rw (← c.self.view_is) at fits0 in
     let moment = at_moment _ m c.args.moment _ c.greater-self-inside.ensures fits.greatest_is in
     let none : endpoint_at (path_of c.args.request.now.target.now) ≡ None = ap endpoint_at (sym c.path.ensures) ∙ sym c.at.ensures ∙ c.in_default.is in
-    let now = swept g.H.HookHost _ outset history m _ _ moment.0 fits (c.make_way.ensures.fits history) in
-    (false, None, tt, rw (none, ← moment.1) (bare_step g.H.HookHost (record { server = c.args.self.now; outset = outset; history = history; moment = c.greater-self-inside.result }) _ 404 _ now c.bare.ensures (unkept_as _ _ c.self.view_is) (host_as _ _ c.self.view_is)))
+    let now = swept g.H.HookHost _ outset history m _ _ moment.0 fits (c.make_way.ensures.fits history) in (
+      false,
+      None,
+      tt,
+      rw (none, ← moment.1) (bare_step g.H.HookHost (record { server = c.args.self.now; outset = outset; history = history; moment = c.greater-self-inside.result }) _ 404 _ now c.bare.ensures.reply (unkept_as _ _ c.self.view_is) (host_as _ _ c.self.view_is)),
+      rw (none, ← moment.1, c.bare.ensures.told) (bare_tells c.args.is_told _),
+    )
 
 pub returns-then-ne-clause-replies : goal.returns-then-ne-clause-replies
 returns-then-ne-clause-replies g c = λ outset history m fits0.
@@ -30,8 +36,13 @@ returns-then-ne-clause-replies g c = λ outset history m fits0.
     let there : endpoint_at (path_of c.args.request.now.target.now) ≡ Some c.in-Some.endpoint = ap endpoint_at (sym c.path.ensures) ∙ sym c.at.ensures ∙ c.in-Some.is in
     let other : not (bytes_eq c.args.request.now.method.now (method_at c.in-Some.endpoint)) ≡ true =
     sym (c.ne.ensures ∙ ap (λ b. not (bytes_eq c.args.request.now.method.now b)) c.method.ensures) ∙ c.if-ne.true in
-    let now = swept g.H.HookHost _ outset history m _ _ moment.0 fits (c.make_way.ensures.fits history) in
-    (false, None, tt, rw (there, other, ← moment.1) (bare_step g.H.HookHost (record { server = c.args.self.now; outset = outset; history = history; moment = c.greater-self-inside.result }) _ 405 _ now c.bare-then-ne.ensures (unkept_as _ _ c.self.view_is) (host_as _ _ c.self.view_is)))
+    let now = swept g.H.HookHost _ outset history m _ _ moment.0 fits (c.make_way.ensures.fits history) in (
+      false,
+      None,
+      tt,
+      rw (there, other, ← moment.1) (bare_step g.H.HookHost (record { server = c.args.self.now; outset = outset; history = history; moment = c.greater-self-inside.result }) _ 405 _ now c.bare-then-ne.ensures.reply (unkept_as _ _ c.self.view_is) (host_as _ _ c.self.view_is)),
+      rw (there, other, ← moment.1, c.bare-then-ne.ensures.told) (bare_tells c.args.is_told _),
+    )
 
 pub returns-in_default-answer_at-clause-replies : goal.returns-in_default-answer_at-clause-replies
 returns-in_default-answer_at-clause-replies g c = λ outset history m fits0.
@@ -41,8 +52,13 @@ returns-in_default-answer_at-clause-replies g c = λ outset history m fits0.
     let method : bytes_eq c.args.request.now.method.now (method_at c.in-Some.endpoint) ≡ true =
     not-false _ (sym (c.ne.ensures ∙ ap (λ b. not (bytes_eq c.args.request.now.method.now b)) c.method.ensures) ∙ c.if-ne.false) in
     let now = swept g.H.HookHost _ outset history m _ _ moment.0 fits (c.make_way.ensures.fits history) in
-    let same = none_made g.H.HookHost _ _ (record { endpoint = c.in-Some.endpoint; asked = asked_of c.args.request.now; draws = c.args.draws.now }) c.answer_at.result c.in_default-answer_at.not-Ok c.answer_at.ensures.replies in
-    (true, None, tt, rw (there, method, ← moment.1) (bare_step g.H.HookHost (record { server = c.args.self.now; outset = outset; history = history; moment = c.greater-self-inside.result }) _ 503 _ (same.fits outset history _ now) c.bare-in_default-answer_at.ensures (same.unkept ∙ unkept_as _ _ c.self.view_is) (same.host ∙ host_as _ _ c.self.view_is)))
+    let same = none_made g.H.HookHost _ _ (record { endpoint = c.in-Some.endpoint; asked = asked_of c.args.request.now; draws = c.args.draws.now }) c.answer_at.result c.in_default-answer_at.not-Ok c.answer_at.ensures.replies in (
+      true,
+      None,
+      tt,
+      rw (there, method, ← moment.1) (bare_step g.H.HookHost (record { server = c.args.self.now; outset = outset; history = history; moment = c.greater-self-inside.result }) _ 503 _ (same.fits outset history _ now) c.bare-in_default-answer_at.ensures.reply (same.unkept ∙ unkept_as _ _ c.self.view_is) (same.host ∙ host_as _ _ c.self.view_is)),
+      rw (there, method, ← moment.1, c.bare-in_default-answer_at.ensures.told) (bare_tells c.args.is_told _),
+    )
 
 pub returns-clause-replies : goal.returns-clause-replies
 returns-clause-replies g c = λ outset history m fits0.

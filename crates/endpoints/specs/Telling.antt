@@ -1,0 +1,50 @@
+-- What is told of a request that was answered, whatever has happened before.
+use Rattle.std.specs.Prelude.{◌≡◌, ℕ, List, Bool, not, bytes_eq, Option, Some, None, if◌then◌else◌, max}
+use Rattle.answers.specs.Paths.{endpoint_at, method_at}
+use Rattle.hook_record.specs.declared.Ask.{Ask}
+use Rattle.hook_host.specs.Verdicts.{Verdict}
+use Rattle.endpoints.specs.Names.{HookFault, Hosting, Event, Asked, path_of, Setting, Endpoint}
+use Rattle.endpoints.specs.Hosts.{IsHostFault, says_with}
+use Rattle.endpoints.specs.Replies.{outcome_at, request_outcome, hook_change}
+use Rattle.endpoints.specs.Server.{SeenServer, Outset, FitsServer, IsStep}
+use Rattle.endpoints.specs.Steps.{Arrival, Steps}
+use Rattle.telling.specs.Begun.{Tells}
+use Rattle.telling.specs.Telling.{bare_told, told_of}
+use Rattle.telling.specs.declared.telling.Stepped.{Stepped}
+use Rattle.telling.specs.declared.told.Told.{Told}
+
+-- at the endpoint of the path: where the method is another, or memory was refused, nothing but that
+abbrev pub told_at : Bool → (Ask → List Verdict) → Setting → Asked → Option Endpoint → Told
+told_at refused verdicts setting asked None = bare_told setting.moment None 404
+told_at refused verdicts setting asked (Some endpoint) =
+    if not (bytes_eq asked.method (method_at endpoint)) then bare_told setting.moment (Some endpoint) 405
+    else (if refused then bare_told setting.moment (Some endpoint) 503
+    else told_of verdicts setting endpoint asked (outcome_at endpoint setting asked))
+
+-- what is told of any request
+abbrev pub request_told : Bool → (Ask → List Verdict) → Setting → Asked → Told
+request_told refused verdicts setting asked = told_at refused verdicts setting asked (endpoint_at (path_of asked.target))
+
+-- What a request does, as `Steps` has it, and what is told of it, where something is: by the same of the host's faults, and by
+-- the same refusal of memory.
+abbrev pub StepsTelling : {H : Type 0} → Hosting H → SeenServer H → Arrival → Stepped → SeenServer H → Type 0
+StepsTelling {H = H} hosting server arrival stepped server' =
+    (outset : Outset H) (history : List Event) (m : ℕ) → FitsServer hosting server outset history m →
+    let setting : Option HookFault → Setting = λ fault. record {
+      rules = outset.rules;
+      history = history;
+      host = says_with hosting server.host fault;
+      moment = max m arrival.moment;
+      draws = arrival.draws;
+    } in
+    (refused : Bool) × (fault : Option HookFault) × IsHostFault hosting server.host (hook_change arrival.asked) fault
+    × IsStep hosting (record { server = server; outset = outset; history = history; moment = max m arrival.moment })
+    (request_outcome refused (setting fault) arrival.asked) stepped.reply server'
+    × Tells stepped.told (request_told refused (hosting.verdicts server.host) (setting fault) arrival.asked)
+
+-- the step alone
+pub steps_of : {H : Type 0} (hosting : Hosting H) (server : SeenServer H) (arrival : Arrival) (stepped : Stepped) (new : SeenServer H) →
+    StepsTelling hosting server arrival stepped new → Steps hosting server arrival stepped.reply new
+steps_of hosting server arrival stepped new telling outset history m fits =
+    let it = telling outset history m fits in
+    (it.0, it.1, it.2, it.3)
