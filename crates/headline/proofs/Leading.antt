@@ -45,9 +45,9 @@ module _ {H : Type 0} (hosting : Hosting H) where
         goes_on (Event (event.Open c)) (Done bytes) (Opened c) on (leads.0, Opened c, refl, on.world, on.happens, refl)
     one_more (Event (event.Bytes c piece moment draws)) (Done bytes) leads =
         let came = leads.1 made.journey made.reached in
-        let e = Came (record { piece = piece_of c piece.now moment; draws = draws.now; mishaps = came.mishaps; closes = came.closes }) in
+        let e = Came (record { piece = piece_of c piece.now moment; draws = draws.now; mishaps = came.mishaps; closes = came.closes; tellings = came.tellings }) in
         goes_on (Event (event.Bytes c piece moment draws)) (Done bytes) e came.on
-        (leads.0, e, (came.mishaps, came.closes, refl), came.on.world, came.on.happens, refl)
+        (leads.0, e, (came.mishaps, came.closes, came.tellings, refl), came.on.world, came.on.happens, refl)
     one_more (Event (event.End c)) (Done bytes) leads =
         let on = leads.1 made.journey made.reached in
         goes_on (Event (event.End c)) (Done bytes) (HasEnded c) on (leads.0, HasEnded c, refl, on.world, on.happens, refl)

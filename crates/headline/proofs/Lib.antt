@@ -17,3 +17,6 @@ pub mod Drawing
 pub mod Names
 pub mod Gateway
 pub mod Leaving
+pub mod InVain
+pub mod Auditing
+pub mod Tracing

@@ -7,12 +7,14 @@ use Rattle.http_edge.specs.declared.event.Event.TheVariants as event
 use Rattle.http_edge.specs.declared.fault.EdgeFault.{EdgeFault}
 use Rattle.http_edge.specs.declared.fault.EdgeFault.TheVariants.{Memory}
 use Rattle.headline.specs.declared.call.EdgeCall.TheVariants.{Event}
+use Rattle.telling.specs.declared.told.Told.{Told}
 
 -- the call, by which these bytes were taken, is what happened, whatever was free in it
 abbrev pub IsHappening : EdgeCall → List ℕ → Happening → Type 0
 IsHappening (Event (event.Open c)) bytes e = e ≡ Opened c
 IsHappening (Event (event.Bytes c piece moment draws)) bytes e =
-    (mishaps : List Mishap) × (closes : Bool) × (e ≡ Came (record { piece = piece_of c piece.now moment; draws = draws.now; mishaps = mishaps; closes = closes }))
+    (mishaps : List Mishap) × (closes : Bool) × (tellings : List Told)
+    × (e ≡ Came (record { piece = piece_of c piece.now moment; draws = draws.now; mishaps = mishaps; closes = closes; tellings = tellings }))
 IsHappening (Event (event.End c)) bytes e = e ≡ HasEnded c
 IsHappening (Take c most) bytes e = e ≡ Taken c (length bytes)
 IsHappening (Forget c) bytes e = e ≡ Forgotten c

@@ -15,6 +15,7 @@ pub mod Redirects
 pub mod Hooked
 pub mod Decided
 pub mod Drawn
+pub mod Audited
 -- What only the contracts of this crate's own parts and their proofs cite.
 pub mod Making
 -- What these files import, passed on.

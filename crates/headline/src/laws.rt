@@ -1,6 +1,7 @@
 //! Laws of every history that a server comes to, of requests and of their replies.
 
 ghost use Rattle.headline.specs.Activity.{IsActiveWhereLive, TellsWithin};
+ghost use Rattle.headline.specs.Audited.{AreAudited, IsAudited};
 ghost use Rattle.headline.specs.Authority.{EndsWithAuthority, IsAllAuthorized, IsIsolated};
 ghost use Rattle.headline.specs.Codes.{BindsCodes};
 ghost use Rattle.headline.specs.Decided.{IsAllDecided};
@@ -134,4 +135,16 @@ pub fn tokens_come_from_draws_of_their_own<H: HookHost>()
 /// what it presents.
 pub fn no_grant_goes_around_the_hooks()
     ensures { OnEachOccasion IsAllDecided }
+{}
+
+/// What is told of requests follows each grant: whatever happens in a family is told with the family's number, which stays the
+/// same from its code to the last of its tokens, also where a code is spent in vain.
+pub fn what_happens_in_a_family_is_told()
+    ensures { OnEachOccasion IsAudited }
+{}
+
+/// Whatever has happened is told of: in each history that a schedule leads to, each event has its moment and, in a family, the
+/// family's number in what is told of an answered request; or it was there when the server went on from what was kept.
+pub fn whatever_happened_is_told<H: HookHost>()
+    ensures { AreAudited H.HookHost }
 {}

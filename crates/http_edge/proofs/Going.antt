@@ -1,12 +1,14 @@
 -- An edge goes on by one event.
 use Rattle.std.proofs.Common.{◌≡◌, ◌≤◌, ◌<◌, ◌+◌, inl, inr, ℕ, List, [], ◌∷◌, ◌++◌, Bool, false, cond, Some, None, length, length-append, append_assoc, append-nil, drop, refl, ap, ◌∙◌, sym, subst, arith}
 use Rattle.http_edge.proofs.Names.{length-drop, drop-drop, drop-append-le, IsSome, option_map, Hosting, Event, with_changes, SeenServer, Outset, FitsServer, AreUnkept, Notes, NowNotes, Draws}
-use Rattle.http_edge.proofs.Names.{Message, messages_cut, nothing_has_none, AnsweredRequest, changes_made, mishaps_in, replies_of, ends_of, ends_from, SeenOutput, lane_output, with_faulty, World, Connection, Piece, AnsweredPiece, Happening, Opened, Came}
+use Rattle.http_edge.proofs.Names.{Message, messages_cut, nothing_has_none, AnsweredRequest, changes_made, mishaps_in, tellings_of, replies_of, ends_of, ends_from, SeenOutput, lane_output, with_faulty, World, Connection, Piece, AnsweredPiece, Happening, Opened, Came}
 use Rattle.http_edge.proofs.Names.{HasEnded, Taken, Forgotten, Kept, Happens, IsKeptOf, Run, ended, has_stream_ended, is_closing_phase, first_world, resumed, fresh, heard, with_connection, without_connection}
 use Rattle.http_edge.proofs.Names.{moment_after, faulty_if, SeenLane, lane_at, ShowsConnection, ShowsConnections, with_lane, without_lane, fresh_lane, AreMessagesRead, IsHeard, timed_bytes, hearing}
 use Rattle.http_edge.proofs.Names.{SeenEdge, Journey, Reached, BeginsOver, ResumesOver, GoesOn, HappeningLeads, PieceGoesOn, PieceLeads, GivenWithMore, IsBrought, WhereReached, supplied, draws_for}
 use Rattle.http_edge.proofs.Names.{draws_behind, Suffices, Sources, Open, Closing}
 use Rattle.std.specs.Prelude.{Option}
+use Rattle.telling.specs.Audience.{Audience, heard_by}
+use Rattle.telling.specs.AudienceLaws.{none_heard}
 use Rattle.consent.specs.HistoryLaws.{Happened-none}
 use Rattle.endpoints.specs.Bounded.{IsBounded}
 use Rattle.endpoints.specs.BoundedLaws.{tokens_keep_their_bounds}
@@ -154,22 +156,44 @@ on_forgotten hosting edge edge' c same lanes journey reached =
     (rw lanes (shows_without edge.lanes journey.world.connections c reached.shows))
     (record { still = record { greatest = refl; history = refl; kept = refl }; connections = refl })
 
+-- with the same draws it leads on so, and as much is told
+abbrev same_draws : {H : Type 0} (hosting : Hosting H) (edge : SeenEdge H) (journey : Journey H) (piece : Piece) {draws others : List Draws} → draws ≡ others →
+    PieceGoesOn hosting edge journey piece draws → PieceGoesOn hosting edge journey piece others
+same_draws hosting edge journey piece same on = record {
+  mishaps = on.mishaps;
+  closes = on.closes;
+  tellings = on.tellings;
+  on = subst (λ (ds : List Draws). GoesOn hosting edge journey (Came (record { piece = piece; draws = ds; mishaps = on.mishaps; closes = on.closes; tellings = on.tellings }))) same on.on;
+}
+
+same_tellings : {H : Type 0} (hosting : Hosting H) (edge : SeenEdge H) (journey : Journey H) (piece : Piece) {draws others : List Draws} (same : draws ≡ others) →
+    (on : PieceGoesOn hosting edge journey piece draws) → (same_draws hosting edge journey piece same on).tellings ≡ on.tellings
+same_tellings hosting edge journey piece same on = refl
+
 -- where it leads on whatever draws are left, it does so with none
-gives : {H S : Type 0} (hosting : Hosting H) (sources : Sources S) (edge edge' : SeenEdge H) (piece : Piece) (source source' : S) (messages : List Message) →
+gives : {H S : Type 0} (hosting : Hosting H) (sources : Sources S) (edge edge' : SeenEdge H) (piece : Piece) (source source' : S) (before after : Audience) (messages : List Message) →
     WhereReached hosting edge (λ connections. IsBrought connections piece messages) → Suffices (sources.supply source) (length messages) →
-    ((left : List Draws) → PieceLeads hosting edge edge' piece (draws_for sources source messages ++ left)) → source' ≡ draws_behind sources source messages →
-    GivenWithMore hosting sources (supplied edge source) piece (supplied edge' source')
-gives hosting sources edge edge' piece source source' messages brought enough leads behind = record {
-  given = record { messages = messages; brought = brought; enough = enough; leads = rw append-nil at (leads []); source_is = behind };
+    (leads : (left : List Draws) → PieceLeads hosting edge edge' piece (draws_for sources source messages ++ left)) → source' ≡ draws_behind sources source messages →
+    ((journey : Journey H) (reached : Reached hosting edge journey) → after ≡ heard_by before (leads [] journey reached).tellings) →
+    GivenWithMore hosting sources (supplied edge source before) piece (supplied edge' source' after)
+gives hosting sources edge edge' piece source source' before after messages brought enough leads behind heard = record {
+  given = record {
+    messages = messages;
+    brought = brought;
+    enough = enough;
+    leads = λ journey reached. same_draws hosting edge' journey piece (append-nil (draws_for sources source messages)) (leads [] journey reached);
+    source_is = behind;
+    heard = λ journey reached. heard journey reached ∙ ap (heard_by before) (sym (same_tellings hosting edge' journey piece (append-nil (draws_for sources source messages)) (leads [] journey reached)));
+  };
   leads = leads;
 }
 
 -- bytes after the 400 of a faulty head
-pub on_passed : {H S : Type 0} (hosting : Hosting H) (sources : Sources S) (edge edge' : SeenEdge H) (piece : Piece) (lane : SeenLane) (source source' : S) → edge'.server ≡ edge.server → edge'.lanes ≡ edge.lanes →
+pub on_passed : {H S : Type 0} (hosting : Hosting H) (sources : Sources S) (edge edge' : SeenEdge H) (piece : Piece) (lane : SeenLane) (source source' : S) (audience : Audience) → edge'.server ≡ edge.server → edge'.lanes ≡ edge.lanes →
     lane_at edge.lanes piece.connection ≡ Some lane → lane.phase ≡ Closing → length piece.bytes ≤ 65536 → source' ≡ source →
-    GivenWithMore hosting sources (supplied edge source) piece (supplied edge' source')
-on_passed hosting sources edge edge' piece lane source source' same lanes here closing short undrawn =
-    gives hosting sources edge edge' piece source source' []
+    GivenWithMore hosting sources (supplied edge source audience) piece (supplied edge' source' audience)
+on_passed hosting sources edge edge' piece lane source source' audience same lanes here closing short undrawn =
+    gives hosting sources edge edge' piece source source' audience audience []
     (λ journey reached.
     let at = shows_here edge.lanes journey.world.connections piece.connection lane reached.shows here in
     inr (rw at.1 (ap is_closing_phase (sym at.2.phase ∙ closing)), refl))
@@ -179,10 +203,11 @@ on_passed hosting sources edge edge' piece lane source source' same lanes here c
     record {
       mishaps = [];
       closes = false;
+      tellings = [];
       on = goes_on hosting edge edge' journey journey.world.connections _ reached same (rw lanes reached.shows)
-          (short, inr (record { before = at.0; here = at.1; is_closing = sym at.2.phase ∙ closing; no_mishaps = refl; no_more = refl; same = refl }));
+          (short, inr (record { before = at.0; here = at.1; is_closing = sym at.2.phase ∙ closing; no_mishaps = refl; none_told = refl; no_more = refl; same = refl }));
     })
-    undrawn
+    undrawn (λ journey reached. sym (none_heard audience))
 
 -- the lane after a piece shows the connection after it
 shows_heard : (lane lane' : SeenLane) (k : Connection) (piece : List ℕ) (messages : List Message) (requests : List AnsweredRequest) (middle : SeenOutput) (closes : Bool) → k.phase ≡ Open →
@@ -206,11 +231,11 @@ shows_heard lane lane' k piece messages requests middle closes is_open shows num
     }
 
 -- a piece that was heard leads on
-leads_heard : {H S : Type 0} (hosting : Hosting H) (sources : Sources S) (edge edge' : SeenEdge H) (piece : Piece) (lane lane' : SeenLane) (source source' : S) →
+leads_heard : {H S : Type 0} (hosting : Hosting H) (sources : Sources S) (edge edge' : SeenEdge H) (piece : Piece) (lane lane' : SeenLane) (source source' : S) (before after : Audience) →
     lane_at edge.lanes piece.connection ≡ Some lane → lane.phase ≡ Open → length piece.bytes ≤ 65536 →
-    (hears : IsHeard hosting sources (hearing edge.server lane source) (timed_bytes (lane.rest ++ piece.bytes) piece.moment) (hearing edge'.server lane' source')) → edge'.lanes ≡ with_lane piece.connection lane' edge.lanes →
+    (hears : IsHeard hosting sources (hearing edge.server lane source before) (timed_bytes (lane.rest ++ piece.bytes) piece.moment) (hearing edge'.server lane' source' after)) → edge'.lanes ≡ with_lane piece.connection lane' edge.lanes →
     (left : List Draws) → PieceLeads hosting edge edge' piece (draws_for sources source hears.messages ++ left)
-leads_heard hosting sources edge edge' piece lane lane' source source' here is_open short hears lanes left journey reached =
+leads_heard hosting sources edge edge' piece lane lane' source source' before after here is_open short hears lanes left journey reached =
     let world = journey.world in
     let c = piece.connection in
     let at = shows_here edge.lanes world.connections c lane reached.shows here in
@@ -223,7 +248,7 @@ leads_heard hosting sources edge edge' piece lane lane' source source' here is_o
     let m = moment_after world.greatest piece.moment messages in
     let k' = heard k piece.bytes messages served.requests closes in
     let world' : World = record { connections = with_connection c k' world.connections; greatest = m; history = with_changes world.history m (changes_made served.requests); kept = world.kept } in
-    let came : AnsweredPiece = record { piece = piece; draws = draws_for sources source messages ++ left; mishaps = mishaps_in served.requests; closes = closes } in
+    let came : AnsweredPiece = record { piece = piece; draws = draws_for sources source messages ++ left; mishaps = mishaps_in served.requests; closes = closes; tellings = tellings_of served.requests } in
     let happens : Happens hosting journey.outset world (Came came) world' = (
       short,
       inl (record {
@@ -239,6 +264,7 @@ leads_heard hosting sources edge edge' piece lane lane' source source' here is_o
         left = left;
         draws = ap (λ draws. draws ++ left) served.draws;
         mishaps = refl;
+        tellings = refl;
         host = edge.server.host;
         comes = reached.server.hosts;
         after = edge'.server.host;
@@ -256,17 +282,19 @@ leads_heard hosting sources edge edge' piece lane lane' source source' here is_o
     record {
       mishaps = mishaps_in served.requests;
       closes = closes;
+      tellings = tellings_of served.requests;
       on = lead_on hosting edge edge' journey world' (Came came) reached happens served.fits (served.noted world.kept reached.notes)
           (rw lanes (shows_put edge.lanes world.connections c lane' k' reached.shows shown));
     }
 
 -- a piece was heard
-pub on_heard : {H S : Type 0} (hosting : Hosting H) (sources : Sources S) (edge edge' : SeenEdge H) (piece : Piece) (lane lane' : SeenLane) (source source' : S) →
+pub on_heard : {H S : Type 0} (hosting : Hosting H) (sources : Sources S) (edge edge' : SeenEdge H) (piece : Piece) (lane lane' : SeenLane) (source source' : S) (before after : Audience) →
     lane_at edge.lanes piece.connection ≡ Some lane → lane.phase ≡ Open → length piece.bytes ≤ 65536 →
-    IsHeard hosting sources (hearing edge.server lane source) (timed_bytes (lane.rest ++ piece.bytes) piece.moment) (hearing edge'.server lane' source') → edge'.lanes ≡ with_lane piece.connection lane' edge.lanes →
-    GivenWithMore hosting sources (supplied edge source) piece (supplied edge' source')
-on_heard hosting sources edge edge' piece lane lane' source source' here is_open short hears lanes =
-    gives hosting sources edge edge' piece source source' hears.messages
+    IsHeard hosting sources (hearing edge.server lane source before) (timed_bytes (lane.rest ++ piece.bytes) piece.moment) (hearing edge'.server lane' source' after) → edge'.lanes ≡ with_lane piece.connection lane' edge.lanes →
+    GivenWithMore hosting sources (supplied edge source before) piece (supplied edge' source' after)
+unfolding leads_heard
+on_heard hosting sources edge edge' piece lane lane' source source' before after here is_open short hears lanes =
+    gives hosting sources edge edge' piece source source' before after hears.messages
     (λ journey reached.
     let at = shows_here edge.lanes journey.world.connections piece.connection lane reached.shows here in
     let opened : at.0.phase ≡ Open = sym at.2.phase ∙ is_open in
@@ -278,7 +306,8 @@ on_heard hosting sources edge edge' piece lane lane' source source' here is_open
       rest = hears.read.rest;
       reads = messages_cut at.0.stream piece.bytes at.0.messages hears.messages lane.rest hears.read.rest (at.2.rest opened) hears.read.reads;
     }))
-    hears.enough (leads_heard hosting sources edge edge' piece lane lane' source source' here is_open short hears lanes) hears.source_is
+    hears.enough (leads_heard hosting sources edge edge' piece lane lane' source source' before after here is_open short hears lanes) hears.source_is
+    (λ journey reached. (hears.serves journey.outset journey.world.history journey.world.greatest reached.server).heard)
 
 -- DRAWS THAT ARE HANDED IN
 
@@ -289,9 +318,9 @@ list_draws [] (x ∷ messages) enough = absurd (omega (arith, enough))
 list_draws (d ∷ draws) (x ∷ messages) enough = ap (λ (ds : List Draws). d ∷ ds) (list_draws draws messages (omega (arith, enough)))
 
 -- what is given with a list of draws leads on with these
-pub list_leads : {H : Type 0} (hosting : Hosting H) (edge edge' : SeenEdge H) (piece : Piece) (draws left : List Draws) →
-    GivenWithMore hosting list.ghosts (supplied edge draws) piece (supplied edge' left) → PieceLeads hosting edge edge' piece draws
-list_leads hosting edge edge' piece draws left more journey reached =
+pub list_leads : {H : Type 0} (hosting : Hosting H) (edge edge' : SeenEdge H) (piece : Piece) (draws left : List Draws) (before after : Audience) →
+    GivenWithMore hosting list.ghosts (supplied edge draws before) piece (supplied edge' left after) → PieceLeads hosting edge edge' piece draws
+list_leads hosting edge edge' piece draws left before after more journey reached =
     let given = more.given in
     subst (λ (ds : List Draws). PieceGoesOn hosting edge' journey piece ds) (list_draws draws given.messages given.enough)
     (more.leads (drop (length given.messages) draws) journey reached)

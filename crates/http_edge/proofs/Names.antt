@@ -9,10 +9,10 @@ pub use Rattle.endpoints.specs.Server.{AreUnkept, NowNotes, IsStep}
 pub use Rattle.heads.specs.Message.{BeginsWithMessage}
 pub use Rattle.heads.specs.ReadingLaws.{messages_cut, nothing_has_none, reads_push, reads_next, reads_same}
 pub use Rattle.heads.specs.WaitingLaws.{front_whole, waiting-append}
-pub use Rattle.http_edge.specs.Answers.{Answerer, answerer, next_answerer, AnsweredRequest, changes_made, mishaps_in, replies_of, ends_of, IsOutcomeOfRequest, AreAnswered, AreAskedBy, draws_in}
+pub use Rattle.http_edge.specs.Answers.{Answerer, answerer, next_answerer, AnsweredRequest, changes_made, mishaps_in, tellings_of, replies_of, ends_of, IsOutcomeOfRequest, AreAnswered, AreAskedBy, draws_in}
 pub use Rattle.http_edge.specs.Edges.{SeenEdge}
 pub use Rattle.http_edge.specs.EdgesParts.{GivenWithMore, IsOpenRefusal, IsEndRefusal, IsBytesRefusal, MayHear}
-pub use Rattle.http_edge.specs.Heard.{AreMessagesRead, IsHeard, timed_bytes, hearing, IsHearingRefusal, AreMessagesServed, IsStillNone, before_messages, replying, AreFirst, first_requests}
+pub use Rattle.http_edge.specs.Heard.{AreMessagesRead, IsHeard, timed_bytes, hearing, IsHearingRefusal, AreMessagesServed, IsStillNone, before_messages, Said, said_so, replying, AreFirst, first_requests}
 pub use Rattle.http_edge.specs.Heard.{ServesMessages, drawn_for, HasRoom, SeenOutput, seen_output, lane_output, taken_from, with_reply, with_faulty}
 pub use Rattle.http_edge.specs.Lanes.{SeenLane, lane_at, output_in, ends_from, ShowsConnections, ShowsConnection, rest_in}
 pub use Rattle.http_edge.specs.LanesParts.{with_lane, without_lane, fresh_lane, IsHearing, IsLeftIn}

@@ -2,11 +2,16 @@
 use Rattle.std.proofs.Common.{◌≡◌, ℕ, List, [], ◌∷◌, ◌++◌, ◌+◌, false, length, length-append, map, append_assoc, append-nil, refl, ap, subst, ◌∙◌, sym, arith}
 use Rattle.http_edge.proofs.Names.{map-append, max, Hosting, Event, Change, event_at, with_changes, Draws, Asked, Written, in_writing, reply_bytes, says_with, request_outcome, SeenServer, Outset}
 use Rattle.http_edge.proofs.Names.{Before, FitsServer, AreNoted, IsStep, Message, Messages, asked_of_message, AnsweredRequest, answerer, IsOutcomeOfRequest, AreAnswered, AreAskedBy, changes_made, draws_in}
-use Rattle.http_edge.proofs.Names.{replies_of, ends_of, end_if, faulty_if, SeenOutput, lane_output, with_reply, with_faulty, AreMessagesServed, IsStillNone, IsHeard, IsHearingRefusal, timed_bytes, hearing, before_messages, replying, SeenLane, Sources, Memory}
+use Rattle.http_edge.proofs.Names.{replies_of, ends_of, end_if, faulty_if, SeenOutput, Said, said_so, tellings_of, lane_output, with_reply, with_faulty, AreMessagesServed, IsStillNone, IsHeard, IsHearingRefusal, timed_bytes, hearing, before_messages, replying, SeenLane, Sources, Memory}
 use Rattle.std.proofs.lemmas.List.Concat.{flat_map-append}
-use Rattle.std.specs.Prelude.{Option}
+use Rattle.std.specs.Prelude.{Option, is_some, nat_lt}
 use Rattle.answers.specs.Outcomes.{Outcome}
-use Rattle.endpoints.specs.Steps.{Steps}
+use Rattle.answers.specs.Setting.{Setting}
+use Rattle.endpoints.specs.Telling.{StepsTelling, request_told}
+use Rattle.telling.specs.Audience.{Audience, heard_by, heard_some}
+use Rattle.telling.specs.AudienceLaws.{heard_next, none_heard}
+use Rattle.telling.specs.declared.telling.Stepped.{Stepped}
+use Rattle.telling.specs.declared.told.Told.{Told}
 use Rattle.http_edge.proofs.Drawing.{suffices_none}
 
 -- changes after changes
@@ -54,28 +59,42 @@ asked_push messages message rs r same asked =
 draws_push : (draws : List Draws) (rs : List AnsweredRequest) (r : AnsweredRequest) → draws ≡ draws_in rs → draws ++ r.draws ∷ [] ≡ draws_in (rs ++ r ∷ [])
 draws_push draws rs r are = ap (λ (l : List Draws). l ++ r.draws ∷ []) are ∙ sym (map-append (λ (x : AnsweredRequest). x.draws) rs (r ∷ []))
 
+tellings_push : (rs : List AnsweredRequest) (r : AnsweredRequest) → tellings_of (rs ++ r ∷ []) ≡ tellings_of rs ++ r.told ∷ []
+tellings_push rs r = map-append (λ (x : AnsweredRequest). x.told) rs (r ∷ [])
+
+-- what is said once this is answered too
+abbrev pub said_then : Said → Stepped → Said
+said_then said stepped = said_so (with_reply said.output (reply_bytes stepped.reply)) (heard_some said.audience stepped.told)
+
 -- it answers it after the others
-served_more : {H : Type 0} (hosting : Hosting H) (before : Before H) (server server' : SeenServer H) (output out : SeenOutput) (g moment : ℕ) (messages : List Message) (draws : List Draws) (rs : List AnsweredRequest) (message : Message) (d : Draws) (reply : Written) (asked : Asked) →
+served_more : {H : Type 0} (hosting : Hosting H) (before : Before H) (server server' : SeenServer H) (first now : Said) (g moment : ℕ) (messages : List Message) (draws : List Draws) (rs : List AnsweredRequest) (message : Message) (d : Draws) (stepped : Stepped) (asked : Asked) →
     asked ≡ asked_of_message message → max g moment ≡ before.moment → AreAskedBy messages rs → draws ≡ draws_in rs →
-    AreAnswered hosting (answerer before.outset before.history before.server.host before.moment) rs server.host → out.bytes ≡ output.bytes ++ replies_of rs → out.ends ≡ output.ends ++ ends_of (length output.bytes) rs →
+    AreAnswered hosting (answerer before.outset before.history before.server.host before.moment) rs server.host → now.output.bytes ≡ first.output.bytes ++ replies_of rs → now.output.ends ≡ first.output.ends ++ ends_of (length first.output.bytes) rs →
+    now.audience ≡ heard_by first.audience (tellings_of rs) → is_some stepped.told ≡ nat_lt 0 now.audience.room →
     FitsServer hosting server before.outset (with_changes before.history before.moment (changes_made rs)) g →
     AreNoted before.server server before.history (with_changes before.history before.moment (changes_made rs)) →
-    Steps hosting server (record { asked = asked; moment = moment; draws = d }) reply server' →
-    AreMessagesServed hosting before output (record { messages = messages ++ message ∷ []; moment = moment; draws = draws ++ d ∷ [] }) (replying server' (with_reply out (reply_bytes reply)))
-served_more hosting before server server' output out g moment messages draws rs message d reply asked asks later all are answered written_is ends_are fits noted steps =
+    StepsTelling hosting server (record { asked = asked; moment = moment; draws = d }) stepped server' →
+    AreMessagesServed hosting before first (record { messages = messages ++ message ∷ []; moment = moment; draws = draws ++ d ∷ [] }) (replying server' (said_then now stepped))
+served_more hosting before server server' first now g moment messages draws rs message d stepped asked asks later all are answered written_is ends_are heard wanted fits noted steps =
+    let output = first.output in
+    let out = now.output in
+    let reply = stepped.reply in
     let m = before.moment in
     let h = with_changes before.history m (changes_made rs) in
     let step = steps before.outset h g fits in
-    let o : Outcome = request_outcome step.0 (record {
+    let setting : Setting = record {
       rules = before.outset.rules;
       history = h;
       host = says_with hosting server.host step.1;
       moment = m;
       draws = d;
-    }) asked in
-    let r : AnsweredRequest = record { asked = asked; draws = d; mishap = record { refused = step.0; fault = step.1 }; outcome = o } in
+    } in
+    let o : Outcome = request_outcome step.0 setting asked in
+    let t : Told = request_told step.0 (hosting.verdicts server.host) setting asked in
+    let tells = rw later at step.4 in
+    let r : AnsweredRequest = record { asked = asked; draws = d; mishap = record { refused = step.0; fault = step.1 }; outcome = o; told = t } in
     let done : IsStep hosting (record { server = server; outset = before.outset; history = h; moment = m }) o reply server' = rw later at step.3 in
-    let is : IsOutcomeOfRequest hosting (answerer before.outset h server.host m) r server'.host = record { fault = step.2; outcome_is = refl; changes = done.hosts } in
+    let is : IsOutcomeOfRequest hosting (answerer before.outset h server.host m) r server'.host = record { fault = step.2; outcome_is = refl; told_is = refl; changes = done.hosts } in
     let joined = changes_join before.history m (changes_made rs) o.changes ∙ ap (with_changes before.history m) (sym (changes_push rs r)) in
     record {
       requests = rs ++ r ∷ [];
@@ -92,21 +111,26 @@ served_more hosting before server server' output out g moment messages draws rs 
           let is : length out.bytes + length (reply_bytes reply) ≡ length output.bytes + length (replies_of rs) + size_of r = omega (arith, size, parts, same) in
           ap (λ x. x ++ (length out.bytes + length (reply_bytes reply)) ∷ []) ends_are ∙ append_assoc output.ends (ends_of (length output.bytes) rs) _
           ∙ ap (λ n. output.ends ++ (ends_of (length output.bytes) rs ++ n ∷ [])) is ∙ ap (λ x. output.ends ++ x) (sym (ends_push (length output.bytes) rs r)));
+      heard =
+          ap (λ a. heard_some a stepped.told) heard
+          ∙ heard_next first.audience (tellings_of rs) stepped.told t (wanted ∙ ap (λ (a : Audience). nat_lt 0 a.room) heard) tells
+          ∙ ap (heard_by first.audience) (sym (tellings_push rs r));
       fits = rw joined at done.fits;
       noted = λ kept notes. rw joined at (done.noted kept (noted kept notes));
     }
 
 -- no request is answered yet
-pub served_none : {H : Type 0} (hosting : Hosting H) (server : SeenServer H) (output : SeenOutput) (moment : ℕ) (outset : Outset H) (history : List Event) (m : ℕ) →
+pub served_none : {H : Type 0} (hosting : Hosting H) (server : SeenServer H) (said : Said) (moment : ℕ) (outset : Outset H) (history : List Event) (m : ℕ) →
     FitsServer hosting server outset history m →
-    AreMessagesServed hosting (record { server = server; outset = outset; history = history; moment = m }) output (record { messages = []; moment = moment; draws = [] }) (replying server output)
-served_none hosting server output moment outset history m fits = record {
+    AreMessagesServed hosting (record { server = server; outset = outset; history = history; moment = m }) said (record { messages = []; moment = moment; draws = [] }) (replying server said)
+served_none hosting server said moment outset history m fits = record {
   requests = [];
   asked = refl;
   draws = refl;
   answered = refl;
-  output_is = sym (append-nil output.bytes);
-  ends_are = sym (append-nil output.ends);
+  output_is = sym (append-nil said.output.bytes);
+  ends_are = sym (append-nil said.output.ends);
+  heard = sym (none_heard said.audience);
   fits = rw append-nil fits;
   noted = λ kept notes. rw append-nil notes;
 }
@@ -116,21 +140,23 @@ none_asked [] asked = refl
 none_asked (r ∷ rs) asked = absurd (cc)
 
 -- one more message, which asks this, is answered
-pub served_push : {H : Type 0} (hosting : Hosting H) (first server server' : SeenServer H) (output out : SeenOutput) (outset : Outset H) (history : List Event) (m moment : ℕ) (messages : List Message) (draws : List Draws) (message : Message) (d : Draws) (reply : Written) (asked : Asked) →
+pub served_push : {H : Type 0} (hosting : Hosting H) (first server server' : SeenServer H) (begun now : Said) (outset : Outset H) (history : List Event) (m moment : ℕ) (messages : List Message) (draws : List Draws) (message : Message) (d : Draws) (stepped : Stepped) (asked : Asked) →
     asked ≡ asked_of_message message →
-    AreMessagesServed hosting (before_messages first outset history m (record { messages = messages; moment = moment; draws = draws })) output (record { messages = messages; moment = moment; draws = draws }) (replying server out) →
-    Steps hosting server (record { asked = asked; moment = moment; draws = d }) reply server' →
-    AreMessagesServed hosting (before_messages first outset history m (record { messages = messages ++ message ∷ []; moment = moment; draws = draws ++ d ∷ [] })) output
-    (record { messages = messages ++ message ∷ []; moment = moment; draws = draws ++ d ∷ [] }) (replying server' (with_reply out (reply_bytes reply)))
-served_push hosting first server server' output out outset history m moment [] draws message d reply asked asks served steps =
+    AreMessagesServed hosting (before_messages first outset history m (record { messages = messages; moment = moment; draws = draws })) begun (record { messages = messages; moment = moment; draws = draws }) (replying server now) →
+    is_some stepped.told ≡ nat_lt 0 now.audience.room →
+    StepsTelling hosting server (record { asked = asked; moment = moment; draws = d }) stepped server' →
+    AreMessagesServed hosting (before_messages first outset history m (record { messages = messages ++ message ∷ []; moment = moment; draws = draws ++ d ∷ [] })) begun
+    (record { messages = messages ++ message ∷ []; moment = moment; draws = draws ++ d ∷ [] }) (replying server' (said_then now stepped))
+served_push hosting first server server' begun now outset history m moment [] draws message d stepped asked asks served wanted steps =
     let none = none_asked served.requests served.asked in
-    let said : out.bytes ≡ output.bytes ++ [] = served.output_is ∙ ap (λ rs. output.bytes ++ replies_of rs) none in
-    let ends : out.ends ≡ output.ends ++ [] = served.ends_are ∙ ap (λ rs. output.ends ++ ends_of (length output.bytes) rs) none in
-    served_more hosting (record { server = first; outset = outset; history = history; moment = max m moment }) server server' output out m moment [] draws [] message d reply asked asks refl refl
-    (served.draws ∙ ap draws_in none) (rw none at served.answered) said ends (rw none at served.fits) (rw none at served.noted) steps
-served_push hosting first server server' output out outset history m moment (x ∷ messages) draws message d reply asked asks served steps =
-    served_more hosting (record { server = first; outset = outset; history = history; moment = max m moment }) server server' output out (max m moment) moment (x ∷ messages) draws served.requests message d reply asked asks (omega arith)
-    served.asked served.draws served.answered served.output_is served.ends_are served.fits served.noted steps
+    let said : now.output.bytes ≡ begun.output.bytes ++ [] = served.output_is ∙ ap (λ rs. begun.output.bytes ++ replies_of rs) none in
+    let ends : now.output.ends ≡ begun.output.ends ++ [] = served.ends_are ∙ ap (λ rs. begun.output.ends ++ ends_of (length begun.output.bytes) rs) none in
+    let heard : now.audience ≡ heard_by begun.audience [] = served.heard ∙ ap (λ rs. heard_by begun.audience (tellings_of rs)) none in
+    served_more hosting (record { server = first; outset = outset; history = history; moment = max m moment }) server server' begun now m moment [] draws [] message d stepped asked asks refl refl
+    (served.draws ∙ ap draws_in none) (rw none at served.answered) said ends heard wanted (rw none at served.fits) (rw none at served.noted) steps
+served_push hosting first server server' begun now outset history m moment (x ∷ messages) draws message d stepped asked asks served wanted steps =
+    served_more hosting (record { server = first; outset = outset; history = history; moment = max m moment }) server server' begun now (max m moment) moment (x ∷ messages) draws served.requests message d stepped asked asks (omega arith)
+    served.asked served.draws served.answered served.output_is served.ends_are served.heard wanted served.fits served.noted steps
 
 abbrev of_parts : List ℕ → List ℕ → SeenOutput
 of_parts bytes ends = record { bytes = bytes; ends = ends }
@@ -140,16 +166,16 @@ faulty_none : (output : SeenOutput) → output ≡ with_faulty output false
 faulty_none output = ap (λ bytes. of_parts bytes output.ends) (sym (append-nil output.bytes)) ∙ ap (of_parts (output.bytes ++ [])) (sym (append-nil output.ends))
 
 -- bytes in which there is no message are heard
-pub heard_none : {H S : Type 0} (hosting : Hosting H) (sources : Sources S) (server : SeenServer H) (source : S) (lane lane' : SeenLane) (bytes : List ℕ) (moment : ℕ) → IsStillNone bytes →
+pub heard_none : {H S : Type 0} (hosting : Hosting H) (sources : Sources S) (server : SeenServer H) (source : S) (audience : Audience) (lane lane' : SeenLane) (bytes : List ℕ) (moment : ℕ) → IsStillNone bytes →
     lane'.rest ≡ bytes → lane_output lane' ≡ lane_output lane → lane'.number ≡ lane.number → lane'.phase ≡ lane.phase →
-    IsHeard hosting sources (hearing server lane source) (timed_bytes bytes moment) (hearing server lane' source)
-heard_none hosting sources server source lane lane' bytes moment none same output number phase = record {
+    IsHeard hosting sources (hearing server lane source audience) (timed_bytes bytes moment) (hearing server lane' source audience)
+heard_none hosting sources server source audience lane lane' bytes moment none same output number phase = record {
   messages = [];
   closes = false;
   read = record { rest = bytes; reads = record { reads = refl; none = none.none }; few = omega arith; kept_is = same; may_tell = λ e. absurd (cc); must_tell = λ must. absurd (none.untold must) };
   enough = suffices_none (sources.supply source);
   middle = lane_output lane;
-  serves = λ outset history m fits. served_none hosting server (lane_output lane) moment outset history m fits;
+  serves = λ outset history m fits. served_none hosting server (said_so (lane_output lane) audience) moment outset history m fits;
   output_is = output ∙ faulty_none (lane_output lane);
   number_is = number;
   phase_is = phase;

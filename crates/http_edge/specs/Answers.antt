@@ -6,8 +6,11 @@ use Rattle.clients.specs.RegistryRecord.{RegistryRecord}
 use Rattle.hook_host.specs.declared.fault.HookFault.{HookFault}
 use Rattle.consent.specs.History.{Event}
 use Rattle.answers.specs.Outcomes.{Outcome}
+use Rattle.answers.specs.Setting.{Setting}
 use Rattle.endpoints.specs.Hosts.{HostRun, IsHostFault, says_with}
 use Rattle.endpoints.specs.Replies.{request_outcome, hook_change}
+use Rattle.endpoints.specs.Telling.{request_told}
+use Rattle.telling.specs.declared.told.Told.{Told}
 
 -- what may go wrong in the answer to a request: whether memory was refused for it at its endpoint, and the fault, if any, that the host had
 -- for the change that it asks for
@@ -15,12 +18,14 @@ pub record Mishap : Type 0 where
   pub refused : Bool
   pub fault : Option HookFault
 
--- a request that was answered: what it asks, the draws of what its reply may give, what was free, and its outcome
+-- a request that was answered: what it asks, the draws of what its reply may give, what was free, its outcome, and what is
+-- told of it
 pub record AnsweredRequest : Type 0 where
   pub asked : Asked
   pub draws : Draws
   pub mishap : Mishap
   pub outcome : Outcome
+  pub told : Told
 
 -- what answers requests: the rules, what has happened under them, the host that came of this, and the moment
 pub record Answerer (H : Type 0) : Type 0 where
@@ -36,17 +41,22 @@ answerer outset history host m = record { rules = outset.rules; history = histor
 abbrev pub next_answerer : {H : Type 0} → Answerer H → List Change → H → Answerer H
 next_answerer by changes after = record by { history = with_changes by.history by.moment changes; host = after }
 
+-- what the request is decided by
+abbrev pub setting_by : {H : Type 0} → Hosting H → Answerer H → AnsweredRequest → Setting
+setting_by hosting by request = record {
+  rules = by.rules;
+  history = by.history;
+  host = says_with hosting by.host request.mishap.fault;
+  moment = by.moment;
+  draws = request.draws;
+}
+
 -- The request has its outcome by what the host says, and the outcome's changes leave the other host: where it cannot make a
 -- hook's change, the outcome has none.
 pub record IsOutcomeOfRequest {H : Type 0} (hosting : Hosting H) (by : Answerer H) (request : AnsweredRequest) (after : H) : Type 0 where
   pub fault : IsHostFault hosting by.host (hook_change request.asked) request.mishap.fault
-  pub outcome_is : request.outcome ≡ request_outcome request.mishap.refused (record {
-    rules = by.rules;
-    history = by.history;
-    host = says_with hosting by.host request.mishap.fault;
-    moment = by.moment;
-    draws = request.draws;
-  }) request.asked
+  pub outcome_is : request.outcome ≡ request_outcome request.mishap.refused (setting_by hosting by request) request.asked
+  pub told_is : request.told ≡ request_told request.mishap.refused (hosting.verdicts by.host) (setting_by hosting by request) request.asked
   pub changes : HostRun hosting by.host (with_changes [] by.moment request.outcome.changes) after
 
 -- the requests have their outcomes, each by the history and the host that the one before left, and the last leaves the other host
@@ -67,6 +77,10 @@ draws_in requests = map (λ r. r.draws) requests
 
 abbrev pub mishaps_in : List AnsweredRequest → List Mishap
 mishaps_in requests = map (λ r. r.mishap) requests
+
+-- what is told of them, in their order
+abbrev pub tellings_of : List AnsweredRequest → List Told
+tellings_of requests = map (λ r. r.told) requests
 
 -- all that the requests change
 abbrev pub changes_made : List AnsweredRequest → List Change

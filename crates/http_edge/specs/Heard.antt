@@ -6,12 +6,13 @@ use Rattle.consent.specs.History.{Event}
 use Rattle.messages.specs.Small.{reply_limit}
 use Rattle.heads.specs.declared.scan.Scan.{Scan}
 use Rattle.http_edge.specs.Limits.{request_limit}
-use Rattle.http_edge.specs.Answers.{AnsweredRequest, AreAnswered, answerer, AreAskedBy, draws_in, changes_made, replies_of, ends_of}
+use Rattle.http_edge.specs.Answers.{AnsweredRequest, AreAnswered, answerer, AreAskedBy, draws_in, changes_made, replies_of, ends_of, tellings_of}
 use Rattle.http_edge.specs.Schedule.{faulty_if, end_if, moment_after}
 use Rattle.http_edge.specs.Supply.{Suffices, FallsShort}
 use Rattle.http_edge.specs.Sources.{draws_for, draws_behind}
 use Rattle.http_edge.specs.Lanes.{SeenLane, ends_from}
 use Rattle.http_edge.specs.declared.output.Output.{Output}
+use Rattle.telling.specs.Audience.{Audience, heard_by}
 
 -- no message yet, and no faulty head that has to be told of
 pub record IsStillNone (bytes : List ℕ) : Type 0 where
@@ -58,13 +59,21 @@ with_reply output reply = record { bytes = output.bytes ++ reply; ends = output.
 abbrev pub with_faulty : SeenOutput → Bool → SeenOutput
 with_faulty output closes = record { bytes = output.bytes ++ faulty_if closes; ends = output.ends ++ end_if closes (length (output.bytes ++ faulty_if closes)) }
 
--- a server, and the output behind which it writes its replies
+-- the output behind which replies are written, and who is told of what is answered
+pub record Said : Type 0 where
+  pub output : SeenOutput
+  pub audience : Audience
+
+abbrev pub said_so : SeenOutput → Audience → Said
+said_so output audience = record { output = output; audience = audience }
+
+-- a server, and what was said so far
 pub record Replying (H : Type 0) : Type 0 where
   pub server : SeenServer H
-  pub output : SeenOutput
+  pub said : Said
 
-abbrev pub replying : {H : Type 0} → SeenServer H → SeenOutput → Replying H
-replying server output = record { server = server; output = output }
+abbrev pub replying : {H : Type 0} → SeenServer H → Said → Replying H
+replying server said = record { server = server; said = said }
 
 -- messages that came at a moment, with the draws of their requests
 pub record Incoming : Type 0 where
@@ -77,14 +86,15 @@ abbrev pub drawn_for : {S : Type 0} → Sources S → S → List Message → ℕ
 drawn_for sources source messages moment = record { messages = messages; moment = moment; draws = draws_for sources source messages }
 
 -- the messages have outcomes, from the host before to the new one, whose replies were written behind the output, the server
--- fits what they changed, and just that is noted
-pub record AreMessagesServed {H : Type 0} (hosting : Hosting H) (before : Before H) (output : SeenOutput) (incoming : Incoming) (new : Replying H) : Type 0 where
+-- fits what they changed, just that is noted, and so much is told
+pub record AreMessagesServed {H : Type 0} (hosting : Hosting H) (before : Before H) (said : Said) (incoming : Incoming) (new : Replying H) : Type 0 where
   pub requests : List AnsweredRequest
   pub asked : AreAskedBy incoming.messages requests
   pub draws : incoming.draws ≡ draws_in requests
   pub answered : AreAnswered hosting (answerer before.outset before.history before.server.host before.moment) requests new.server.host
-  pub output_is : new.output.bytes ≡ output.bytes ++ replies_of requests
-  pub ends_are : new.output.ends ≡ output.ends ++ ends_of (length output.bytes) requests
+  pub output_is : new.said.output.bytes ≡ said.output.bytes ++ replies_of requests
+  pub ends_are : new.said.output.ends ≡ said.output.ends ++ ends_of (length said.output.bytes) requests
+  pub heard : new.said.audience ≡ heard_by said.audience (tellings_of requests)
   pub fits : FitsServer hosting new.server before.outset (with_changes before.history before.moment (changes_made requests)) before.moment
   pub noted : AreNoted before.server new.server before.history (with_changes before.history before.moment (changes_made requests))
 
@@ -97,15 +107,15 @@ before_messages server outset history m incoming =
 abbrev pub ServesMessages : {H : Type 0} → Hosting H → Replying H → Incoming → Replying H → Type 0
 ServesMessages hosting old incoming new =
     (outset : Outset _) (history : List Event) (m : ℕ) → FitsServer hosting old.server outset history m →
-    AreMessagesServed hosting (before_messages old.server outset history m incoming) old.output incoming new
+    AreMessagesServed hosting (before_messages old.server outset history m incoming) old.said incoming new
 
--- what answers requests: a server with its output, and what they have their draws from
+-- what answers requests: a server with what was said so far, and what they have their draws from
 pub record Answering (H S : Type 0) : Type 0 where
   pub replying : Replying H
   pub source : S
 
-abbrev pub answering : {H S : Type 0} → SeenServer H → SeenOutput → S → Answering H S
-answering server output source = record { replying = replying server output; source = source }
+abbrev pub answering : {H S : Type 0} → SeenServer H → Said → S → Answering H S
+answering server said source = record { replying = replying server said; source = source }
 
 -- the first requests of bytes, so many, which came at a moment
 pub record FirstRequests : Type 0 where
@@ -138,14 +148,15 @@ pub record AreMessagesRead (bytes kept : List ℕ) (messages : List Message) (cl
   pub may_tell : closes ≡ true → IsHopeless rest × MayTell rest
   pub must_tell : MustTell rest → closes ≡ true
 
--- what hears bytes: a server, the lane on which they come, and what their requests have their draws from
+-- what hears bytes: a server, the lane on which they come, what their requests have their draws from, and who is told of them
 pub record Hearing (H S : Type 0) : Type 0 where
   pub server : SeenServer H
   pub lane : SeenLane
   pub source : S
+  pub audience : Audience
 
-abbrev pub hearing : {H S : Type 0} → SeenServer H → SeenLane → S → Hearing H S
-hearing server lane source = record { server = server; lane = lane; source = source }
+abbrev pub hearing : {H S : Type 0} → SeenServer H → SeenLane → S → Audience → Hearing H S
+hearing server lane source audience = record { server = server; lane = lane; source = source; audience = audience }
 
 -- bytes that came at a moment
 pub record TimedBytes : Type 0 where
@@ -162,8 +173,8 @@ pub record IsHeard {H S : Type 0} (hosting : Hosting H) (sources : Sources S) (o
   pub read : AreMessagesRead came.bytes new.lane.rest messages closes
   pub enough : Suffices (sources.supply old.source) (length messages)
   pub middle : SeenOutput
-  pub serves : ServesMessages hosting (replying old.server (lane_output old.lane)) (drawn_for sources old.source messages came.moment)
-      (replying new.server middle)
+  pub serves : ServesMessages hosting (replying old.server (said_so (lane_output old.lane) old.audience))
+      (drawn_for sources old.source messages came.moment) (replying new.server (said_so middle new.audience))
   pub output_is : lane_output new.lane ≡ with_faulty middle closes
   pub number_is : new.lane.number ≡ old.lane.number
   pub phase_is : new.lane.phase ≡ (if closes then Closing else old.lane.phase)

@@ -7,6 +7,7 @@ use Rattle.http_edge.specs.Schedule.{World, Connection, Piece, Happening, Came, 
 use Rattle.http_edge.specs.Lanes.{ShowsConnections}
 use Rattle.http_edge.specs.Edges.{SeenEdge}
 use Rattle.http_edge.specs.declared.lane.Phase.TheVariants.{Open}
+use Rattle.telling.specs.declared.told.Told.{Told}
 
 -- what has led to a world: what the server began with, all that has happened since, and the world
 pub record Journey (H : Type 0) : Type 0 where
@@ -66,7 +67,8 @@ HappeningLeads hosting old new e = (journey : Journey _) → Reached hosting old
 pub record PieceGoesOn {H : Type 0} (hosting : Hosting H) (edge : SeenEdge H) (journey : Journey H) (piece : Piece) (draws : List Draws) : Type 0 where
   pub mishaps : List Mishap
   pub closes : Bool
-  pub on : GoesOn hosting edge journey (Came (record { piece = piece; draws = draws; mishaps = mishaps; closes = closes }))
+  pub tellings : List Told
+  pub on : GoesOn hosting edge journey (Came (record { piece = piece; draws = draws; mishaps = mishaps; closes = closes; tellings = tellings }))
 
 -- wherever the one edge was reached, the piece leads to the other, with some mishaps
 abbrev pub PieceLeads : {H : Type 0} → Hosting H → SeenEdge H → SeenEdge H → Piece → List Draws → Type 0

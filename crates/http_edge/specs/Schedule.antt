@@ -5,8 +5,9 @@ use Rattle.clients.specs.RegistryRecord.{RegistryRecord}
 use Rattle.consent.specs.History.{Event}
 use Rattle.http_edge.specs.Limits.{connection_limit, piece_limit, request_limit}
 use Rattle.endpoints.specs.Hosts.{HostRun}
-use Rattle.http_edge.specs.Answers.{Mishap, AnsweredRequest, AreAnswered, answerer, AreAskedBy, draws_in, mishaps_in, changes_made, replies_of, ends_of}
+use Rattle.http_edge.specs.Answers.{Mishap, AnsweredRequest, AreAnswered, answerer, AreAskedBy, draws_in, mishaps_in, changes_made, replies_of, ends_of, tellings_of}
 use Rattle.http_edge.specs.declared.lane.Phase.TheVariants.{Open}
+use Rattle.telling.specs.declared.told.Told.{Told}
 
 -- a piece of a connection's stream, which came at a moment
 pub record Piece : Type 0 where
@@ -18,12 +19,13 @@ abbrev pub piece_of : ℕ → List ℕ → ℕ → Piece
 piece_of c bytes moment = record { connection = c; bytes = bytes; moment = moment }
 
 -- a piece that was answered: with draws for the requests that it completed, and with what was free, which is a mishap for each
--- of these, and whether the 400 of a faulty head was given
+-- of these, whether the 400 of a faulty head was given, and what is told of them
 pub record AnsweredPiece : Type 0 where
   pub piece : Piece
   pub draws : List Draws
   pub mishaps : List Mishap
   pub closes : Bool
+  pub tellings : List Told
 
 -- an accepted event
 pub data Happening : Type 0 where
@@ -158,6 +160,7 @@ pub record PieceComes {H : Type 0} (hosting : Hosting H) (outset : Outset H) (ol
   pub left : List Draws
   pub draws : came.draws ≡ draws_in requests ++ left
   pub mishaps : came.mishaps ≡ mishaps_in requests
+  pub tellings : came.tellings ≡ tellings_of requests
   -- the host with which they begin, and the one that they leave
   pub host : H
   pub comes : HostRun hosting outset.first old.history host
@@ -184,6 +187,7 @@ pub record PiecePasses (old : World) (came : AnsweredPiece) (new : World) : Type
   pub here : connection_at old.connections came.piece.connection ≡ Some before
   pub is_closing : before.phase ≡ Closing
   pub no_mishaps : came.mishaps ≡ []
+  pub none_told : came.tellings ≡ []
   pub no_more : came.closes ≡ false
   pub same : new ≡ old
 

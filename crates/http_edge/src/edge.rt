@@ -15,6 +15,7 @@ ghost use Rattle.http_edge.specs.Reached.{BeginsOver, ResumesOver, InEach, Happe
 ghost use Rattle.http_edge.specs.Pieces.{PieceGiven, RefusesPiece, supplied};
 ghost use Rattle.http_edge.specs.Events.{EventLeads};
 ghost use Rattle.http_edge.specs.Refusals.{RefusesEvent};
+ghost use Rattle.telling.specs.Audience.{nobody};
 
 use crate::connection::ConnectionNo;
 use crate::draw_list::DrawList;
@@ -31,6 +32,7 @@ use endpoints::{Moment, Server};
 use hook_host::HookHost;
 use std::alloc::{AllocError, Global};
 use std::marker::Model;
+use telling::Tellings;
 
 /// A server, and the connections over which bytes come to it and go from it.
 pub struct Edge<H> {
@@ -208,6 +210,13 @@ impl<H: HookHost> Edge<H> {
         &self.server
     }
 
+    /// Who is told of nothing.
+    pub fn nobody(&self) -> Tellings
+        ensures { result ≡ nobody }
+    {
+        Tellings::unwanted(self.alloc)
+    }
+
     /// The connections, in the order of their opening.
     pub fn lanes(&self) -> &[Lane]
         ensures { result.now ≡ self.now.lanes }
@@ -293,12 +302,14 @@ impl<H: HookHost> Edge<H> {
         piece: &[u8],
         moment: Moment,
         source: &mut S,
+        tellings: &mut Tellings,
     ) -> Result<(), EdgeFault>
-        ensures given { OnOk result (GivenWithMore H.HookHost S.DrawSource (supplied self.old source.old)
-            (piece_of c piece.now moment) (supplied self.new source.new)) }
+        ensures given { OnOk result (GivenWithMore H.HookHost S.DrawSource (supplied self.old source.old tellings.old)
+            (piece_of c piece.now moment) (supplied self.new source.new tellings.new)) }
         ensures refused { IfErr result (λ fault. IsBytesRefusal fault self.old.lanes c piece.now (S.supply source.old)) }
         ensures err { OnErr result (self.new ≡ self.old) }
         ensures undrawn { OnErr result (source.new ≡ source.old) }
+        ensures nothing_told { OnErr result (tellings.new ≡ tellings.old) }
     {
         let Some(i) = place_of(&self.lanes, c) else {
             return Err(EdgeFault::NotOpen);
@@ -319,6 +330,7 @@ impl<H: HookHost> Edge<H> {
             piece,
             moment,
             source,
+            tellings,
         ) {
             return Err(fault);
         }
@@ -342,22 +354,25 @@ impl<H: HookHost> Edge<H> {
     }
 
     /// A piece of a connection's stream came at a moment. Each request that it completes has the next draws of the source, and
-    /// the source stands right behind them. A refused piece changes nothing, and takes no draws.
+    /// the source stands right behind them. What is told of them, in their order, is heard. A refused piece changes nothing,
+    /// takes no draws and tells of nothing.
     pub fn hear<S: DrawSource>(
         &mut self,
         c: ConnectionNo,
         piece: &[u8],
         moment: Moment,
         source: &mut S,
+        tellings: &mut Tellings,
     ) -> Result<(), EdgeFault>
-        ensures given { OnOk result (PieceGiven H.HookHost S.DrawSource (supplied self.old source.old)
-            (piece_of c piece.now moment) (supplied self.new source.new)) }
+        ensures given { OnOk result (PieceGiven H.HookHost S.DrawSource (supplied self.old source.old tellings.old)
+            (piece_of c piece.now moment) (supplied self.new source.new tellings.new)) }
         // In the order NotOpen, PieceTooLong, TooManyRequests, DrawsShort, Memory.
         ensures refused { IfErr result (RefusesPiece H.HookHost self.old (piece_of c piece.now moment) (S.supply source.old)) }
         ensures err { OnErr result (self.new ≡ self.old) }
         ensures undrawn { OnErr result (source.new ≡ source.old) }
+        ensures nothing_told { OnErr result (tellings.new ≡ tellings.old) }
     {
-        self.hear_piece(c, piece, moment, source)
+        self.hear_piece(c, piece, moment, source, tellings)
     }
 
     /// An event happens, or is refused and changes nothing.
@@ -375,7 +390,16 @@ impl<H: HookHost> Edge<H> {
                 piece,
                 moment,
                 draws,
-            } => self.hear_piece(connection, piece, moment, &mut DrawList::new(draws)),
+            } => {
+                let mut nobody = self.nobody();
+                self.hear_piece(
+                    connection,
+                    piece,
+                    moment,
+                    &mut DrawList::new(draws),
+                    &mut nobody,
+                )
+            }
             Event::End(c) => self.end(c),
         }
     }

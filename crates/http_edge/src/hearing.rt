@@ -21,6 +21,7 @@ use endpoints::{Moment, Server};
 use heads::{Scan, read_front, scan_behind};
 use hook_host::HookHost;
 use std::alloc::AllocError;
+use telling::Tellings;
 
 // So many bytes has the 400 of a faulty head.
 const FAULTY_SIZE: usize = 66;
@@ -95,13 +96,15 @@ fn answer_bytes<H: HookHost, S: DrawSource>(
     lane: &mut Lane,
     moment: Moment,
     source: &mut S,
+    tellings: &mut Tellings,
 ) -> Result<(), EdgeFault>
-    ensures heard { OnOk result (IsHeard H.HookHost S.DrawSource (hearing server.old lane.old source.old)
-        (timed_bytes bytes.now moment) (hearing server.new lane.new source.new)) }
+    ensures heard { OnOk result (IsHeard H.HookHost S.DrawSource (hearing server.old lane.old source.old tellings.old)
+        (timed_bytes bytes.now moment) (hearing server.new lane.new source.new tellings.new)) }
     ensures refused { IfErr result (λ fault. IsHearingRefusal fault bytes.now (S.supply source.old)) }
     ensures server_kept { OnErr result (server.new ≡ server.old) }
     ensures lane_kept { OnErr result (lane.new ≡ lane.old) }
     ensures source_kept { OnErr result (source.new ≡ source.old) }
+    ensures nothing_told { OnErr result (tellings.new ≡ tellings.old) }
 {
     let first = read_front(bytes);
     let scan = scan_behind(bytes, first);
@@ -119,6 +122,7 @@ fn answer_bytes<H: HookHost, S: DrawSource>(
         moment,
         source,
         &mut lane.output,
+        tellings,
     );
     tell(&mut lane.output, scan.faulty);
     lane.output.give_back();
@@ -135,16 +139,18 @@ pub(crate) fn hear<H: HookHost, S: DrawSource>(
     piece: &[u8],
     moment: Moment,
     source: &mut S,
+    tellings: &mut Tellings,
 ) -> Result<(), EdgeFault>
     requires short { length piece.now ≤ piece_limit }
     requires empty { vec_len work.old ≡ 0 }
     requires room { room_to_hear ≤ vec_capacity work.old }
-    ensures heard { OnOk result (IsHeard H.HookHost S.DrawSource (hearing server.old lane.old source.old)
-        (timed_bytes (lane.old.rest ++ piece.now) moment) (hearing server.new lane.new source.new)) }
+    ensures heard { OnOk result (IsHeard H.HookHost S.DrawSource (hearing server.old lane.old source.old tellings.old)
+        (timed_bytes (lane.old.rest ++ piece.now) moment) (hearing server.new lane.new source.new tellings.new)) }
     ensures refused { IfErr result (λ fault. IsHearingRefusal fault (lane.old.rest ++ piece.now) (S.supply source.old)) }
     ensures server_kept { OnErr result (server.new ≡ server.old) }
     ensures lane_kept { OnErr result (lane.new ≡ lane.old) }
     ensures source_kept { OnErr result (source.new ≡ source.old) }
+    ensures nothing_told { OnErr result (tellings.new ≡ tellings.old) }
     ensures empty { vec_len work.new ≡ 0 }
     ensures room { vec_capacity work.old ≤ vec_capacity work.new }
 {
@@ -155,11 +161,11 @@ pub(crate) fn hear<H: HookHost, S: DrawSource>(
         return Ok(());
     }
     if lane.rest.is_empty() {
-        return answer_bytes(server, piece, lane, moment, source);
+        return answer_bytes(server, piece, lane, moment, source, tellings);
     }
     put(work, lane.rest.as_slice());
     put(work, piece);
-    let answer = answer_bytes(server, work.as_slice(), lane, moment, source);
+    let answer = answer_bytes(server, work.as_slice(), lane, moment, source, tellings);
     work.clear();
     answer
 }

@@ -8,6 +8,7 @@ use Rattle.http_edge.specs.Edges.{SeenEdge, output_of}
 use Rattle.http_edge.specs.Refusals.{IsOpeningRefusal, IsEndingRefusal}
 use Rattle.http_edge.specs.Reached.{Journey, Reached, HappeningLeads, is_closing, led_on}
 use Rattle.http_edge.specs.Pieces.{WhereReached, PieceGiven, RefusesPiece, supplied}
+use Rattle.telling.specs.Audience.{Audience, nobody}
 use Rattle.serving.specs.contracts.piece_draws.PieceDrawsDrawSource.TheImpl as piece_sources
 use Rattle.serving.specs.declared.piece_draws.PieceDraws.{PieceDraws}
 use Rattle.serving.specs.PieceDraws.{piece_draws, draws_in_piece, behind_piece}
@@ -105,10 +106,10 @@ pub data ServingStep {H S C : Type 0} (t : StreamService H S) (tells : C → Opt
       WhereReached t.hosting e (λ connections. IsOpeningRefusal fault connections t.connection) →
       ServingStep t tells (serving_scene Coming e s k g) (serving_scene (Left (Some (Fault.Refused fault))) e s k g)
   -- a piece was read, and given with its draws at the moment that the clock told
-  hears : {e e' : SeenEdge H} {s s' : S} {k k' : C} {g : ChaCha} {left : PieceDraws} (n : ℕ) (piece : List ℕ) (moment : ℕ) → n < pieces_limit →
+  hears : {e e' : SeenEdge H} {s s' : S} {k k' : C} {g : ChaCha} {left : PieceDraws} {told : Audience} (n : ℕ) (piece : List ℕ) (moment : ℕ) → n < pieces_limit →
       IsAttentive t.hosting e t.connection →
       0 < length piece → length piece ≤ stream_piece_limit → t.does s (Received piece) s' → tells k (Some moment) k' →
-      PieceGiven t.hosting piece_sources.ghosts (supplied e (piece_draws g)) (piece_of t.connection piece moment) (supplied e' left) →
+      PieceGiven t.hosting piece_sources.ghosts (supplied e (piece_draws g) nobody) (piece_of t.connection piece moment) (supplied e' left told) →
       ServingStep t tells (serving_scene (Reading n) e s k g) (serving_scene (Reading (n + 1)) e' s' k' (behind_piece g))
   refuses : {e : SeenEdge H} {s s' : S} {k k' : C} {g : ChaCha} (n : ℕ) (piece : List ℕ) (moment : ℕ) (fault : EdgeFault) → n < pieces_limit →
       IsAttentive t.hosting e t.connection →

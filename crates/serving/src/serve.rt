@@ -50,7 +50,8 @@ fn hear<H: HookHost, S: Stream, C: Clock>(
     let Some(moment) = clock.now() else {
         return Err(ServeFault::Clock);
     };
-    if let Err(fault) = edge.hear(c, &buffer[..count], moment, &mut draws) {
+    let mut nobody = edge.nobody();
+    if let Err(fault) = edge.hear(c, &buffer[..count], moment, &mut draws, &mut nobody) {
         return Err(ServeFault::Refused(fault));
     }
     Ok(Heard::Piece)

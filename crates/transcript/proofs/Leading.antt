@@ -5,6 +5,7 @@ use Rattle.http_edge.specs.Answers.{Mishap}
 use Rattle.http_edge.specs.Reached.{GoesOn, Journey}
 use Rattle.transcript.proofs.Names.{take_all, Hosting, Happening, happening, Reached, SeenEdge, Statement, Opens, Brings, Ends, LineStandsFor, StandFor, StatementLeads}
 use Rattle.transcript.proofs.Names.{LineLeads, LineFails, RunsLines, LinesFail, ReplayFault}
+use Rattle.telling.specs.declared.told.Told.{Told}
 use Rattle.transcript.specs.Faults.{IsLineFault}
 
 abbrev pub texts : List (Bor (List ℕ)) → List (List ℕ)
@@ -31,22 +32,22 @@ stand_on _ _ line e h one = absurd h
 
 -- what a statement leads to
 leads_on : {H : Type 0} (hosting : Hosting H) (middle new : SeenEdge H) (journey : Journey H) (statement : Statement) → StatementLeads hosting middle new statement → Reached hosting middle journey
-    → (mishaps : List Mishap) × (closes : Bool) × GoesOn hosting new journey (happening statement mishaps closes)
-leads_on hosting middle new journey (Opens c) leads reached = ([], false, leads journey reached)
-leads_on hosting middle new journey (Brings c moment draws piece) leads reached = let on = leads journey reached in (on.mishaps, on.closes, on.on)
-leads_on hosting middle new journey (Ends c) leads reached = ([], false, leads journey reached)
+    → (mishaps : List Mishap) × (closes : Bool) × (tellings : List Told) × GoesOn hosting new journey (happening statement mishaps closes tellings)
+leads_on hosting middle new journey (Opens c) leads reached = ([], false, [], leads journey reached)
+leads_on hosting middle new journey (Brings c moment draws piece) leads reached = let on = leads journey reached in (on.mishaps, on.closes, on.tellings, on.on)
+leads_on hosting middle new journey (Ends c) leads reached = ([], false, [], leads journey reached)
 
 pub run_on : {H : Type 0} (hosting : Hosting H) (old middle new : SeenEdge H) (lines : List (List ℕ)) (line : List ℕ)
     → RunsLines hosting old middle lines → LineLeads hosting middle line new → RunsLines hosting old new (lines ++ line ∷ [])
 run_on hosting old middle new lines line before step = λ outset reached.
     let run = before outset reached in
     let on = leads_on hosting middle new (record { outset = outset; schedule = run.schedule; world = run.world }) step.statement step.leads run.reached in
-    let e = happening step.statement on.0 on.1 in
+    let e = happening step.statement on.0 on.1 on.2 in
     record {
       schedule = run.schedule ++ e ∷ [];
-      stand_for = stand_on lines run.schedule line e run.stand_for (record { statement = step.statement; states = step.states; mishaps = on.0; closes = on.1; event_is = refl });
-      world = on.2.world;
-      reached = on.2.reached;
+      stand_for = stand_on lines run.schedule line e run.stand_for (record { statement = step.statement; states = step.states; mishaps = on.0; closes = on.1; tellings = on.2; event_is = refl });
+      world = on.3.world;
+      reached = on.3.reached;
     }
 
 -- one line more was run

@@ -4,6 +4,7 @@ use Rattle.transcript.proofs.Names.{AllByRecursion, nat_tests, Hosting, Outset, 
 use Rattle.transcript.proofs.Names.{SeenEdge, Statement, Opens, Brings, Ends, happening, StandFor, printed, printed_lanes}
 use Rattle.http_edge.specs.Answers.{Mishap}
 use Rattle.http_edge.specs.Lanes.{SeenLane, ShowsConnections}
+use Rattle.telling.specs.declared.told.Told.{Told}
 use Rattle.transcript.specs.Replays.{IsOutputOfLines}
 use Rattle.transcript.specs.Running.{RunTo}
 
@@ -22,12 +23,12 @@ added_whole [] c whole = (refl, tt {0})
 added_whole (k ∷ ks) c whole = (whole.0, added_whole ks c whole.1)
 
 -- by what the line of an event states
-happens_whole : {H : Type 0} (hosting : Hosting H) (outset : Outset H) (old new : World) (statement : Statement) (mishaps : List Mishap) (closes : Bool)
-    → Happens hosting outset old (happening statement mishaps closes) new → AreWhole old.connections → AreWhole new.connections
-happens_whole hosting outset old new (Opens c) mishaps closes h whole = rw h.connections (added_whole old.connections c whole)
-happens_whole hosting outset old new (Brings c moment draws piece) mishaps closes h whole =
+happens_whole : {H : Type 0} (hosting : Hosting H) (outset : Outset H) (old new : World) (statement : Statement) (mishaps : List Mishap) (closes : Bool) (tellings : List Told)
+    → Happens hosting outset old (happening statement mishaps closes tellings) new → AreWhole old.connections → AreWhole new.connections
+happens_whole hosting outset old new (Opens c) mishaps closes tellings h whole = rw h.connections (added_whole old.connections c whole)
+happens_whole hosting outset old new (Brings c moment draws piece) mishaps closes tellings h whole =
     ⊎_elim (λ comes. rw comes.connections (with_whole old.connections c comes.before _ comes.here refl whole)) (λ passes. rw passes.same whole) h.1
-happens_whole hosting outset old new (Ends c) mishaps closes h whole = rw h.connections (with_whole old.connections c h.before _ h.here refl whole)
+happens_whole hosting outset old new (Ends c) mishaps closes tellings h whole = rw h.connections (with_whole old.connections c h.before _ h.here refl whole)
 
 run_whole : {H : Type 0} (hosting : Hosting H) (outset : Outset H) (lines : List (List ℕ)) (schedule : List Happening) (old new : World) → StandFor lines schedule
     → Run hosting outset old schedule new → AreWhole old.connections → AreWhole new.connections
@@ -36,7 +37,7 @@ run_whole hosting outset [] (e ∷ schedule) old new stand run whole = absurd st
 run_whole hosting outset (line ∷ lines) [] old new stand run whole = absurd stand
 run_whole hosting outset (line ∷ lines) (e ∷ schedule) old new stand run whole =
     let s = stand.0 in
-    run_whole hosting outset lines schedule run.0 new stand.1 run.2 (happens_whole hosting outset old run.0 s.statement s.mishaps s.closes (rw s.event_is at run.1) whole)
+    run_whole hosting outset lines schedule run.0 new stand.1 run.2 (happens_whole hosting outset old run.0 s.statement s.mishaps s.closes s.tellings (rw s.event_is at run.1) whole)
 
 shown_printed : (lanes : List SeenLane) (ks : List Connection) → ShowsConnections lanes ks → AreWhole ks → printed_lanes lanes ≡ flat_map (λ k. printed k.number k.output) ks
 shown_printed [] [] shows whole = refl

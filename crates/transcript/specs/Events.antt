@@ -4,13 +4,20 @@ use Rattle.http_edge.specs.Answers.{Mishap}
 use Rattle.http_edge.specs.Schedule.{Connection, Happening, Opened, Came, HasEnded, piece_of}
 use Rattle.http_edge.specs.Refusals.{IsOpeningRefusal, IsPieceRefusal, IsEndingRefusal}
 use Rattle.http_edge.specs.declared.fault.EdgeFault.{EdgeFault}
+use Rattle.telling.specs.declared.told.Told.{Told}
 use Rattle.transcript.specs.Lines.{Statement, Opens, Brings, Ends, States}
 
--- the event that a statement is, with what was free in it
-abbrev pub happening : Statement → List Mishap → Bool → Happening
-happening (Opens c) mishaps closes = Opened c
-happening (Brings c moment draws piece) mishaps closes = Came (record { piece = piece_of c piece moment; draws = draws; mishaps = mishaps; closes = closes })
-happening (Ends c) mishaps closes = HasEnded c
+-- the event that a statement is, with what was free in it, and what was told of it
+abbrev pub happening : Statement → List Mishap → Bool → List Told → Happening
+happening (Opens c) mishaps closes tellings = Opened c
+happening (Brings c moment draws piece) mishaps closes tellings = Came (record {
+  piece = piece_of c piece moment;
+  draws = draws;
+  mishaps = mishaps;
+  closes = closes;
+  tellings = tellings;
+})
+happening (Ends c) mishaps closes tellings = HasEnded c
 
 -- a line stands for an event
 pub record LineStandsFor (line : List ℕ) (event : Happening) : Type 0 where
@@ -18,7 +25,8 @@ pub record LineStandsFor (line : List ℕ) (event : Happening) : Type 0 where
   pub states : States line statement
   pub mishaps : List Mishap
   pub closes : Bool
-  pub event_is : event ≡ happening statement mishaps closes
+  pub tellings : List Told
+  pub event_is : event ≡ happening statement mishaps closes tellings
 
 -- each line stands for the event at its place
 abbrev pub StandFor : List (List ℕ) → List Happening → Type 0

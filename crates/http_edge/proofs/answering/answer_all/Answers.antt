@@ -1,6 +1,6 @@
 use Rattle.std.proofs.Common.{◌≡◌, ◌≤◌, ◌+◌, ◌-◌, ℕ, List, ◌++◌, [], ◌∷◌, length, take, drop, refl, ap, ◌∙◌, sym, arith, length-append}
 use Rattle.http_edge.proofs.Names.{take_all, length-drop, drop-drop, Draws, Asked, asked_of, reply_bytes, Message, BeginsWithMessage, HasNone, asked_of_message, reads_push, reads_next, reads_same}
-use Rattle.http_edge.proofs.Names.{front_whole, AreFirst, SeenOutput, seen_output, first_requests, demand_of, draws_for, draws_behind}
+use Rattle.http_edge.proofs.Names.{front_whole, AreFirst, SeenOutput, said_so, seen_output, first_requests, demand_of, draws_for, draws_behind}
 use Rattle.heads.specs.Front.{IsFront, IsFoundWithin, IsWholeAt}
 use Rattle.heads.specs.declared.front.Found.{Found}
 use Rattle.httparse.specs.Grammar.{RequestHead, print_request}
@@ -35,7 +35,7 @@ loop-i-init g c = record {
   reads = refl;
   begun = omega arith;
   front = λ e. refl;
-  served = λ outset history m fits. served_none g.H.HookHost c.args.server.now (seen_output c.args.output.now) c.args.moment outset history m fits;
+  served = λ outset history m fits. served_none g.H.HookHost c.args.server.now (said_so (seen_output c.args.output.now) c.args.tellings.now) c.args.moment outset history m fits;
   drawn = refl;
   left = fewer_suffice _ c.args.count (c.args.count - 0) (omega arith) c.requires.draws;
   len = omega arith;
@@ -110,9 +110,9 @@ loop-i-preserved g c =
       begun = omega (arith, fits, here, begun);
       front = λ e. absurd (omega (arith, e));
       served = λ outset history m fit.
-          rw (← all_drawn, c.push.ensures.written)
-          (served_push g.H.HookHost c.args.server.now c.loop-i.server c.step-reply.new.self (seen_output c.args.output.now) (seen_output c.loop-i.output) outset history m c.args.moment before.messages drawn message c.draw-draws.result c.step-reply.result (asked_of c.lend-request.result) asked
-          (before.served outset history m fit)
+          rw (← all_drawn, c.push.ensures.written, c.hear_some.ensures)
+          (served_push g.H.HookHost c.args.server.now c.loop-i.server c.step-reply.new.self (said_so (seen_output c.args.output.now) c.args.tellings.now) (said_so (seen_output c.loop-i.output) c.loop-i.tellings) outset history m c.args.moment before.messages drawn message c.draw-draws.result c.step-reply.result (asked_of c.lend-request.result) asked
+          (before.served outset history m fit) (c.step-reply.ensures.wanted ∙ c.is_wanted.ensures)
           c.step-reply.ensures.replies);
       drawn =
           c.draw-draws.ensures.after ∙ ap (λ (w : Demand). sources.behind c.loop-i.source w) wants ∙ ap (λ s. sources.behind s (demand_of (asked_of_message message))) before.drawn
@@ -120,11 +120,11 @@ loop-i-preserved g c =
       left = suffices_behind _ _ c.args.count c.loop-i.i c.draw-draws.ensures.left before.left;
       len =
           (let grown = ap (λ (o : SeenOutput). length o.bytes) c.push.ensures.written in
-          let parts = length-append c.loop-i.output.bytes.items (reply_bytes c.step-reply.result) in
+          let parts = length-append c.loop-i.output.bytes.items (reply_bytes c.step-reply.result.reply) in
           let short = (c.step-reply.ensures.short (target_small f tail message asked whole.1.1)).short in
           omega (arith, len, grown, parts, short));
       room = omega (arith, room, more_room);
-      ends_len = (let grown = ap (λ (o : SeenOutput). length o.ends) c.push.ensures.written in let parts = length-append c.loop-i.output.ends.items ((length c.loop-i.output.bytes.items + length (reply_bytes c.step-reply.result)) ∷ []) in let before_len = before.ends_len in omega (arith, before_len, grown, parts));
+      ends_len = (let grown = ap (λ (o : SeenOutput). length o.ends) c.push.ensures.written in let parts = length-append c.loop-i.output.ends.items ((length c.loop-i.output.bytes.items + length (reply_bytes c.step-reply.result.reply)) ∷ []) in let before_len = before.ends_len in omega (arith, before_len, grown, parts));
       ends_room = (let before_room = before.ends_room in let more = c.push.ensures.ends_room in omega (arith, before_room, more));
     }
 

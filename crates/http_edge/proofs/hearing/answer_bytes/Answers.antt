@@ -1,5 +1,5 @@
 use Rattle.std.proofs.Common.{rules, ◌≡◌, ℕ, List, drop, ap, ◌∙◌, arith}
-use Rattle.http_edge.proofs.Names.{SeenRest, AreFirst, ServesMessages, drawn_for, first_requests, lane_output, replying, seen_output}
+use Rattle.http_edge.proofs.Names.{SeenRest, AreFirst, ServesMessages, drawn_for, first_requests, lane_output, replying, said_so, seen_output}
 use Rattle.heads.specs.Scan.{IsScan}
 use Rattle.http_edge.proofs.Drawing.{fewer_suffice}
 use Rattle.http_edge.proofs.hearing.answer_bytes.Goals as goal
@@ -10,7 +10,7 @@ returns-clause-heard g c =
     let scan = c.scan_behind-scan.result in
     let all : IsScan bytes scan = c.scan_behind-scan.ensures in
     let first : AreFirst (first_requests bytes scan.count c.args.moment) all.messages = record { rest = drop scan.end bytes; reads = all.reads.reads; count_is = all.count } in
-    let serves : ServesMessages g.H.HookHost (replying c.args.server.now (seen_output c.make_room.new.output)) (drawn_for g.S.DrawSource c.args.source.now all.messages c.args.moment) (replying c.answer_all.new.server (seen_output c.answer_all.new.output)) =
+    let serves : ServesMessages g.H.HookHost (replying c.args.server.now (said_so (seen_output c.make_room.new.output) c.args.tellings.now)) (drawn_for g.S.DrawSource c.args.source.now all.messages c.args.moment) (replying c.answer_all.new.server (said_so (seen_output c.answer_all.new.output) c.answer_all.new.tellings)) =
     c.answer_all.ensures.answered.serves all.messages first in
     let output : seen_output c.make_room.new.output ≡ lane_output c.args.lane.now = search rules in
     let count = all.count in

@@ -23,4 +23,4 @@ returns-in-Err g c = λ n few first run.
 pub returns : goal.returns
 returns g c = λ n few first run.
     rw c.of_next-draws.ensures.behind
-    (goes run (hears n _ _ few c.requires.attentive (piece_comes _ _ (search rules) c.in-Ok.ensures.within.0) (piece_fits _ _ (search rules)) c.in-Ok.ensures.done c.in-Some.ensures (rw c.of_next-draws.ensures.next at c.in_default-hear.ensures.given)))
+    (goes run (hears n _ _ few c.requires.attentive (piece_comes _ _ (search rules) c.in-Ok.ensures.within.0) (piece_fits _ _ (search rules)) c.in-Ok.ensures.done c.in-Some.ensures (rw (c.of_next-draws.ensures.next, c.nobody-nobody.ensures) at c.in_default-hear.ensures.given)))

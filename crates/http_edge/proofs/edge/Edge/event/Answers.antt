@@ -26,7 +26,7 @@ pub returns-in-Bytes-clause-done : goal.returns-in-Bytes-clause-done
 returns-in-Bytes-clause-done g c =
     let piece = piece_of c.in-Bytes.connection c.in-Bytes.piece.now c.in-Bytes.moment in
     rw c.in-Bytes.is
-    (on_ok_weaker c.hear_piece.result (λ more. list_leads g.H.HookHost c.args.self.now c.hear_piece.new.self piece c.in-Bytes.draws.now c.hear_piece.new.source more)
+    (on_ok_weaker c.hear_piece.result (λ more. list_leads g.H.HookHost c.args.self.now c.hear_piece.new.self piece c.in-Bytes.draws.now c.hear_piece.new.source _ _ more)
     (rw c.new.ensures at c.hear_piece.ensures.given))
 
 pub returns-in-End-clause-refused : goal.returns-in-End-clause-refused

@@ -15,7 +15,7 @@ returns-then-is_closing-clause-given g c =
     let seen-2 = ap (λ (l : SeenLane). l.phase) (c.behind-self-2.view_is ∙ sym read-2) in
     let closing : place.lane.phase ≡ Closing = grind (arith, seen, seen-2, c.has_ended.ensures, c.if-has_ended.false, c.is_closing.ensures, c.if-is_closing.true) in
     rw (← c.self.view_is)
-    (on_passed g.H.HookHost g.S.DrawSource _ _ (piece_of c.args.c c.args.piece.now c.args.moment) place.lane c.args.source.now _ refl refl place.here closing (omega (arith, c.if-piece-gt-PIECE_LIMIT.false)) refl)
+    (on_passed g.H.HookHost g.S.DrawSource _ _ (piece_of c.args.c c.args.piece.now c.args.moment) place.lane c.args.source.now _ c.args.tellings.now refl refl place.here closing (omega (arith, c.if-piece-gt-PIECE_LIMIT.false)) refl)
 
 pub returns-clause-given : goal.returns-clause-given
 returns-clause-given g c =
@@ -29,7 +29,7 @@ returns-clause-given g c =
     let seen-2 = ap (λ (l : SeenLane). l.phase) (c.behind-self-2.view_is ∙ sym read-2 ∙ same) in
     let opened : r.phase ≡ Open = grind (arith, seen, seen-2, c.has_ended.ensures, c.if-has_ended.false, c.is_closing.ensures, c.if-is_closing.false) in
     rw (← c.self.view_is)
-    (on_heard g.H.HookHost g.S.DrawSource _ _ (piece_of c.args.c c.args.piece.now c.args.moment) r c.hear.new.lane c.args.source.now _ (place.here ∙ ap Some same) opened (omega (arith, c.if-piece-gt-PIECE_LIMIT.false))
+    (on_heard g.H.HookHost g.S.DrawSource _ _ (piece_of c.args.c c.args.piece.now c.args.moment) r c.hear.new.lane c.args.source.now _ c.args.tellings.now c.hear.new.tellings (place.here ∙ ap Some same) opened (omega (arith, c.if-piece-gt-PIECE_LIMIT.false))
     c.in_default-hear.ensures.heard (put_at lanes c.args.c c.in-Some.i place c.hear.new.lane c.hear.new.lane refl))
 
 pub returns-in-Err-clause-refused : goal.returns-in-Err-clause-refused
