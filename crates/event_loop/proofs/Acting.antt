@@ -1,6 +1,7 @@
 -- A call at one place.
 use Rattle.std.proofs.Common.{◌≡◌, ◌≢◌, inl, inr, ℕ, Some, refl, sym, ap, subst, ◌∙◌, arith, true, false, slice_get, slice_set}
-use Rattle.event_loop.proofs.Names.{Place, IsOccupied, MayRead, MayWrite, read_limit, AreWithin, same_Some, connection_at, Progress, known, led, Promises, LoopState, IsAllKept, with_call, with_place}
+use Rattle.telling.specs.Audience.{IsAllTold}
+use Rattle.event_loop.proofs.Names.{IsWritable, Place, IsOccupied, MayRead, MayWrite, read_limit, AreWithin, same_Some, connection_at, Progress, known, led, Promises, LoopState, IsAllKept, with_call, with_place}
 use Rattle.event_loop.proofs.Names.{Ended, Broken, CallKind, IsDone, Transfer, Reading, Writing, Served, goes, Running, Standing, Past, Duty, DoneAfter, ActsAt, ReadsAt, IsReadyFor, state_of, to_read}
 use Rattle.event_loop.proofs.Names.{to_write, taken_stage, ReadsPlace, WritesPlace, offered, Read, Write, Refused}
 use Rattle.outside.specs.Calls as call
@@ -19,7 +20,7 @@ pub record ActsOnce {N C J K H : Type 0} (duty : Duty) (s s' : LoopState N C J K
   pub done : DoneAfter s.calls s'.calls
   pub places : (j : ℕ) → j ≢ duty.k → slice_get s'.places j ≡ slice_get s.places j
   pub connections : (j : ℕ) → j ≢ duty.k → known s'.progress j ≡ known s.progress j
-  pub ready : IsReadyFor duty.kind s.progress.journey.world → IsReadyFor duty.kind s'.progress.journey.world
+  pub ready : IsReadyFor duty.kind s.progress.journey.world s.progress.audience → IsReadyFor duty.kind s'.progress.journey.world s'.progress.audience
   pub alone : (other : CallKind) → other ≢ duty.kind → ¬ (IsDone other s.calls) → ¬ (IsDone other s'.calls)
   pub acts : IsDone duty.kind s'.calls
   pub within : AreWithin s.limits.idle s.times s.places → AreWithin s'.limits.idle s'.times s'.places
@@ -43,14 +44,14 @@ module _ {N C J K H : Type 0} (p : Promises N C J K H) (k : ℕ) (place : Place)
     }
 
     writes : (took : Transfer) (place' : Place) (n : N) (progress : Progress H) → ((j : ℕ) → j ≢ k → known progress j ≡ known s.progress j) →
-        (IsAllKept s.progress.journey.world → IsAllKept progress.journey.world) →
+        (IsAllKept s.progress.journey.world → IsAllKept progress.journey.world) → progress.audience ≡ s.progress.audience →
         (AreWithin s.limits.idle s.times s.places → AreWithin s.limits.idle s.times (slice_set s.places k place')) →
         ActsOnce (to_write k) s (record (with_place (with_call s (offered s k place took) n) k place') { progress = progress })
-    writes took place' n progress others ready within = record {
+    writes took place' n progress others kept told within = record {
       done = one_more _ _ refl refl (λ kind t. inr t) (not_of_kind _ _ (λ is. absurd (cc)));
       places = λ j other. set_other s.places k j place' other;
       connections = others;
-      ready = ready;
+      ready = λ was. (kept was.0, subst IsAllTold (sym told) was.1);
       alone = λ other differs not. not_another (Writing k) other s.calls differs not;
       acts = inl refl;
       within = within;
@@ -69,11 +70,11 @@ module _ {N C J K H : Type 0} (p : Promises N C J K H) (k : ℕ) (place : Place)
     writes_once : (s' : LoopState N C J K H) → WritesPlace p k place s s' → ActsOnce (to_write k) s s'
     writes_once s' (writing.sends count front n e on some within is done) =
         writes (call.Bytes front) (record place { stage = taken_stage place.stage count; since = s.times.steady; turn = s.turn }) n (led s.progress on) (λ j. takes_other s.progress.journey.world on.world k j count on.happens)
-        (takes_kept s.progress.journey.world on.world k count on.happens) (put_within s.limits.idle s.times s.places k (record place { stage = taken_stage place.stage count; since = s.times.steady; turn = s.turn }) (λ _. omega arith))
+        (takes_kept s.progress.journey.world on.world k count on.happens) refl (put_within s.limits.idle s.times s.places k (record place { stage = taken_stage place.stage count; since = s.times.steady; turn = s.turn }) (λ _. omega arith))
     writes_once s' (writing.finds_no_room n done) =
-        writes call.Nothing (record place { writable = false }) n s.progress (λ j other. refl) (λ was. was) (silent (record place { writable = false }) refl)
+        writes call.Nothing (record place { writable = false }) n s.progress (λ j other. refl) (λ was. was) refl (silent (record place { writable = false }) refl)
     writes_once s' (writing.fails n done) =
-        writes call.Failed (record place { stage = Broken Write }) n s.progress (λ j other. refl) (λ was. was) (silent (record place { stage = Broken Write }) refl)
+        writes call.Failed (record place { stage = Broken Write }) n s.progress (λ j other. refl) (λ was. was) refl (silent (record place { stage = Broken Write }) refl)
 
   module _ (first : LoopState N C J K H) (before : Standing N C J K H) (here : slice_get before.now.service.places k ≡ Some place) where
     acts_once : (duty : Duty) (after : Running N C J K H) (next : Past H) → after.service.due ≡ before.now.service.due →
@@ -100,11 +101,11 @@ module _ {N C J K H : Type 0} (p : Promises N C J K H) (k : ℕ) (place : Place)
         record { goes = acts.goes; due = due; done = once.acts }
 
     -- or written to
-    pub write_acts : (after : Running N C J K H) (next : Past H) → after.service.due ≡ before.now.service.due → place.writable ≡ true → ¬ (IsDone (Writing k) before.past.calls) → IsAllKept before.past.journey.world →
+    pub write_acts : (after : Running N C J K H) (next : Past H) → after.service.due ≡ before.now.service.due → place.writable ≡ true → ¬ (IsDone (Writing k) before.past.calls) → IsWritable before.past.journey.world before.now.tools.tellings →
         MayWrite place (connection_at before.past.journey.world.connections k) → Served p first (state_of before.now before.found before.past) →
         WritesPlace p k place (state_of before.now before.found before.past) (state_of after before.found next) → ActsAt p first (to_write k) before after
     write_acts after next due writable undone kept may served writing =
-        acts_once (to_write k) after next due (writes_once _ here (served_taken place.stage may.served) _ writing) (goes served (step.writes k place _ here writable undone kept may writing))
+        acts_once (to_write k) after next due (writes_once _ here (served_taken place.stage may.served) _ writing) (goes served (step.writes k place _ here writable undone kept.0 kept.1 may writing))
 
 -- or nothing is to be done there
 pub idle_acts : {N C J K H : Type 0} (p : Promises N C J K H) (first : LoopState N C J K H) (duty : Duty) (before : Standing N C J K H) (place : Place) → slice_get before.now.service.places duty.k ≡ Some place →

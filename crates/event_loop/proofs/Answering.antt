@@ -2,7 +2,7 @@
 use Rattle.std.proofs.Common.{◌≡◌, ◌≢◌, inl, inr, ℕ, List, [], ◌∷◌, ◌++◌, false, Some, length, append_assoc, refl, sym, ap, subst, ◌∙◌, slice_get, slice_set}
 use Rattle.event_loop.proofs.Names.{Place, IsOccupied, IsInService, IsFreeAt, MayRead, read_limit, Closes, leaves, eqb_tells, connection_at, piece_of, untaken, is_closing, Progress, known, IsReached}
 use Rattle.event_loop.proofs.Names.{GivesPieces, false≢true, no_other, Promises, LoopState, with_call, with_place, Free, Open, Ended, Broken, Call, opens, denies, fresh_place, LoopStep, Served, Leaving, IsStaying, to_offer, taken_stage}
-use Rattle.event_loop.proofs.Names.{hears_of, hears_out, comes, reads, writes, closes, keeps, begins, goes, ReadsPlace, WritesPlace, Read, Write, Refused}
+use Rattle.event_loop.proofs.Names.{audits, hears_of, hears_out, comes, reads, writes, closes, keeps, begins, goes, ReadsPlace, WritesPlace, Read, Write, Refused}
 use Rattle.event_loop.specs.Coming.{fails}
 use Rattle.event_loop.specs.declared.place.Stage.{Stage}
 use Rattle.outside.specs.declared.sockets.Accepted.TheVariants as accepted
@@ -193,7 +193,7 @@ module _ {N C J K H : Type 0} where
       ];
     }
     step_answered s' (reads j place s'' here readable unread may reading) = reads_answered j place s'' here may reading
-    step_answered s' (writes j place s'' here writable unwritten kept may writing) = writes_answered j place s'' here (served_taken place.stage may.served) writing
+    step_answered s' (writes j place s'' here writable unwritten kept told may writing) = writes_answered j place s'' here (served_taken place.stage may.served) writing
     step_answered s' (closes j place s'' here taken cause closing) = closes_answered j place s'' closing
     step_answered s' (hears_out j place left here waiting late eldest none is_left some) =
         notes_place _ j place (record place { stage = Leaving left; came = s.times.steady }) here refl refl (λ taken. staying_taken place.stage eldest.holds.stays) (λ e. absurd (cc)) (λ k. refl) (λ k. refl)
@@ -201,6 +201,10 @@ module _ {N C J K H : Type 0} where
       reached = on.reached;
       exchanges = λ k place here taken.
           stays_same s _ k place place (before.exchanges k place here taken) (ap (λ ks. connection_at ks k) (kept_connections s.progress.journey.world on.world on.happens)) refl refl (λ e. e);
+    }
+    step_answered s' (audits journal all some heard) = record {
+      reached = before.reached;
+      exchanges = λ k place here taken. stays_same s _ k place place (before.exchanges k place here taken) refl refl refl (λ e. e);
     }
     step_answered s' step = idles _ refl refl (λ k. refl) (λ k. refl)
 

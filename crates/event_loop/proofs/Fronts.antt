@@ -3,8 +3,9 @@ use Rattle.std.proofs.Common.{◌≡◌, ◌≢◌, ◌⊎◌, inl, inr, ℕ, su
 use Rattle.event_loop.proofs.Names.{Event, IsFrontOf, Holds, Keeps, KeepsBasis, Leaves, TellsBasis, Place, Closes, leaves, same_Some, World, IsServerStill, moment_after, PieceComes, PiecePasses}
 use Rattle.event_loop.proofs.Names.{TakesOutput, TakesNothing, AnsweredPiece, Piece, piece_of, Journey, Progress, IsReached, led, GivesPieces, nothing, gives, Message, Outset, Promises, LoopState}
 use Rattle.event_loop.proofs.Names.{IsAllKept, IsUnkept, with_call, Ready, Call, Transfer, Wrote, waits_done, opens, denies, finds_nobody, asks, LoopStep, Served, Shuts, TellsLast, tells_nothing}
-use Rattle.event_loop.proofs.Names.{comes, reads, writes, closes, keeps, shortens, no_slice, begins, goes, stops, shuts, reports_last, LoopFault, Carries, Onward, stays, onward, KeeperHolds, StandsBetween}
-use Rattle.event_loop.proofs.Names.{IsWriteKept, MomentIsHeld, CannotGoOn, no_wait, looks_again, fails_to_look, no_time, too_far, no_moment, not_kept, not_shortened, no_more, to_reload, passes_on, Passes, hands_on, Queue, LastTold, Noted, ReadsPlace, WritesPlace, Hosting}
+use Rattle.event_loop.proofs.Names.{audits, comes, reads, writes, closes, keeps, shortens, no_slice, begins, goes, stops, shuts, reports_last, LoopFault, Carries, Onward, stays, onward, KeeperHolds, StandsBetween}
+use Rattle.telling.specs.Audience.{IsAllTold}
+use Rattle.event_loop.proofs.Names.{IsWriteKept, IsWriteTold, MomentIsHeld, CannotGoOn, no_wait, looks_again, fails_to_look, no_time, too_far, no_moment, not_kept, not_shortened, no_more, to_reload, passes_on, Passes, hands_on, Queue, LastTold, Noted, ReadsPlace, WritesPlace, Hosting}
 use Rattle.event_loop.specs.Coming.{fails}
 use Rattle.event_loop.specs.Served.{waits}
 use Rattle.event_loop.specs.Done as deed
@@ -99,6 +100,7 @@ pub record Does {N C J K H : Type 0} (p : Promises N C J K H) (limit : ℕ) (s s
   pub moves : Moves p limit s s'
   pub did : (first : N) → HaveDone p.sockets first s.calls s.sockets → HaveDone p.sockets first s'.calls s'.sockets
   pub kept : IsWriteKept s s'
+  pub told : IsWriteTold s s'
 
 -- what a failure does: to the sockets, and to the keeper alone
 pub record FailDoes {N C J K H : Type 0} (p : Promises N C J K H) (limit : ℕ) (s s' : LoopState N C J K H) : Type 0 where
@@ -117,6 +119,7 @@ module _ {N C J K H : Type 0} (p : Promises N C J K H) where
     moves = goes_on (refl, (refl, refl), refl) (grows_not s.times.moment _ _ refl);
     did = λ first before. before;
     kept = λ k room took is. absurd (not_longer s.calls _ is);
+    told = λ k room took is. absurd (not_longer s.calls _ is);
   }
 
   -- one call is made, which is no wait and no write
@@ -128,6 +131,7 @@ module _ {N C J K H : Type 0} (p : Promises N C J K H) where
     moves = goes_on (refl, (refl, not_wait), outset) grows;
     did = λ first before. deed.did call n before done;
     kept = λ k room took is. absurd (not_write k room took (let same : call ≡ Wrote k room took = cc in same));
+    told = λ k room took is. absurd (not_write k room took (let same : call ≡ Wrote k room took = cc in same));
   }
 
   reads_does : {limit : ℕ} (j : ℕ) (place : Place) (s s' : LoopState N C J K H) → ReadsPlace p j place s s' → Does p limit s s'
@@ -140,14 +144,15 @@ module _ {N C J K H : Type 0} (p : Promises N C J K H) where
   reads_does j place s s' (reading.finds_nothing n done) = calls_on s _ n s.progress done refl (λ k room took is. absurd (cc)) refl (grows_not s.times.moment _ _ refl)
   reads_does j place s s' (reading.fails n done) = calls_on s _ n s.progress done refl (λ k room took is. absurd (cc)) refl (grows_not s.times.moment _ _ refl)
 
-  writes_does : {limit : ℕ} (j : ℕ) (place : Place) (s s' : LoopState N C J K H) → IsAllKept s.progress.journey.world → WritesPlace p j place s s' → Does p limit s s'
-  writes_does j place s s' all (writing.sends count front n e on some within is_front done) = record {
+  writes_does : {limit : ℕ} (j : ℕ) (place : Place) (s s' : LoopState N C J K H) → IsAllKept s.progress.journey.world → IsAllTold s.progress.audience → WritesPlace p j place s s' → Does p limit s s'
+  writes_does j place s s' all told (writing.sends count front n e on some within is_front done) = record {
     moves = goes_on (refl, (refl, refl), refl) (takes_grows s.times.moment s.progress.journey.world on.world j count on.happens);
     did = λ first before. deed.did _ n before done;
     kept = λ k room took is. all;
+    told = λ k room took is. told;
   }
-  writes_does j place s s' all (writing.finds_no_room n done) = record { moves = goes_on (refl, (refl, refl), refl) (grows_not s.times.moment _ _ refl); did = λ first before. deed.did _ n before done; kept = λ k room took is. all }
-  writes_does j place s s' all (writing.fails n done) = record { moves = goes_on (refl, (refl, refl), refl) (grows_not s.times.moment _ _ refl); did = λ first before. deed.did _ n before done; kept = λ k room took is. all }
+  writes_does j place s s' all told (writing.finds_no_room n done) = record { moves = goes_on (refl, (refl, refl), refl) (grows_not s.times.moment _ _ refl); did = λ first before. deed.did _ n before done; kept = λ k room took is. all; told = λ k room took is. told }
+  writes_does j place s s' all told (writing.fails n done) = record { moves = goes_on (refl, (refl, refl), refl) (grows_not s.times.moment _ _ refl); did = λ first before. deed.did _ n before done; kept = λ k room took is. all; told = λ k room took is. told }
 
   closes_does : {limit : ℕ} (j : ℕ) (place : Place) (s s' : LoopState N C J K H) → Closes p j place s s' → Does p limit s s'
   closes_does j place s s' (leaves n e on noted done noting) = calls_on s _ n (led s.progress on) done refl (λ k room took is. absurd (cc)) refl (grows_still s.times.moment s.progress.journey.world on.world on.happens.still)
@@ -160,43 +165,56 @@ module _ {N C J K H : Type 0} (p : Promises N C J K H) where
     moves = keeps_still (λ last is. kept.holds last) refl kept.basis (inr (kept.told, refl));
     did = λ first before. deed.did _ n before done;
     kept = λ k r took is. absurd (cc);
+    told = λ k r took is. absurd (cc);
   }
   step_does s s' (comes s'' told (opens j n e on within free done)) = calls_on s _ n (led s.progress on) done refl (λ k room took is. absurd (cc)) refl (grows_still s.times.moment s.progress.journey.world on.world on.happens.still)
   step_does s s' (comes s'' told (denies j n n' fault noted within free done refused closed noting)) = record {
     moves = goes_on (refl, (refl, refl), refl) (grows_not s.times.moment _ _ refl);
     did = λ first before. deed.did _ n' (deed.did _ n before done) closed;
     kept = λ k room took is. absurd (cc);
+    told = λ k room took is. absurd (cc);
   }
   step_does s s' (comes s'' told (finds_nobody j n done)) = calls_on s _ n s.progress done refl (λ k room took is. absurd (cc)) refl (grows_not s.times.moment _ _ refl)
   step_does s s' (comes s'' told (fails j n noted done noting)) = calls_on s _ n s.progress done refl (λ k room took is. absurd (cc)) refl (grows_not s.times.moment _ _ refl)
   step_does s s' (comes s'' told (asks n taken done)) = calls_on s _ n s.progress done refl (λ k room took is. absurd (cc)) refl (grows_not s.times.moment _ _ refl)
   step_does s s' (reads j place s'' here readable unread may reading) = reads_does j place s s'' reading
-  step_does s s' (writes j place s'' here writable unwritten all may writing) = writes_does j place s s'' all writing
+  step_does s s' (writes j place s'' here writable unwritten all told may writing) = writes_does j place s s'' all told writing
   step_does s s' (closes j place s'' here taken cause closing) = closes_does j place s s'' closing
   step_does s s' (shortens keeper all long undone kept basis slice nearer) = record {
     moves = keeps_still (λ last is. subst (λ (h : List Event). Keeps p.keeping.crashes h h s.keeper keeper) (sym (all last is)) kept) refl (keeps_within p.keeping.crashes 0 (horizon_bound 0) s.keeper keeper (omega arith) basis) (inl (refl, refl));
     did = λ first before. deed.shortened before;
     kept = λ k room took is. absurd (cc);
+    told = λ k room took is. absurd (cc);
   }
   step_does s s' (looks_again nth room found n may done) = record {
     moves = goes_on (refl, (refl, refl), refl) (grows_not s.times.moment _ _ refl);
     did = λ first before. deed.looked nth room found n before done;
     kept = λ k r took is. absurd (cc);
+    told = λ k r took is. absurd (cc);
   }
   step_does s s' (fails_to_look nth room n may done) = record {
     moves = goes_on (refl, (refl, refl), refl) (grows_not s.times.moment _ _ refl);
     did = λ first before. deed.failed_to_look nth room n before done;
     kept = λ k r took is. absurd (cc);
+    told = λ k r took is. absurd (cc);
   }
   step_does s s' (no_slice keeper journal all long ago kept basis told) = record {
     moves = keeps_still (λ last is. subst (λ (h : List Event). Keeps p.keeping.crashes h h s.keeper keeper) (sym (all last is)) kept) refl (keeps_within p.keeping.crashes 0 (horizon_bound 0) s.keeper keeper (omega arith) basis) (inl (refl, refl));
     did = λ first before. before;
     kept = λ k room took is. absurd (not_longer s.calls _ is);
+    told = λ k room took is. absurd (not_longer s.calls _ is);
   }
   step_does s s' (keeps keeper e unkept on undone kept basis further) = record {
     moves = keeps_all unkept kept (kept_last s.progress.journey.world on.world on.happens) (kept_history s.progress.journey.world on.world on.happens) (keeps_within p.keeping.crashes 0 (horizon_bound 0) s.keeper keeper (omega arith) basis) ((refl, refl), ap (λ (w : World). w.greatest) on.happens.kept, refl);
     did = λ first before. deed.kept before;
     kept = λ k room took is. absurd (cc);
+    told = λ k room took is. absurd (cc);
+  }
+  step_does s s' (audits journal all some heard) = record {
+    moves = goes_on (refl, (refl, refl), refl) (grows_not s.times.moment _ _ refl);
+    did = λ first before. before;
+    kept = λ k room took is. absurd (not_longer s.calls _ is);
+    told = λ k room took is. absurd (not_longer s.calls _ is);
   }
   step_does s s' step = quiet s
 

@@ -1,7 +1,7 @@
 -- Parts of the loop, one after another.
 use Rattle.std.proofs.Common.{◌≡◌, ◌≢◌, inl, inr, ◌<◌, ◌≤◌, ◌+◌, ℕ, suc, List, true, false, Some, refl, sym, subst, arith, ◌⊎◌, ◌∙◌, slice_get}
 use Rattle.event_loop.proofs.Names.{Place, NeedsNoRead, NeedsNoWrite, Closes, Passes, hands_on, leaves, eqb_tells, World, known, IsReached, Promises, LoopState, IsAllKept, Service, Ready, Tools, Reading, Writing}
-use Rattle.event_loop.proofs.Names.{IsDone, done_since, Served, Past, LeavesOthers, HoldsAt, LeadsToActs, LeadsToTidy, LeadsToSettled, LeadsToAccepts, GoesReading, GoesKept, GoesWriting, LeadsToKept}
+use Rattle.event_loop.proofs.Names.{IsDone, done_since, Served, Past, LeavesOthers, HoldsAt, LeadsToActs, LeadsToTidy, LeadsToSettled, LeadsToAccepts, GoesReading, GoesKept, GoesTold, GoesWriting, IsWritable, LeadsToTold}
 use Rattle.event_loop.proofs.Names.{LeadsWriting, AreAllSettled, DoneAfter, GoesSettled, StaysIdle, ActsAt, SettlesAt, TidiesAt, IsHeardAt, IsRestedAt, IsRested, IsSettledAt, running, standing, state_of, to_write}
 use Rattle.std.specs.Prelude.{⊤}
 use Rattle.event_loop.proofs.Others.{forgets_other}
@@ -19,6 +19,10 @@ module _ {N C J K H : Type 0} (p : Promises N C J K H) where
   pub closes_kept : (k : ℕ) (place : Place) (s s' : LoopState N C J K H) → Closes p k place s s' → IsAllKept s.progress.journey.world → IsAllKept s'.progress.journey.world
   closes_kept k place s s' (leaves n e on noted done noting) all = all_kept_still s.progress.journey.world on.world on.happens.still.kept on.happens.still.history all
 
+  -- nor is more told
+  pub closes_told : (k : ℕ) (place : Place) (s s' : LoopState N C J K H) → Closes p k place s s' → s'.progress.audience ≡ s.progress.audience
+  closes_told k place s s' (leaves n e on noted done noting) = refl
+
   -- and it is reached
   pub closes_reached : (k : ℕ) (place : Place) (s s' : LoopState N C J K H) → Closes p k place s s' → IsReached p.hosting s'.progress
   closes_reached k place s s' (leaves n e on noted done noting) = on.reached
@@ -28,7 +32,7 @@ module _ {N C J K H : Type 0} (p : Promises N C J K H) where
 
   -- a write, and a close where it is over
   pub turn_then : (k : ℕ) (b c d : Service) (u v w : Tools N C J K H) → LeadsToActs p (to_write k) (running b u) (running c v) → LeadsToTidy p k (running c v) (running d w) →
-      (first : LoopState N C J K H) (found : List Ready) (past : Past H) → IsHeardAt k b past → ¬ (IsDone (Writing k) past.calls) → IsAllKept past.journey.world → Served p first (state_of (running b u) found past) →
+      (first : LoopState N C J K H) (found : List Ready) (past : Past H) → IsHeardAt k b past → ¬ (IsDone (Writing k) past.calls) → IsWritable past.journey.world u.tellings → Served p first (state_of (running b u) found past) →
       SettlesAt p first k (standing (running b u) found past) (running d w)
   turn_then k b c d u v w one two first found past heard unwritten kept served =
       record {
@@ -78,7 +82,7 @@ module _ {N C J K H : Type 0} (p : Promises N C J K H) where
 
   -- all places are read, what changed is kept, and all are written to
   pub kept_then : (first : LoopState N C J K H) (found : List Ready) (past : Past H) (a b c : Service) (s u v w : Tools N C J K H) →
-      GoesReading p first 64 (standing (running a s) found past) (running b u) → LeadsToKept p u v → LeadsWriting p 64 (running b v) (running c w) → GoesWriting p first 64 (standing (running a s) found past) (running c w)
+      GoesReading p first 64 (standing (running a s) found past) (running b u) → LeadsToTold p u v → LeadsWriting p 64 (running b v) (running c w) → GoesWriting p first 64 (standing (running a s) found past) (running c w)
   kept_then first found past a b c s u v w read keep write = record {
     on = record {
       next = z.on.next;
@@ -93,14 +97,17 @@ module _ {N C J K H : Type 0} (p : Promises N C J K H) where
     kept = z.kept;
   }
     where
+      x : GoesTold p first (standing (running b u) found read.on.next) v
+      x = keep first found b read.on.next read.hearing.not_kept read.on.served (served_answered p first _ read.on.served).reached
+
       y : GoesKept p first (standing (running b u) found read.on.next) v
-      y = keep first found b read.on.next read.hearing.not_kept read.on.served (served_answered p first _ read.on.served).reached
+      y = x.goes
 
       z : GoesWriting p first 64 (standing (running b v) found y.next) (running c w)
       z = write first found y.next
           (λ j less. rested_other (suc j) j b read.on.next.journey.world b y.next.journey.world (others_kept j b read.on.next.journey.world y.next.journey.world y.connections) (λ is. absurd (omega (arith, is))) (read.rested j less))
           (λ j less. heard_other (suc j) j b read.on.next b y.next (others_kept j b read.on.next.journey.world y.next.journey.world y.connections) y.done (λ is. absurd (omega (arith, is))) (read.heard j less))
-          (λ j. y.alone (Writing j) (λ e. absurd (cc)) (read.hearing.unwritten j)) y.kept y.served
+          (λ j. y.alone (Writing j) (λ e. absurd (cc)) (read.hearing.unwritten j)) (y.kept, x.told) y.served
 
   -- at all places, one after another
   pub to_then : (f g h : List Ready) (a b c : Service) (t u v : Tools N C J K H) → LeadsToSettled p f (running a t) g (running b u) → LeadsToSettled p g (running b u) h (running c v) → LeadsToSettled p f (running a t) h (running c v)

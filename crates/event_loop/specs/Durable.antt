@@ -4,6 +4,7 @@ use Rattle.event_loop.specs.Names.{Event, Until, IsFrontOf, Holds, HoldsBasis, L
 use Rattle.outside.specs.Calls.{Transfer, Wrote}
 use Rattle.event_loop.specs.LoopStates.{Promises, LoopState, IsAllKept}
 use Rattle.event_loop.specs.Served.{LoopStep, waits}
+use Rattle.telling.specs.Audience.{IsAllTold}
 
 -- Steps lead on from a state.
 pub data Onward {N C J K H : Type 0} (p : Promises N C J K H) (s : LoopState N C J K H) : LoopState N C J K H → Type 0 where
@@ -46,6 +47,10 @@ pub record StandsBetween {N C J K H : Type 0} (p : Promises N C J K H) (s : Loop
 -- where the step from the one state to the other is a write, all that had happened was kept
 abbrev pub IsWriteKept : {N C J K H : Type 0} → LoopState N C J K H → LoopState N C J K H → Type 0
 IsWriteKept s s' = (k room : ℕ) (took : Transfer) → s'.calls ≡ Wrote k room took ∷ s.calls → IsAllKept s.progress.journey.world
+
+-- and all that was told of requests was handed to the journal
+abbrev pub IsWriteTold : {N C J K H : Type 0} → LoopState N C J K H → LoopState N C J K H → Type 0
+IsWriteTold s s' = (k room : ℕ) (took : Transfer) → s'.calls ≡ Wrote k room took ∷ s.calls → IsAllTold s.progress.audience
 
 -- Each crash from the one state on, up to the other, leaves what stands for what was kept between. So where a byte was
 -- written, with nothing unkept, each crash from then on leaves all before it, and never a part of what is kept at once.

@@ -8,7 +8,7 @@ use Rattle.event_loop.specs.declared.tools.Tools.{Tools}
 use Rattle.outside.specs.Calls as call
 use Rattle.outside.specs.Calls.{Keeping, Shortening, IsDone}
 use Rattle.event_loop.specs.Done.{HaveDone}
-use Rattle.event_loop.specs.Durable.{Carries, Onward, KeeperHolds, IsWriteKept, IsDurable, IsDurableToEnd, MomentIsHeld, MomentStays, latest}
+use Rattle.event_loop.specs.Durable.{Carries, Onward, KeeperHolds, IsWriteKept, IsWriteTold, IsDurable, IsDurableToEnd, MomentIsHeld, MomentStays, latest}
 use Rattle.event_loop.specs.Places.{AllFree}
 use Rattle.event_loop.specs.Closing.{IsTimeToReload}
 use Rattle.event_loop.specs.Moments.{seconds_too_far}
@@ -67,13 +67,14 @@ tools_at s = record {
   generator = s.progress.generator;
   journal = s.noted.journal;
   keeper = s.keeper;
+  tellings = s.progress.audience;
 }
 
 -- The clocks told the first times, and steps led on, whose every state is answered, until something failed; then nothing
 -- was done but that each connection that was left was closed or handed on, and forgotten, and all places are free, and that behind them,
 -- where reports are wanted, there was one more. That is what the sockets did. Each state has all that had happened and was kept at
--- those before it. With each write all that had happened was kept, and where the keeper held at first what was kept, all that was
--- kept is durable. What crashes told at some state, each crash tells from then on, and no moment that is more than a minute
+-- those before it. With each write all that had happened was kept, and all that was told of requests was handed to the journal; and
+-- where the keeper held at first what was kept, all that was kept is durable. What crashes told at some state, each crash tells from then on, and no moment that is more than a minute
 -- beyond the greatest that the clocks told since. Behind
 -- the first wait that is the moment by which requests are answered, and each crash tells the greatest one by which one was.
 pub record HasServed {N C J K H : Type 0} (p : Promises N C J K H) (start : Beginning N C J K H) (fault : LoopFault) (tools' : Tools N C J K H) : Type 0 where
@@ -87,6 +88,7 @@ pub record HasServed {N C J K H : Type 0} (p : Promises N C J K H) (start : Begi
   pub served : Served p first last
   pub answered : (s : LoopState N C J K H) → Served p first s → IsAllAnswered p s
   pub kept : (s s' : LoopState N C J K H) → Served p first s → LoopStep p s s' → IsWriteKept s s'
+  pub audited : (s s' : LoopState N C J K H) → Served p first s → LoopStep p s s' → IsWriteTold s s'
   pub durable : KeeperHolds p first → (s s' : LoopState N C J K H) → Served p first s → Onward p s s' → IsDurable p s s'
   pub carries : (s s' : LoopState N C J K H) → Served p first s → Onward p s s' → Carries s.progress.journey s'.progress.journey
   pub basis : (s s' : LoopState N C J K H) → Served p first s → (on : Onward p s s') → KeepsBasis p.keeping.crashes (horizon_bound (latest on)) s.keeper s'.keeper

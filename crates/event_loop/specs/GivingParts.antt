@@ -4,7 +4,7 @@ use Rattle.event_loop.specs.Progress.{Progress}
 
 -- an edge with its draws, on the journey that led to it
 abbrev pub progress_of : {H : Type 0} → SuppliedEdge H ChaCha → Journey H → Progress H
-progress_of supplied journey = record { edge = supplied.edge; generator = supplied.source; journey = journey }
+progress_of supplied journey = record { edge = supplied.edge; generator = supplied.source; audience = supplied.audience; journey = journey }
 
 -- a piece was given so that this holds
 pub record GivesOn {H : Type 0} (holds : Progress H → Type 0) (new : SuppliedEdge H ChaCha) : Type 0 where

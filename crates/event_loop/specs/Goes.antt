@@ -19,6 +19,7 @@ use Rattle.event_loop.specs.Closing.{IsRoomMade, Closes, freed_queue, AreBetween
 use Rattle.event_loop.specs.Reporting.{Tells}
 use Rattle.event_loop.specs.Served.{HadTurn, IsKeptShort, Served, Shuts, TellsLast}
 use Rattle.event_loop.specs.Ends.{CannotGoOn}
+use Rattle.telling.specs.Audience.{Audience, IsAllTold}
 -- what clauses of parts name
 pub use Rattle.change_codec.specs.Keepers.{keeping}
 pub use Rattle.event_loop.specs.Names.{AreLeftOfReply, Connection, InEach, is_closing, piece_of, Free, Open, Empty, Told, Waits}
@@ -67,7 +68,7 @@ state_of now found past = record {
   clocks = now.tools.clocks;
   noted = noted_in now.tools.journal now.service.noted;
   keeper = now.tools.keeper;
-  progress = record { edge = now.tools.edge; generator = now.tools.generator; journey = past.journey };
+  progress = record { edge = now.tools.edge; generator = now.tools.generator; audience = now.tools.tellings; journey = past.journey };
   limits = now.service.limits;
   places = now.service.places;
   found = found;
@@ -170,10 +171,14 @@ pub record LeavesOthers (k : ℕ) (service : Service) (world : World) (service' 
   pub due : (j : ℕ) → j ≢ k → slice_get service'.due j ≡ slice_get service.due j
   pub connections : (j : ℕ) → j ≢ k → connection_at world'.connections j ≡ connection_at world.connections j
 
--- what must be so that a call of the kind is made: for a write nothing is unkept
-abbrev pub IsReadyFor : CallKind → World → Type 0
-IsReadyFor (Writing k) world = IsAllKept world
-IsReadyFor kind world = ⊤
+-- nothing is unkept, and all that was told was handed on
+abbrev pub IsWritable : World → Audience → Type 0
+IsWritable world audience = IsAllKept world × IsAllTold audience
+
+-- what must be so that a call of the kind is made: for a write that
+abbrev pub IsReadyFor : CallKind → World → Audience → Type 0
+IsReadyFor (Writing k) world audience = IsWritable world audience
+IsReadyFor kind world audience = ⊤
 
 -- a kind of call that may be to be made at a place, and when it needs not be made
 pub record Duty : Type 1 where
@@ -328,7 +333,7 @@ module _ {N C J K H : Type 0} (p : Promises N C J K H) where
   pub record GoesAt (first : LoopState N C J K H) (duty : Duty) (before : Standing N C J K H) (after : Running N C J K H) : Type 0 where
     pub on : LeadsOn first before after
     pub others : LeavesOthers duty.k before.now.service before.past.journey.world after.service on.next.journey.world
-    pub ready : IsReadyFor duty.kind before.past.journey.world → IsReadyFor duty.kind on.next.journey.world
+    pub ready : IsReadyFor duty.kind before.past.journey.world before.now.tools.tellings → IsReadyFor duty.kind on.next.journey.world after.tools.tellings
     pub alone : (other : CallKind) → other ≢ duty.kind → ¬ (IsDone other before.past.calls) → ¬ (IsDone other on.next.calls)
 
   -- a call of the kind is made at one place, or nothing changed, since it is not to be made
@@ -340,7 +345,7 @@ module _ {N C J K H : Type 0} (p : Promises N C J K H) where
   -- so it is where it was not done since the last wait, and may be done
   abbrev pub LeadsToActs : Duty → Running N C J K H → Running N C J K H → Type 0
   LeadsToActs duty before after =
-      (first : LoopState N C J K H) (found : List Ready) (past : Past H) → ¬ (IsDone duty.kind past.calls) → IsReadyFor duty.kind past.journey.world →
+      (first : LoopState N C J K H) (found : List Ready) (past : Past H) → ¬ (IsDone duty.kind past.calls) → IsReadyFor duty.kind past.journey.world before.tools.tellings →
       Served p first (state_of before found past) → Reached p.hosting before.tools.edge past.journey → ActsAt first duty (standing before found past) after
 
   -- steps lead on, which touch one place alone, and it is settled
@@ -471,6 +476,26 @@ module _ {N C J K H : Type 0} (p : Promises N C J K H) where
       (first : LoopState N C J K H) (found : List Ready) (service : Service) (past : Past H) → ¬ (IsDone Keeping past.calls) →
       Served p first (state_of (running service tools) found past) → Reached p.hosting tools.edge past.journey → GoesKept first (standing (running service tools) found past) tools'
 
+  -- where nothing is unkept, all that was told is handed on, and all else is as it was
+  pub record GoesAudited (first : LoopState N C J K H) (before : Standing N C J K H) (tools' : Tools N C J K H) : Type 0 where
+    pub served : Served p first (state_of (running before.now.service tools') before.found before.past)
+    pub told : IsAllTold tools'.tellings
+
+  abbrev pub LeadsToAudit : Tools N C J K H → Tools N C J K H → Type 0
+  LeadsToAudit tools tools' =
+      (first : LoopState N C J K H) (found : List Ready) (service : Service) (past : Past H) → IsAllKept past.journey.world →
+      Served p first (state_of (running service tools) found past) → GoesAudited first (standing (running service tools) found past) tools'
+
+  -- nothing is unkept, all that was told is handed on, and all else is as it was
+  pub record GoesTold (first : LoopState N C J K H) (before : Standing N C J K H) (tools' : Tools N C J K H) : Type 0 where
+    pub goes : GoesKept first before tools'
+    pub told : IsAllTold tools'.tellings
+
+  abbrev pub LeadsToTold : Tools N C J K H → Tools N C J K H → Type 0
+  LeadsToTold tools tools' =
+      (first : LoopState N C J K H) (found : List Ready) (service : Service) (past : Past H) → ¬ (IsDone Keeping past.calls) →
+      Served p first (state_of (running service tools) found past) → Reached p.hosting tools.edge past.journey → GoesTold first (standing (running service tools) found past) tools'
+
   -- or keeping failed
   abbrev pub LeadsToLoss : Tools N C J K H → LoopFault → Tools N C J K H → Type 0
   LeadsToLoss tools fault tools' =
@@ -512,12 +537,12 @@ module _ {N C J K H : Type 0} (p : Promises N C J K H) where
     pub rested : (j : ℕ) → i ≤ j → j < 64 → IsRestedAt j after.service on.next.journey.world
     pub heard : (j : ℕ) → i ≤ j → j < 64 → IsHeardAt j after.service on.next
     pub unwritten : (j : ℕ) → i ≤ j → ¬ (IsDone (Writing j) on.next.calls)
-    pub kept : IsAllKept on.next.journey.world
+    pub kept : IsWritable on.next.journey.world after.tools.tellings
 
   abbrev pub LeadsWriting : ℕ → Running N C J K H → Running N C J K H → Type 0
   LeadsWriting i before after =
       (first : LoopState N C J K H) (found : List Ready) (past : Past H) → IsRested before.service past.journey.world →
-      ((j : ℕ) → j < 64 → IsHeardAt j before.service past) → ((j : ℕ) → ¬ (IsDone (Writing j) past.calls)) → IsAllKept past.journey.world →
+      ((j : ℕ) → j < 64 → IsHeardAt j before.service past) → ((j : ℕ) → ¬ (IsDone (Writing j) past.calls)) → IsWritable past.journey.world before.tools.tellings →
       Served p first (state_of before found past) → GoesWriting first i (standing before found past) after
 
   -- steps lead through so many waits

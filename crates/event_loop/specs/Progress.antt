@@ -1,11 +1,13 @@
 -- How far the edge was led.
 use Rattle.std.specs.Prelude.{ℕ, [], ◌∷◌, Option}
 use Rattle.event_loop.specs.Names.{ChaCha, Hosting, Connection, Happening, connection_at, SeenEdge, GoesOn, Journey, Reached, led_on}
+use Rattle.telling.specs.Audience.{Audience}
 
--- an edge, the generator of its draws, and the journey that led to it
+-- an edge, the generator of its draws, who is told of what it answers, and the journey that led to it
 pub record Progress (H : Type 0) : Type 0 where
   pub edge : SeenEdge H
   pub generator : ChaCha
+  pub audience : Audience
   pub journey : Journey H
 
 -- a connection, as the edge knows it

@@ -20,6 +20,7 @@ use Rattle.event_loop.specs.Reporting.{IsDue, Tells, TellsRefusal, is_long_ago}
 use Rattle.event_loop.specs.Moments.{KeepsTimes, seconds_too_far}
 use Rattle.event_loop.specs.declared.report.LastTold.{LastTold}
 use Rattle.outside.specs.declared.report.Report.{Report}
+use Rattle.telling.specs.Audience.{IsAllTold, new_audience}
 
 -- No more is kept than may be, or something is unkept, or shortening was refused less than a minute ago.
 abbrev pub IsKeptShort : {N C J K H : Type 0} → Promises N C J K H → LoopState N C J K H → Type 0
@@ -94,7 +95,8 @@ told_place place readable writable hung =
 -- before it, a look at what the wait found, something done
 -- for connections, the journal is told what is due, what is unkept is kept, or what is kept is shortened by a slice, or that is
 -- refused. Between two waits a place is read at most once, and written to at most once, it is kept at most once, and shortened at
--- most once. Nothing is written, and nothing is shortened, while something is unkept.
+-- most once. Nothing is written, and nothing is shortened, while something is unkept; and nothing is written while something that was
+-- told of requests was not handed to the journal.
 -- Keeping adds to what is to be gone over no more than eight times what it adds to what is kept.
 pub data LoopStep {N C J K H : Type 0} (p : Promises N C J K H) (s : LoopState N C J K H) : LoopState N C J K H → Type 0 where
   waits : (limit : Option ℕ) (room : ℕ) (found : List Ready) (n : N) (times : Times) (c : C) (keeper : K) → MayWait p s limit room →
@@ -119,7 +121,7 @@ pub data LoopStep {N C J K H : Type 0} (p : Promises N C J K H) (s : LoopState N
   reads : (k : ℕ) (place : Place) (s' : LoopState N C J K H) → slice_get s.places k ≡ Some place → place.readable ≡ true → ¬ (IsDone (Reading k) s.calls) →
       MayRead place (known s.progress k) → ReadsPlace p k place s s' → LoopStep p s s'
   writes : (k : ℕ) (place : Place) (s' : LoopState N C J K H) → slice_get s.places k ≡ Some place → place.writable ≡ true → ¬ (IsDone (Writing k) s.calls) →
-      IsAllKept s.progress.journey.world → MayWrite place (known s.progress k) → WritesPlace p k place s s' → LoopStep p s s'
+      IsAllKept s.progress.journey.world → IsAllTold s.progress.audience → MayWrite place (known s.progress k) → WritesPlace p k place s s' → LoopStep p s s'
   closes : (k : ℕ) (place : Place) (s' : LoopState N C J K H) → slice_get s.places k ≡ Some place → IsOccupied place.stage → Cause s k place →
       Closes p k place s s' → LoopStep p s s'
   -- where another connection waits, the one that came first of those that are owed replies, and is there for longer than the limit, is
@@ -136,6 +138,10 @@ pub data LoopStep {N C J K H : Type 0} (p : Promises N C J K H) (s : LoopState N
       ¬ (IsDone Keeping s.calls) → Keeps p.keeping.crashes unkept.kept s.progress.journey.world.history s.keeper keeper →
       KeepsBasis p.keeping.crashes 0 s.keeper keeper → IsNoFurther p.keeping.to_go p.keeping.size s.keeper keeper →
       LoopStep p s (record s { keeper = keeper; progress = led s.progress on; calls = call.Kept ∷ s.calls })
+  -- where nothing is unkept, what was told of requests, if anything was, is handed to the journal, all of it, in its order, with how
+  -- much more there was no room for
+  audits : (journal : J) → IsAllKept s.progress.journey.world → ¬ (IsAllTold s.progress.audience) → p.journal.audits s.noted.journal s.progress.edge.server.rules s.progress.audience journal →
+      LoopStep p s (record s { noted = record s.noted { journal = journal }; progress = record s.progress { audience = new_audience s.progress.audience.room } })
   -- where more is kept than may be, the keeper alone is another, which holds the same: no more than a slice was gone over, and less
   -- is to be gone over than before until that is shortened, or it is
   shortens : (keeper : K) → IsAllKept s.progress.journey.world → p.keeping.is_long s.keeper → ¬ (IsDone Shortening s.calls) →

@@ -51,7 +51,7 @@ module _ {N C J K H : Type 0} (p : Promises N C J K H) where
   step_longer s s' (waits limit room found n times c keeper may done told near kept further) unended = omega (arith, further)
   step_longer s s' (comes s'' told accepting) unended = still_longer s s'' (accepts_still s s'' accepting)
   step_longer s s' (reads k place s'' here readable unread may reading) unended = still_longer s s'' (reads_still k place s s'' reading)
-  step_longer s s' (writes k place s'' here writable unwritten kept may writing) unended = still_longer s s'' (writes_still k place s s'' writing)
+  step_longer s s' (writes k place s'' here writable unwritten kept told may writing) unended = still_longer s s'' (writes_still k place s s'' writing)
   step_longer s s' (closes k place s'' here taken cause closing) unended = still_longer s s'' (closes_still k place s s'' closing)
   step_longer s s' (keeps keeper e unkept on undone kept basis further) unended = omega (arith, further)
   step_longer s s' (shortens keeper all long undone kept basis slice (inl nearer)) unended =

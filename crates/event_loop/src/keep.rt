@@ -1,8 +1,8 @@
-//! Keeping what changed.
+//! Keeping what changed, and handing on what was told.
 ghost use Rattle.std.specs.Prelude.{OnOk, OnSome, IfErr, IfSome, IfNone, IsSome};
 ghost use Rattle.consent.specs.History.{Happened};
 ghost use Rattle.http_edge.specs.Edges.{unkept_of};
-ghost use Rattle.event_loop.specs.Goes.{InEach, IsAllKept, IsUnkept, LeadsToKept, LeadsToLoss, keeping, promises};
+ghost use Rattle.event_loop.specs.Goes.{InEach, IsAllKept, IsUnkept, LeadsToAudit, LeadsToKept, LeadsToLoss, LeadsToTold, keeping, promises};
 
 use crate::tools::{Clocks, HookHost, Journal, Keeper, Sockets, Tools};
 use change_codec::Batch;
@@ -25,8 +25,8 @@ pub(crate) fn unkept<H: HookHost>(edge: &Edge<H>) -> Option<&Batch>
 }
 
 impl<N: Sockets, C: Clocks, J: Journal, K: Keeper, H: HookHost> Tools<N, C, J, K, H> {
-    /// What is unkept is kept, all at once.
-    pub(crate) fn keep_all(&mut self) -> Result<(), LoopFault>
+    // What is unkept is kept, all at once.
+    fn keep_unkept(&mut self) -> Result<(), LoopFault>
         ensures kept { OnOk result (LeadsToKept (promises N.Sockets C.Clocks J.Journal (keeping K.Keeper) H.HookHost) self.old self.new) }
         ensures lost { IfErr result (λ fault. LeadsToLoss (promises N.Sockets C.Clocks J.Journal (keeping K.Keeper) H.HookHost) self.old fault self.new) }
     {
@@ -37,6 +37,30 @@ impl<N: Sockets, C: Clocks, J: Journal, K: Keeper, H: HookHost> Tools<N, C, J, K
             return Err(LoopFault::Keep);
         };
         self.edge.forget_unkept();
+        Ok(())
+    }
+
+    // What was told is handed to the journal, where there is something.
+    fn hand_on(&mut self)
+        ensures { LeadsToAudit (promises N.Sockets C.Clocks J.Journal (keeping K.Keeper) H.HookHost) self.old self.new }
+    {
+        if self.tellings.is_empty() {
+            return;
+        }
+        let rules = self.edge.server().rules();
+        self.journal.audit(rules, &self.tellings);
+        self.tellings.forget();
+    }
+
+    /// What is unkept is kept, all at once, and then what was told of it is handed on.
+    pub(crate) fn keep_all(&mut self) -> Result<(), LoopFault>
+        ensures kept { OnOk result (LeadsToTold (promises N.Sockets C.Clocks J.Journal (keeping K.Keeper) H.HookHost) self.old self.new) }
+        ensures lost { IfErr result (λ fault. LeadsToLoss (promises N.Sockets C.Clocks J.Journal (keeping K.Keeper) H.HookHost) self.old fault self.new) }
+    {
+        if let Err(fault) = self.keep_unkept() {
+            return Err(fault);
+        }
+        self.hand_on();
         Ok(())
     }
 }

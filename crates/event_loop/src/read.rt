@@ -13,6 +13,7 @@ use consent::Moment;
 use http_edge::{ConnectionNo, Edge, EdgeFault, Event};
 use outside::{ConnectionFault, Received, Sockets};
 use rand_chacha::ChaCha20Rng;
+use telling::Tellings;
 
 /// Whether a connection may be read.
 pub(crate) fn may_read<H: HookHost>(edge: &Edge<H>, place: Place, k: u32) -> bool
@@ -37,12 +38,13 @@ pub(crate) fn may_read<H: HookHost>(edge: &Edge<H>, place: Place, k: u32) -> boo
 fn give_cuts<H: HookHost>(
     edge: &mut Edge<H>,
     generator: &mut ChaCha20Rng,
+    tellings: &mut Tellings,
     k: ConnectionNo,
     bytes: &[u8],
     moment: Moment,
 ) -> Result<(), EdgeFault>
-    ensures heard { OnOk result (LeadsToGiving H.HookHost (AreBytesHeard H.HookHost (piece_of k bytes.now moment)) (supplied edge.old generator.old) (supplied edge.new generator.new)) }
-    ensures unheard { IfErr result (λ fault. LeadsToGiving H.HookHost (IsUnheard H.HookHost (piece_of k bytes.now moment) fault) (supplied edge.old generator.old) (supplied edge.new generator.new)) }
+    ensures heard { OnOk result (LeadsToGiving H.HookHost (AreBytesHeard H.HookHost (piece_of k bytes.now moment)) (supplied edge.old generator.old tellings.old) (supplied edge.new generator.new tellings.new)) }
+    ensures unheard { IfErr result (λ fault. LeadsToGiving H.HookHost (IsUnheard H.HookHost (piece_of k bytes.now moment) fault) (supplied edge.old generator.old tellings.old) (supplied edge.new generator.new tellings.new)) }
 {
     let mut start = 0;
     'cuts: while start < bytes.len() {
@@ -51,7 +53,7 @@ fn give_cuts<H: HookHost>(
         }
         let count = CUT_LIMIT.min(bytes.len() - start);
         let cut = &bytes[start..start + count];
-        if let Err(fault) = edge.hear(k, cut, moment, generator) {
+        if let Err(fault) = edge.hear(k, cut, moment, generator, tellings) {
             return Err(fault);
         }
         start += count;
@@ -63,21 +65,22 @@ fn give_cuts<H: HookHost>(
 fn give_all<H: HookHost>(
     edge: &mut Edge<H>,
     generator: &mut ChaCha20Rng,
+    tellings: &mut Tellings,
     k: ConnectionNo,
     bytes: &[u8],
     moment: Moment,
 ) -> Result<(), EdgeFault>
     requires stays { WhereKnown H.HookHost edge.old k (λ connection. is_closing connection ≡ false) }
-    ensures heard { OnOk result (LeadsToGiving H.HookHost (AreBytesHeard H.HookHost (piece_of k bytes.now moment)) (supplied edge.old generator.old) (supplied edge.new generator.new)) }
-    ensures unheard { IfErr result (λ fault. LeadsToGiving H.HookHost (IsUnheard H.HookHost (piece_of k bytes.now moment) fault) (supplied edge.old generator.old) (supplied edge.new generator.new)) }
+    ensures heard { OnOk result (LeadsToGiving H.HookHost (AreBytesHeard H.HookHost (piece_of k bytes.now moment)) (supplied edge.old generator.old tellings.old) (supplied edge.new generator.new tellings.new)) }
+    ensures unheard { IfErr result (λ fault. LeadsToGiving H.HookHost (IsUnheard H.HookHost (piece_of k bytes.now moment) fault) (supplied edge.old generator.old tellings.old) (supplied edge.new generator.new tellings.new)) }
 {
-    let Err(fault) = edge.hear(k, bytes, moment, generator) else {
+    let Err(fault) = edge.hear(k, bytes, moment, generator, tellings) else {
         return Ok(());
     };
     let EdgeFault::TooManyRequests = fault else {
         return Err(fault);
     };
-    give_cuts(edge, generator, k, bytes, moment)
+    give_cuts(edge, generator, tellings, k, bytes, moment)
 }
 
 impl<N: Sockets, C: Clocks, J: Journal, K: Keeper, H: HookHost> Tools<N, C, J, K, H> {
@@ -100,6 +103,7 @@ impl<N: Sockets, C: Clocks, J: Journal, K: Keeper, H: HookHost> Tools<N, C, J, K
                 match give_all(
                     &mut self.edge,
                     &mut self.generator,
+                    &mut self.tellings,
                     connection,
                     bytes,
                     service.times.moment,

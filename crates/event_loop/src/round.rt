@@ -73,8 +73,8 @@ impl Service {
 
 impl<N: Sockets, C: Clocks, J: Journal, K: Keeper, H: HookHost> Tools<N, C, J, K, H> {
     /// Shortens what is kept by a slice, where it is long, and tells whether that wants room. Then waits once, looks at the clocks, whose moment is
-    /// kept where it is not too far ahead, notes what was found, reads each place, looks whether more came, keeps what changed, writes to each, closes and accepts, and then tells
-    /// the journal what is due.
+    /// kept where it is not too far ahead, notes what was found, reads each place, looks whether more came, keeps what changed, hands on what was told of
+    /// requests, writes to each, closes and accepts, and then tells the journal what is due.
     pub(crate) fn round(
         &mut self,
         service: &mut Service,

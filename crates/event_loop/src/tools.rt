@@ -4,8 +4,10 @@ pub use hook_host::HookHost;
 use http_edge::Edge;
 pub use outside::{Clocks, Journal, Sockets};
 use rand_chacha::ChaCha20Rng;
+use telling::Tellings;
 
-/// What the loop works with: sockets, an edge, clocks, a generator of draws, a journal, and a keeper.
+/// What the loop works with: sockets, an edge, clocks, a generator of draws, a journal, a keeper, and what was told of requests
+/// and was not handed on yet.
 #[derive(Drop)]
 pub struct Tools<N, C, J, K, H> {
     pub sockets: N,
@@ -14,4 +16,5 @@ pub struct Tools<N, C, J, K, H> {
     pub generator: ChaCha20Rng,
     pub journal: J,
     pub keeper: K,
+    pub tellings: Tellings,
 }

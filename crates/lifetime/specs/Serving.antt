@@ -14,6 +14,7 @@ tools_of means keeper edge = record {
   generator = means.generator;
   journal = means.journal;
   keeper = keeper;
+  tellings = means.tellings;
 }
 
 -- A server, from where its journey had led it, served its connections step by step until it could not go on; or the clocks told

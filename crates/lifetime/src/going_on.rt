@@ -44,6 +44,7 @@ pub(crate) fn serve_by<N: Sockets, C: Clocks, J: Journal, K: Keeper>(
         generator: means.generator,
         journal: means.journal,
         keeper,
+        tellings: means.tellings,
     };
     let fault = serve_all(&mut tools, limits);
     Ending { fault, tools }

@@ -49,6 +49,7 @@ returns g c = λ journey reached.
       served = wrong.served;
       answered = λ s. served_answered p first s;
       kept = λ s s' served step. (step_does p s s' step).kept;
+      audited = λ s s' served step. (step_does p s s' step).told;
       durable = λ held s s' served on before is. leaves_between p g.met.K.Keeper.only_now first held s before served is s' on;
       carries = λ s s'. onward_carries p first s s';
       basis = λ s s' served. onward_basis p s s';
