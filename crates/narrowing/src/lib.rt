@@ -10,8 +10,8 @@ mod ending;
 mod laws;
 mod narrowed;
 mod records;
+mod retelling;
 mod rules;
-mod telling;
 
 pub use changes::changes_left;
 pub use laws::{

@@ -10,7 +10,7 @@ ghost use Rattle.state_file.specs.declared.fault.StateFault.TheVariants.{Memory}
 
 use crate::comparing::{is_narrower, last_told};
 use crate::ending::ended_in;
-use crate::telling::frames_left;
+use crate::retelling::frames_left;
 use batch_file::frames::Frames;
 use batch_file::framing::{Batches, read_batches};
 use clients::Registry;

@@ -9,7 +9,7 @@ ghost use Rattle.state_file.specs.Going.{HasGone, TellAlike};
 use crate::front::Front;
 use crate::measures::Measures;
 use crate::redoing::Redoing;
-use crate::telling::tells_rules;
+use crate::rules_told::tells_rules;
 use batch_file::framing::ReadFault;
 use batch_file::reader::FrameReader;
 use batch_file::source::ByteSource;

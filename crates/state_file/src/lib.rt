@@ -21,9 +21,9 @@ mod redoing;
 mod remade;
 mod restored;
 mod resuming;
+mod rules_told;
 mod short;
 mod sizes;
-mod telling;
 
 pub use comparing::compare;
 pub use fault::StateFault;
@@ -35,6 +35,6 @@ pub use listing::{changes_in, changes_of};
 pub use preparing::{Parts, Prepared, Preparing, prepare};
 pub use restored::{Restored, remake};
 pub use resuming::Unprepared;
+pub use rules_told::{Spelled, last_rules, rules_behind, spell_rules, tells_rules, told_rules};
 pub use short::{Short, gather_changes, short_of};
 pub use sizes::{is_short, size_behind};
-pub use telling::{Spelled, last_rules, rules_behind, spell_rules, tells_rules, told_rules};

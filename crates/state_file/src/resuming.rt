@@ -15,7 +15,7 @@ use crate::front::Front;
 use crate::gone::Gone;
 use crate::known::Known;
 use crate::restored::Restored;
-use crate::telling::{Spelled, rules_behind};
+use crate::rules_told::{Spelled, rules_behind};
 use batch_file::reader::{FrameReader, NotRead, ReadOver};
 use batch_file::source::ByteSource;
 use clients::Registry;

@@ -1,8 +1,8 @@
 use Rattle.std.proofs.Common.{◌≡◌, ◌+◌, ◌++◌, ◌∙◌, ℕ, List, [], ◌∷◌, Some, take, sym, ap, subst, arith}
 use Rattle.state_file.proofs.Names.{option_copied, iff_false, common_steps, lists, last_rules, rules_in}
 use Rattle.state_file.proofs.Tells.{told_item, untold_item}
-use Rattle.state_file.proofs.telling.last_rules.Goals.{then-tells_rules, else-tells_rules}
-use Rattle.state_file.proofs.telling.last_rules.Goals as goal
+use Rattle.state_file.proofs.rules_told.last_rules.Goals.{then-tells_rules, else-tells_rules}
+use Rattle.state_file.proofs.rules_told.last_rules.Goals as goal
 
 pub loop-batch-preserved : goal.loop-batch-preserved
 loop-batch-preserved c =

@@ -4,7 +4,7 @@ use Rattle.state_file.specs.BoundsLaws.{are_rules}
 use Rattle.state_file.specs.Comparing.{RefuseBeside, RefuseRules}
 use Rattle.state_file.specs.declared.fault.StateFault.{StateFault}
 use Rattle.state_file.specs.declared.fault.StateFault.TheVariants.{Memory, NoRules, TooLong}
-use Rattle.state_file.proofs.telling.rules_behind.Goals as goal
+use Rattle.state_file.proofs.rules_told.rules_behind.Goals as goal
 
 pub returns-clause-taken : goal.returns-clause-taken
 returns-clause-taken c =

@@ -1,7 +1,7 @@
 use Rattle.std.proofs.Common.{◌∙◌, sym, subst}
 use Rattle.state_file.proofs.Names.{RulesFact, rules_fact, AreAsWide}
 use Rattle.state_file.proofs.Tells.{told_spelled}
-use Rattle.state_file.proofs.telling.tells_as.Goals as goal
+use Rattle.state_file.proofs.rules_told.tells_as.Goals as goal
 
 pub returns-clause-wide : goal.returns-clause-wide
 returns-clause-wide c = λ others tells.
