@@ -1,11 +1,11 @@
--- How a request for a reload is answered.
-use Rattle.std.specs.Prelude.{◌≡◌, ◌≤◌, ⊤, ℕ, List, [], ◌∷◌, Option, None, Some, codes, length}
+-- How a request for a reload, or for metrics, is answered.
+use Rattle.std.specs.Prelude.{◌≡◌, ◌≤◌, ⊤, ℕ, List, [], ◌∷◌, ◌++◌, Bool, true, false, Option, None, Some, codes, length}
 use Rattle.std.specs.Option.{option_copied}
 use Rattle.messages.specs.Members.{Member}
 use Rattle.messages.specs.Members.Member.{Text, Number}
 use Rattle.messages.specs.Reply.{Reply, plain}
 use Rattle.messages.specs.Reply.Body.{Empty, Failure, Told}
-use Rattle.messages.specs.Written.{in_writing, reply_bytes}
+use Rattle.messages.specs.Written.{crlf, in_writing, length_line, line, reply_bytes}
 use Rattle.messages.specs.declared.error.ErrorName.TheVariants as error
 use Rattle.registry_json.specs.declared.spot.Spot.{Spot}
 use Rattle.state_file.specs.declared.fault.StateFault.{StateFault}
@@ -52,6 +52,20 @@ AreShort detail (Some spot) = IsShort detail × IsShort spot
 abbrev pub HasShortTexts : Refusal → Type 0
 HasShortTexts (refusal.For detail spot) = AreShort detail.now (option_copied spot)
 HasShortTexts why = ⊤
+
+-- METRICS
+
+-- they are this text, in the format of Prometheus
+abbrev pub metrics_reply : List ℕ → List ℕ
+metrics_reply text =
+    line (codes "HTTP/1.1 200 OK") ++ line (codes "Content-Type: text/plain; version=0.0.4") ++ line (codes "Cache-Control: no-store")
+    ++ line (codes "Connection: close") ++ length_line (length text) ++ crlf ++ text
+
+-- by whether the operator's key was sent, and by the text, where memory was had for it
+abbrev pub IsScrapeReply : Bool → Option (List ℕ) → List ℕ → Type 0
+IsScrapeReply false text bytes = IsRefusalReply refusal.NoKey bytes
+IsScrapeReply true (Some text) bytes = bytes ≡ metrics_reply text
+IsScrapeReply true None bytes = IsRefusalReply refusal.NotNow bytes
 
 -- WHY A RELOAD IS NOT BEGUN
 

@@ -15,7 +15,7 @@ const REPLY_LIMIT: usize = 32_768;
 /// So many bytes has a short text.
 const TEXT_LIMIT: usize = 512;
 
-/// Why a reload is refused.
+/// Why a reload is refused, or metrics are not told.
 #[derive(Clone, Copy, Debug)]
 pub enum Refusal<'a> {
     /// Without the operator's key.
