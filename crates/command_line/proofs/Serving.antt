@@ -8,7 +8,7 @@ use Rattle.daemon.specs.ByCount.{handed_count}
 use Rattle.daemon.specs.Starts.{handed_anew, handed_on}
 use Rattle.daemon.specs.declared.fault.OpeningFault.{OpeningFault}
 use Rattle.event_loop.specs.declared.limits.Limits.{Limits}
-use Rattle.command_line.specs.Faults.{IsOfListening, IsOfOpening, IsOfService, IsOfServing}
+use Rattle.command_line.specs.Faults.{IsOfListening, IsOfOpening, IsOfService, IsOfServing, IsUnaudited}
 use Rattle.ports.specs.declared.fault.ListenFault.TheVariants.{Unwritten}
 
 -- `start` has its files, where it has all
@@ -67,4 +67,10 @@ pub not_opened : {W E : Type 0} (starts : Startings) (service : Service) (files 
     (address path : List ℕ) (cause : OpeningFault) → address_of service ≡ address → all.given.options.state ≡ Some path → IsUntouched to.err → IsUntouched to.out →
     IsOfOpening address path cause fault → FailsService starts service files fault to
 not_opened starts service files fault to all address path cause there named told mute is =
-    inl (told, inl (mute, inr (inr (record { all = all; path = path; named = named; refused = inr (cause, subst (λ (a : List ℕ). IsOfOpening a path cause fault) (sym there) is) }))))
+    inl (told, inl (mute, inr (inr (inr (record { all = all; path = path; named = named; refused = inr (cause, subst (λ (a : List ℕ). IsOfOpening a path cause fault) (sym there) is) })))))
+
+-- the one in which it is to be told of each request was not
+pub not_audited : {W E : Type 0} (starts : Startings) (service : Service) (files : ServiceFiles) (fault : CommandFault) (to : Outputs W E) (all : HasAll service files) →
+    IsUntouched to.err → IsUntouched to.out → (path : List ℕ) × (all.given.options.audit ≡ Some path) × IsUnaudited path fault → FailsService starts service files fault to
+not_audited starts service files fault to all told mute why =
+    inl (told, inl (mute, inr (inr (inl (record { all = all; path = why.0; named = why.1; refused = why.2 })))))

@@ -1,6 +1,6 @@
 -- What a fault of a layer below is to a service: want of memory is told alike wherever it comes.
-use Rattle.std.specs.Prelude.{◌≡◌, ℕ, List}
-use Rattle.command_line.specs.Names.{CannotListen, CannotWrite, ClockAhead, NoSeed, NoSocket, OutOfMemory, Stopped, Unopened, ListenFault, LifeEnd, CommandFault, Serve, Start}
+use Rattle.std.specs.Prelude.{◌≡◌, ◌≢◌, ℕ, List}
+use Rattle.command_line.specs.Names.{CannotListen, CannotWrite, ClockAhead, NoSeed, NoSocket, OutOfMemory, Stopped, Unaudited, Unopened, ListenFault, LifeEnd, CommandFault, Serve, Start}
 use Rattle.disk_file.specs.declared.faults.OpenFault.TheVariants as opening
 use Rattle.command_line.specs.declared.service.Service.{Service}
 use Rattle.commands.specs.Faults.{IsOfState}
@@ -35,6 +35,11 @@ IsOfOpening address path (Socket cause) fault = IsOfListening address cause faul
 IsOfOpening address path (File opening.Memory) fault = fault ≡ OutOfMemory
 IsOfOpening address path (File cause) (Unopened named told) = (named.now ≡ path) × (told ≡ cause)
 IsOfOpening address path (File cause) fault = ⊥
+
+-- the file at the path, in which it is to be told of each request, is not opened, or memory is refused
+abbrev pub IsUnaudited : List ℕ → CommandFault → Type 0
+IsUnaudited path (Unaudited named cause) = (named.now ≡ path) × (cause ≢ opening.Memory)
+IsUnaudited path fault = fault ≡ OutOfMemory
 
 -- so it is for some cause
 abbrev pub IsNotOpened : List ℕ → List ℕ → CommandFault → Type 0

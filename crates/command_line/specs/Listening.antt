@@ -7,7 +7,7 @@ use Rattle.command_line.specs.declared.call_files.CallFiles.{CallFiles}
 use Rattle.commands.specs.declared.named_file.NamedFile.{NamedFile}
 use Rattle.command_line.specs.declared.service.ServeWords.{ServeWords}
 use Rattle.command_line.specs.declared.service.Service.{Service}
-use Rattle.command_line.specs.Faults.{IsNotOpened, IsOfService}
+use Rattle.command_line.specs.Faults.{IsNotOpened, IsOfService, IsUnaudited}
 use Rattle.daemon.specs.ByCount.{handed_count}
 use Rattle.hook_commands.specs.File.{File}
 use Rattle.command_line.specs.Hooks.{AreFactsOf, HookInFile, in_file, RefusesHooks, TakesHooks}
@@ -86,12 +86,21 @@ pub record LacksState (service : Service) (files : ServiceFiles) (fault : Comman
   pub named : all.given.options.state ≡ Some path
   pub refused : (fault ≡ OutOfMemory) ⊎ IsNotOpened (address_of service) path fault
 
--- a service has no registry, not all of its hooks, or no file of its state
-abbrev pub LacksFile : Service → ServiceFiles → CommandFault → Type 0
-LacksFile service files fault = HoldsNoRegistry (config_of service) (registry_bytes files) fault ⊎ LacksHook service files fault ⊎ LacksState service files fault
+-- `start` has all, and the file in which it is to be told of each request is not opened; or memory is refused before
+pub record LacksAudit (service : Service) (files : ServiceFiles) (fault : CommandFault) : Type 0 where
+  pub all : HasAll service files
+  pub path : List ℕ
+  pub named : all.given.options.audit ≡ Some path
+  pub refused : IsUnaudited path fault
 
--- why a service serves nothing: its registry comes first, then its hooks, then its socket, and then the file of its state. Where it
--- lacks a file, it prints nothing.
+-- a service has no registry, not all of its hooks, no file to tell of requests, or no file of its state
+abbrev pub LacksFile : Service → ServiceFiles → CommandFault → Type 0
+LacksFile service files fault =
+    HoldsNoRegistry (config_of service) (registry_bytes files) fault ⊎ LacksHook service files fault ⊎ LacksAudit service files fault
+    ⊎ LacksState service files fault
+
+-- why a service serves nothing: its registry comes first, then its hooks, then the file in which it is told of each request, then its
+-- socket, and then the file of its state. Where it lacks a file, it prints nothing.
 abbrev pub CannotServe : {W : Type 0} → Service → ServiceFiles → Output W → CommandFault → Type 0
 CannotServe service files out fault = (IsUntouched out × LacksFile service files fault) ⊎ IsDeaf service files out fault
 

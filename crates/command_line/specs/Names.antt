@@ -10,7 +10,7 @@ pub use Rattle.commands.specs.Outputs.{Outputs, IsUntouched, Output, Prints}
 pub use Rattle.commands.specs.Performed.{EndsCommand, TellsFault}
 pub use Rattle.commands.specs.Words.{file_named_by, IsCommand, Arguments}
 pub use Rattle.commands.specs.declared.fault.CommandFault.{CommandFault}
-pub use Rattle.commands.specs.declared.fault.CommandFault.TheVariants.{BadArguments, OutOfMemory, CannotListen, CannotWrite, ClockAhead, NoSeed, NoSocket, Stopped, Unopened, CannotRead, Hook, BadWord, BadCommand, NoAddress, NoConfig}
+pub use Rattle.commands.specs.declared.fault.CommandFault.TheVariants.{BadArguments, OutOfMemory, CannotListen, CannotWrite, ClockAhead, NoSeed, NoSocket, Stopped, Unaudited, Unopened, CannotRead, Hook, BadWord, BadCommand, NoAddress, NoConfig}
 pub use Rattle.commands.specs.declared.status.Status.{Status}
 pub use Rattle.commands.specs.declared.status.Status.TheVariants.{Done}
 pub use Rattle.daemon.specs.Listening.{IsToldBy}

@@ -57,10 +57,10 @@ abbrev pub hooks_installed : Service → List HookSaid
 hooks_installed (Serve given) = []
 hooks_installed (Start given) = given.options.hooks
 
--- the seconds for which its server is patient, 60 and 5 where they are left out, those from report to report, and by how many
--- the clock may be ahead
+-- the seconds for which its server is patient, 60 and 5 where they are left out, and by how many the clock may be ahead; it is measured
+-- each second
 abbrev pub limits_of : Said → Limits
-limits_of said = record { idle = unwrap_or said.silence 60; crowded = unwrap_or said.full 5; report = said.report; ahead = clock_limit said.clock }
+limits_of said = record { idle = unwrap_or said.silence 60; crowded = unwrap_or said.full 5; report = Some 1; ahead = clock_limit said.clock }
 
 -- the path of the registry's file
 abbrev pub config_of : Service → List ℕ

@@ -5,10 +5,12 @@ use Rattle.std.specs.declared.fs.File.{File}
 use Rattle.batch_file.specs.declared.device.Device.{Ghosts as Device}
 use Rattle.disk_file.specs.declared.file.DiskFile.{DiskFile}
 use Rattle.daemon.specs.ByCount.{HandedCount, ServesCount}
-use Rattle.daemon.specs.Starts.{HandedAnew, HandedOn, LivesInRow, ServesAnew, handed_anew, handed_on}
-use Rattle.daemon.specs.declared.line_journal.LineJournal.{LineJournal}
+use Rattle.daemon.specs.Onward.{LivesInRow}
+use Rattle.daemon.specs.Starts.{HandedAnew, HandedOn, ServesAnew, handed_anew, handed_on}
+use Rattle.line_journal.specs.declared.line_journal.LineJournal.{LineJournal}
 use Rattle.daemon.specs.declared.machine_clock.MachineClock.{MachineClock}
 use Rattle.daemon.specs.declared.starting.Served.{Served}
+use Rattle.daemon.specs.declared.starting.ServedOn.{ServedOn}
 use Rattle.daemon.specs.declared.starting.StateTerms.{StateTerms}
 use Rattle.daemon.specs.declared.starting.Terms.{Terms}
 use Rattle.desk.specs.declared.candidate.Candidate.{Candidate}
@@ -43,7 +45,7 @@ abbrev pub startings : {R E S B : Type 0} → Device (DiskFile R File B) → Jou
 startings {R} {E} {S} {B} disk journal streams = record {
   by_count = ServesCount streams (machine_clock R);
   anew = λ handed cause. (served : Served R) × (served.fault ≡ cause) × ServesAnew journal handed served;
-  on_state = λ handed told end. LivesInRow disk journal handed told end;
+  on_state = λ handed told end. (served : ServedOn R B) × (served.end ≡ end) × LivesInRow disk journal handed told served;
 }
 
 -- it is started anew, prints where it listens, and serves

@@ -1,10 +1,10 @@
 //! The program without its surroundings: words in, lines and a status out.
 
-ghost use Rattle.std.specs.Prelude.{◌≡◌, ◌⊎◌, OnOk, IfErr};
+ghost use Rattle.std.specs.Prelude.{◌≡◌, ◌⊎◌, ℕ, List, Some, OnOk, IfErr, IfOk, is_some};
 ghost use Rattle.daemon.specs.ByCount.{ServesCount, handed_count};
 ghost use Rattle.daemon.specs.Starts.{handed_anew};
 ghost use Rattle.command_line.specs.Endings.{EndsCall, EndsWords};
-ghost use Rattle.command_line.specs.Faults.{IsOfServing};
+ghost use Rattle.command_line.specs.Faults.{IsOfServing, IsUnaudited};
 ghost use Rattle.ports.specs.Listening.{Announces};
 ghost use Rattle.command_line.specs.Listening.{EndsService, FailsService, files_in, ServeEnded};
 ghost use Rattle.commands.specs.Outputs.{output, outputs};
@@ -22,15 +22,17 @@ use batch_file::device::Device;
 use clients::Registry;
 use commands::{CommandFault, Printer, Status, candidate_in, moment_now, perform_command, told};
 use daemon::{
-    LineJournal, ListenFault, MachineClock, OpeningFault, StateTerms, Terms, serve, start, start_on,
+    AuditLog, LineJournal, ListenFault, MachineClock, OpeningFault, StateTerms, Terms, serve,
+    start, start_on,
 };
 use desk::Candidate;
-use disk_file::{Before, DiskFile};
+use disk_file::{Before, DiskFile, OpenFault};
 use event_loop::{Journal, Limits};
 use hook_chain::Chain;
 use serving::Stream;
 use start_words::Options;
 use std::fs::File;
+use std::io::Stdout;
 use std::net::Net;
 use std::random::RandomSource;
 use std::rt::{Clock, Files};
@@ -48,10 +50,7 @@ fn limits_of(options: &Options<'_>) -> Limits
     Limits {
         idle: u64::from(options.silence()),
         crowded: u64::from(options.full()),
-        report: match options.report() {
-            Some(seconds) => Some(u64::from(seconds)),
-            None => None,
-        },
+        report: Some(1),
         ahead: options.ahead(),
     }
 }
@@ -88,6 +87,7 @@ fn start_anew<
     terms: Terms<'w>,
     registry: Registry,
     hooks: Chain,
+    audit: Option<AuditLog>,
     out: &mut W,
     err: &mut E,
 ) -> CommandFault<'w>
@@ -95,7 +95,7 @@ fn start_anew<
         ⊎ EndsAnew (startings ⟦<Disk<'r, R, B> as Device>⟧ ⟦<Lines<'e, E> as Journal>⟧ ⟦<R::Stream as Stream>⟧)
         (handed_anew registry hooks terms.entry.limits) result (output W.contents W.writes out.old out.new) }
 {
-    match start(rt, terms, registry, hooks, out, err) {
+    match start(rt, terms, registry, hooks, audit, out, err) {
         Ok(served) => CommandFault::Stopped(served.fault, None),
         Err(fault) => deaf(terms.address, fault),
     }
@@ -113,8 +113,9 @@ fn start_on_state<
 >(
     rt: &'r R,
     terms: Terms<'w>,
-    state: StateTerms<'w, '_>,
+    state: StateTerms<'w, 'w, '_>,
     candidate: Candidate,
+    audit: Option<AuditLog>,
     out: &mut W,
     err: &mut E,
 ) -> CommandFault<'w>
@@ -122,9 +123,28 @@ fn start_on_state<
         ⊎ EndsOn (startings ⟦<Disk<'r, R, B> as Device>⟧ ⟦<Lines<'e, E> as Journal>⟧ ⟦<R::Stream as Stream>⟧) state.entry.path.now
         (handed_by candidate terms.entry state.entry) result (output W.contents W.writes out.old out.new) }
 {
-    match start_on::<_, _, _, B>(rt, terms, state, candidate, out, err) {
-        Ok(end) => end_of(state.path, end),
+    match start_on::<_, _, _, B>(rt, terms, state, candidate, audit, out, err) {
+        Ok(served) => end_of(state.path, served.end),
         Err(fault) => unopened(terms.address, state.path, fault),
+    }
+}
+
+/// Where it is told of each request, where options name a file or standard output.
+fn audit_of<'w, R: Files<File = File> + Net + AllocGlobal>(
+    rt: &R,
+    options: &Options<'w>,
+    stdout: Stdout,
+) -> Result<Option<AuditLog>, CommandFault<'w>>
+    ensures opened { IfOk result (λ log. is_some log ≡ is_some options.now.audit) }
+    ensures refused { IfErr result (λ fault. (path : List ℕ) × (options.now.audit ≡ Some path) × IsUnaudited path fault) }
+{
+    let Some(path) = options.audit() else {
+        return Ok(None);
+    };
+    match AuditLog::open(rt, path, stdout) {
+        Ok(log) => Ok(Some(log)),
+        Err(OpenFault::Memory) => Err(CommandFault::OutOfMemory),
+        Err(fault) => Err(CommandFault::Unaudited(path, fault)),
     }
 }
 
@@ -149,6 +169,7 @@ fn serve_as<
     rt: &'r R,
     service: &Service<'w>,
     files: CallFiles<'w>,
+    stdout: Stdout,
     out: &mut W,
     err: &mut E,
 ) -> Result<(), CommandFault<'w>>
@@ -167,13 +188,15 @@ fn serve_as<
     };
     let HooksTaken { chain, codes } = take_hooks(rt.alloc(), &hooks)?;
     let options = &given.options;
+    let audit = audit_of(rt, options, stdout)?;
     let terms = Terms {
         address: given.address,
         limits: limits_of(options),
+        report: options.report().map(u64::from),
     };
     let Some(path) = options.state() else {
         let registry = registry_alone(candidate);
-        return Err(start_anew::<_, _, _, B>(rt, terms, registry, chain, out, err));
+        return Err(start_anew::<_, _, _, B>(rt, terms, registry, chain, audit, out, err));
     };
     let hooks = kept_hooks(rt.alloc(), &codes)?;
     let state = StateTerms {
@@ -181,10 +204,11 @@ fn serve_as<
         config: service.config(),
         hooks: &hooks,
     };
-    Err(start_on_state::<_, _, _, B>(rt, terms, state, candidate, out, err))
+    Err(start_on_state::<_, _, _, B>(rt, terms, state, candidate, audit, out, err))
 }
 
-/// Serves, and says how the program then ends. `files` are what stands in the files that the service names.
+/// Serves, and says how the program then ends. `files` are what stands in the files that the service names; `stdout` is standard output,
+/// where it may be told of requests.
 pub fn perform_service<
     'r,
     'e,
@@ -192,12 +216,19 @@ pub fn perform_service<
     W: Printer,
     E: Printer + 'e,
     B: Before,
->(rt: &'r R, service: &Service<'_>, files: CallFiles<'_>, out: &mut W, err: &mut E) -> Status
+>(
+    rt: &'r R,
+    service: &Service<'_>,
+    files: CallFiles<'_>,
+    stdout: Stdout,
+    out: &mut W,
+    err: &mut E,
+) -> Status
     ensures { let to = outputs (output W.contents W.writes out.old out.new) (output E.contents E.writes err.old err.new) in
         IsUnwritten result to ⊎ EndsService (startings ⟦<Disk<'r, R, B> as Device>⟧ ⟦<Lines<'e, E> as Journal>⟧ ⟦<R::Stream as Stream>⟧)
         service.now (files_in files.entry) result to }
 {
-    match serve_as::<_, _, _, B>(rt, service, files, out, err) {
+    match serve_as::<_, _, _, B>(rt, service, files, stdout, out, err) {
         Ok(()) => Status::Done,
         Err(fault) => told(fault, err),
     }
@@ -211,7 +242,14 @@ fn perform_call<
     W: Printer,
     E: Printer + 'e,
     B: Before,
->(rt: &'r R, call: &Call<'_>, files: CallFiles<'_>, out: &mut W, err: &mut E) -> Status
+>(
+    rt: &'r R,
+    call: &Call<'_>,
+    files: CallFiles<'_>,
+    stdout: Stdout,
+    out: &mut W,
+    err: &mut E,
+) -> Status
     ensures { let to = outputs (output W.contents W.writes out.old out.new) (output E.contents E.writes err.old err.new) in
         IsUnwritten result to ⊎ EndsCall (startings ⟦<Disk<'r, R, B> as Device>⟧ ⟦<Lines<'e, E> as Journal>⟧ ⟦<R::Stream as Stream>⟧)
         call.now (files_in files.entry) result to }
@@ -222,12 +260,14 @@ fn perform_call<
             perform_command(rt.alloc(), *command, file, moment_now(rt), out, err)
         }
         Call::State(command) => perform_state(rt, *command, files.named, out, err),
-        Call::Service(service) => perform_service::<_, _, _, B>(rt, service, files, out, err),
+        Call::Service(service) => perform_service::<_, _, _, B>(
+            rt, service, files, stdout, out, err,
+        ),
     }
 }
 
 /// Does what words call for, and says how the program then ends. `words` are those behind the program's name. They are read
-/// first, and then the files that they name.
+/// first, and then the files that they name. `stdout` is standard output, where a server may tell of requests.
 pub fn perform<
     'r,
     'e,
@@ -235,7 +275,7 @@ pub fn perform<
     W: Printer,
     E: Printer + 'e,
     B: Before,
->(rt: &'r R, words: &[String], out: &mut W, err: &mut E) -> Status
+>(rt: &'r R, words: &[String], stdout: Stdout, out: &mut W, err: &mut E) -> Status
     ensures { let to = outputs (output W.contents W.writes out.old out.new) (output E.contents E.writes err.old err.new) in
         IsUnwritten result to ⊎ EndsWords (startings ⟦<Disk<'r, R, B> as Device>⟧ ⟦<Lines<'e, E> as Journal>⟧ ⟦<R::Stream as Stream>⟧)
         words.now result to }
@@ -245,7 +285,7 @@ pub fn perform<
         Err(fault) => return told(fault, err),
     };
     match read_files(rt, &call) {
-        Ok(files) => perform_call::<_, _, _, B>(rt, &call, files, out, err),
+        Ok(files) => perform_call::<_, _, _, B>(rt, &call, files, stdout, out, err),
         Err(fault) => told(fault, err),
     }
 }

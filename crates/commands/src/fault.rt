@@ -61,6 +61,8 @@ pub enum CommandFault<'w> {
     StateAt(usize, StateFault),
     /// The state file of this path is not opened.
     Unopened(&'w str, OpenFault),
+    /// The file of this path, in which it is to be told of each request, is not opened.
+    Unaudited(&'w str, OpenFault),
     /// No state file is made at this path.
     Unmade(&'w str, MakeFault),
     /// The clock is so many seconds ahead of the state in the file of this path.
@@ -142,6 +144,7 @@ impl<'w> CommandFault<'w> {
                 let advice = advice_on_opening(fault);
                 write!(f, "State {fault}: {path}{advice}")
             }
+            CommandFault::Unaudited(path, fault) => write!(f, "audit {fault}: {path}"),
             CommandFault::Unmade(path, fault) => write!(f, "State {fault}: {path}"),
             CommandFault::ClockAhead(path, seconds) => {
                 let advice = "; --accept-clock takes it";

@@ -1,15 +1,16 @@
 -- What stays where somebody asks for a reload.
-use Rattle.std.proofs.Common.{◌≡◌, ◌∙◌, Bool, true, false, List, ℕ, Option, None, Some, ap, inl, inr, subst, sym}
+use Rattle.std.proofs.Common.{◌≡◌, ◌∙◌, Bool, true, false, List, ℕ, Option, None, Some, ap, drop, inl, inr, map, refl, subst, sym, take}
 use Rattle.std.proofs.lemmas.Bool.{false≢true}
 use Rattle.std.specs.Option.{option_map_or}
-use Rattle.std.specs.Prelude.{codes, option_map}
+use Rattle.std.specs.Char.{to_ascii_lowercase}
+use Rattle.std.specs.Prelude.{◌&&◌, ◌||◌, IfSome, bytes_eq, codes, option_map}
 use Rattle.clients.specs.Registry.{is_key_of}
-use Rattle.heads.specs.Fields.{field_value}
-use Rattle.heads.specs.Message.{head_fields}
-use Rattle.desk.specs.Judging.{IsJudged}
+use Rattle.heads.specs.Message.{asked_of_message}
+use Rattle.desk.specs.Judging.{IsJudged, bears_key, has_operator_key}
 use Rattle.desk.specs.declared.judging.Judged.{Judged}
-use Rattle.desk.specs.declared.judging.Judged.TheVariants.{Asks}
-use Rattle.daemon.specs.Reloading.{IsAsked, IsSent, KeepsServing, KeepsWanted, Replies, begins, no_key, no_state, not_begun, not_now, untold_of}
+use Rattle.desk.specs.declared.judging.Judged.TheVariants.{Asks, AsksMetrics}
+use Rattle.daemon.specs.Reloading.{AreHeirs, IsAsked, IsSent, KeepsServing, KeepsWanted, Replies, begins, no_key, no_state, not_begun, not_now, untold_of}
+use Rattle.daemon.specs.Scraping.{IsScraped}
 use Rattle.daemon.specs.declared.reloads.Reloads.{Reloads}
 
 -- what is told to be the operator's key was sent
@@ -17,11 +18,33 @@ of_field : (key : List ℕ) (field : Option (List ℕ)) → option_map_or (λ te
 of_field key (Some text) is = (text, is)
 of_field key None is = absurd (false≢true is)
 
+second_holds : (a b : Bool) → (a && b) ≡ true → b ≡ true
+second_holds true b is = is
+second_holds false b is = absurd (false≢true is)
+
+-- also behind `Bearer`
+of_header : (key : List ℕ) (header : Option (List ℕ)) → option_map_or (bears_key key) header false ≡ true → IsSent key
+of_header key (Some header) is =
+    (drop 7 header, second_holds (bytes_eq (map to_ascii_lowercase (take 7 header)) (codes "bearer ")) (is_key_of (drop 7 header) key) is)
+of_header key None is = absurd (false≢true is)
+
+of_either : (key : List ℕ) (own : Bool) (header : Option (List ℕ)) → (own ≡ true → IsSent key) → (own || option_map_or (bears_key key) header false) ≡ true → IsSent key
+of_either key true header sent is = sent refl
+of_either key false header sent is = of_header key header is
+
 sent_of : (bytes key : List ℕ) (with_key : Bool) → IsJudged bytes key (Asks with_key) → with_key ≡ true → IsSent key
-sent_of bytes key with_key asks is = of_field key (field_value (codes "x-operator-key") (head_fields asks.0.message.head)) (sym asks.1 ∙ is)
+sent_of bytes key with_key asks is = of_field key (asked_of_message asks.0.message).operator_key (sym asks.1 ∙ is)
+
+sent_for_metrics : (bytes key : List ℕ) (with_key : Bool) → IsJudged bytes key (AsksMetrics with_key) → with_key ≡ true → IsSent key
+sent_for_metrics bytes key with_key asks is =
+    let asked = asked_of_message asks.0.message in
+    of_either key (has_operator_key asked key) asked.authorization (of_field key asked.operator_key) (sym asks.1 ∙ is)
 
 pub sent_by : (bytes key : List ℕ) (judged : Judged) → IsJudged bytes key judged → (with_key : Bool) → judged ≡ Asks with_key → with_key ≡ true → IsSent key
 sent_by bytes key judged is with_key same = sent_of bytes key with_key (subst (λ (j : Judged). IsJudged bytes key j) same is)
+
+pub sent_too_by : (bytes key : List ℕ) (judged : Judged) → IsJudged bytes key judged → (with_key : Bool) → judged ≡ AsksMetrics with_key → with_key ≡ true → IsSent key
+sent_too_by bytes key judged is with_key same = sent_for_metrics bytes key with_key (subst (λ (j : Judged). IsJudged bytes key j) same is)
 
 module _ {R : Type 0} (old new : Reloads R) where
   by_reply : (IsSo : List ℕ → Type 0) → Replies IsSo old new → KeepsServing old new
@@ -44,4 +67,14 @@ module _ {R : Type 0} (old new : Reloads R) where
   wanted_of with_key sent (no_state key config replies) = unmoved _ replies
   wanted_of with_key sent (not_now key config wanted replies) = unmoved _ replies
   wanted_of with_key sent (not_begun key config unwanted why replies) = unmoved _ replies
-  wanted_of with_key sent (begins is) = inr (is.first, sent is.key)
+  wanted_of with_key sent (begins is) = inr (record {
+    first = is.first;
+    sent = sent is.key;
+    heirs = subst (λ (r : Reloads R). IfSome r.wanted (λ wanted. AreHeirs old.text.items wanted.heirs)) (sym is.same) is.heirs;
+  })
+
+  pub serving_told : (with_key : Bool) → IsScraped with_key old new → KeepsServing old new
+  serving_told with_key told = by_reply _ told.replied
+
+  pub wanted_told : (with_key : Bool) → IsScraped with_key old new → KeepsWanted old new
+  wanted_told with_key told = unmoved _ told.replied

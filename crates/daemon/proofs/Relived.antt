@@ -1,45 +1,62 @@
--- Lives behind others, as they are told apart from what they left.
-use Rattle.std.proofs.Common.{◌≡◌, List, [], refl, subst, sym}
+-- Lives behind others.
+use Rattle.std.proofs.Common.{◌≡◌, ◌+◌, ℕ, None, Ok, arith, subst, sym}
+use Rattle.std.specs.Global.{Vec}
 use Rattle.std.specs.declared.fs.File.{File}
 use Rattle.batch_file.specs.declared.device.Device.{Ghosts as Device}
+use Rattle.clients.specs.Registry.{registry_in}
+use Rattle.desk.specs.declared.candidate.Candidate.{Candidate}
 use Rattle.event_loop.specs.declared.limits.Limits.{Limits}
 use Rattle.outside.specs.declared.journal.Journal.{Ghosts as Journal}
 use Rattle.disk_file.specs.declared.file.DiskFile.{DiskFile}
-use Rattle.daemon.specs.Calls.{Logged}
 use Rattle.lifetime.specs.declared.life.LifeEnd.{LifeEnd}
-use Rattle.daemon.specs.Reliving.{LivesAs, Relives, by_former, by_next, left_by}
-use Rattle.daemon.specs.Starts.{Follows, GoesBy, HandedOn, HasLivedBy, LivesOnward, MachineLife, goes_back, goes_on, handed_on, is_last}
-use Rattle.daemon.specs.declared.line_journal.LineJournal.{LineJournal}
+use Rattle.daemon.specs.Onward.{Follows, LivesOnward, follows, is_last}
+use Rattle.daemon.specs.Reliving.{AreOf, LivesAs, Relives}
+use Rattle.daemon.specs.Starts.{MachineLife}
+use Rattle.line_journal.specs.declared.line_journal.LineJournal.{LineJournal}
 use Rattle.daemon.specs.declared.reliving.Estate.{Estate}
-use Rattle.daemon.specs.declared.reliving.Leaving.{Leaving}
+use Rattle.daemon.specs.declared.reliving.Relived.{Relived}
 use Rattle.daemon.specs.declared.reloads.Heir.{Heir}
 use Rattle.daemon.specs.declared.reloads.Heirs.{Heirs}
+use Rattle.daemon.specs.declared.reloads.Reloads.{Reloads}
 
-module _ {R E B : Type 0} (disk : Device (DiskFile R File B)) (journal : Journal (LineJournal E)) (limits : Limits) (handed : HandedOn) (same : handed.limits ≡ limits) where
-  -- an heir's registry is one that its text says
-  by_heir : (heir : Heir R) → GoesBy handed (handed_on heir.candidate.registry [] limits)
-  by_heir heir = record { text = heir.candidate.text.items; registry = heir.candidate.said; hooks = refl; limits = sym same }
+-- what reloads are made of a candidate are those of its registry
+pub are_of : {R : Type 0} (candidate : Candidate) (made reloads : Reloads R) → reloads ≡ made → made.text ≡ candidate.text → made.key ≡ candidate.registry.operator → made.wanted ≡ None →
+    AreOf candidate.registry reloads
+are_of {R} candidate made reloads same text key none = subst (AreOf candidate.registry) (sym same) (record {
+  key = key;
+  said = subst (λ (t : Vec ℕ). registry_in t.items ≡ Ok candidate.registry) (sym text) candidate.said;
+  unwanted = none;
+})
 
-  has_lived : (heir : Heir R) (estate : Estate R E B) (life : MachineLife R E B) → LivesAs disk journal limits heir estate life →
-      HasLivedBy disk journal (handed_on heir.candidate.registry [] limits) life
-  has_lived heir estate life lived = (lived.random, lived.lives)
-
-  pub follows_of : (heirs : Heirs R) (estate : Estate R E B) (calls : List Logged) (life : MachineLife R E B) → Relives disk journal limits heirs estate calls life →
-      Follows disk journal handed life
-  follows_of heirs estate calls _ (by_next life lived told) = goes_on _ life (by_heir heirs.next) (has_lived heirs.next estate life lived)
-  follows_of heirs estate calls _ (by_former tried life fault lived is told lived_then) =
-      goes_back _ _ tried life fault (by_heir heirs.next) (has_lived heirs.next estate tried lived) is (by_heir heirs.former) (has_lived heirs.former _ life lived_then)
-
-module _ {R E B : Type 0} (disk : Device (DiskFile R File B)) (journal : Journal (LineJournal E)) where
+module _ {R E B : Type 0} (disk : Device (DiskFile R File B)) (journal : Journal (LineJournal E)) (limits : Limits) where
   -- a life on what another one left
-  pub on_left : (limits : Limits) (heir : Heir R) (one other : Leaving R E B) (life : MachineLife R E B) → one ≡ other → LivesAs disk journal limits heir one.estate life →
-      LivesAs disk journal limits heir other.estate life
-  on_left limits heir one other life = subst (λ (left : Leaving R E B). LivesAs disk journal limits heir left.estate life)
+  pub on_left : (heir : Heir R) (one other : Estate R E B) (life : MachineLife R E B) → one ≡ other → LivesAs disk journal limits heir one life →
+      LivesAs disk journal limits heir other life
+  on_left heir one other life = subst (λ (estate : Estate R E B). LivesAs disk journal limits heir estate life)
 
-  -- what comes of what is left of a life, comes of it
-  pub onward_of : (handed : HandedOn) (left : Leaving R E B) (life : MachineLife R E B) (end : LifeEnd) → left ≡ left_by life → LivesOnward disk journal handed left.end end →
-      LivesOnward disk journal handed life.end end
-  onward_of handed left life end = subst (λ (l : Leaving R E B). LivesOnward disk journal handed l.end end)
+  pub relives_on : (heirs : Heirs R) (one other : Estate R E B) (Tells : LifeEnd → Type 0) (life : MachineLife R E B) → one ≡ other →
+      Relives disk journal limits heirs one Tells life → Relives disk journal limits heirs other Tells life
+  relives_on heirs one other Tells life = subst (λ (estate : Estate R E B). Relives disk journal limits heirs estate Tells life)
 
-  pub last_of : (handed : HandedOn) (one other : LifeEnd) → other ≡ one → LivesOnward disk journal handed one other
-  last_of handed one other same = subst (λ (e : LifeEnd). LivesOnward disk journal handed one e) (sym same) (is_last one)
+  -- whatever row goes on from a life, goes on from the first one, by so many reloads more
+  abbrev pub LeadsTo : (before : ℕ) (first one : Relived R E B) → Type 0
+  LeadsTo before first one = (count : ℕ) (last : Relived R E B) → LivesOnward disk journal limits last count one → LivesOnward disk journal limits last (before + count) first
+
+  -- none yet
+  pub at_first : (first : Relived R E B) → LeadsTo 0 first first
+  at_first first = λ count last onward.
+      let same : count ≡ 0 + count = omega arith in
+      subst (λ (n : ℕ). LivesOnward disk journal limits last n first) same onward
+
+  -- one reload more
+  pub one_more : (before : ℕ) (first one next : Relived R E B) → LeadsTo before first one → Follows disk journal limits one next → LeadsTo (before + 1) first next
+  one_more before first one next ahead behind = λ count last onward.
+      let same : before + (count + 1) ≡ before + 1 + count = omega arith in
+      subst (λ (n : ℕ). LivesOnward disk journal limits last n first) same (ahead (count + 1) last (follows count one next behind onward))
+
+  -- no more of them
+  pub to_last : (before : ℕ) (first one last : Relived R E B) → LeadsTo before first one → last ≡ one → LivesOnward disk journal limits last before first
+  to_last before first one last ahead same =
+      let none : before + 0 ≡ before = omega arith in
+      subst (λ (n : ℕ). LivesOnward disk journal limits last n first) none
+      (ahead 0 last (subst (λ (r : Relived R E B). LivesOnward disk journal limits last 0 r) same is_last))

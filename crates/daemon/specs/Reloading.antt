@@ -40,9 +40,15 @@ untold_of wanted = record wanted { told = false }
 abbrev pub IsSent : List ℕ → Type 0
 IsSent key = (text : List ℕ) × (is_key_of text key ≡ true)
 
--- a reload that is under way stays so, by whoever asked for it; and none begins but by the operator's key
+-- none was under way, and one begins by the operator's key, by heirs of the registry by which the server goes
+pub record Begins {R : Type 0} (old new : Reloads R) : Type 0 where
+  pub first : old.wanted ≡ None
+  pub sent : IsSent old.key
+  pub heirs : IfSome new.wanted (λ wanted. AreHeirs old.text.items wanted.heirs)
+
+-- a reload that is under way stays so, by whoever asked for it; and none begins but so
 abbrev pub KeepsWanted : {R : Type 0} → Reloads R → Reloads R → Type 0
-KeepsWanted old new = (option_map untold_of new.wanted ≡ option_map untold_of old.wanted) ⊎ ((old.wanted ≡ None) × IsSent old.key)
+KeepsWanted old new = (option_map untold_of new.wanted ≡ option_map untold_of old.wanted) ⊎ Begins old new
 
 -- It is refused, and that is replied, if memory is had for it: nothing else is another.
 pub record Replies {R : Type 0} (IsSo : List ℕ → Type 0) (old new : Reloads R) : Type 0 where

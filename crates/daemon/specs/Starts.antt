@@ -1,11 +1,6 @@
 -- What comes of a server that is started on the machine.
-use Rattle.std.specs.Prelude.{◌≡◌, ℕ, List, [], Option, Ok}
-use Rattle.batch_file.specs.declared.appending.BatchFault.{BatchFault}
-use Rattle.clients.specs.Registry.{registry_in}
-use Rattle.outside.specs.declared.fault.LoopFault.TheVariants.{Reload}
+use Rattle.std.specs.Prelude.{◌≡◌, ℕ, List, []}
 use Rattle.lifetime.specs.declared.life.LifeEnd.{LifeEnd}
-use Rattle.lifetime.specs.declared.life.LifeEnd.TheVariants.{Refused, Stopped}
-use Rattle.state_file.specs.declared.fault.StateFault.{StateFault}
 use Rattle.std.specs.declared.fs.File.{File}
 use Rattle.disk_file.specs.Calls.{only_opened}
 use Rattle.batch_file.specs.declared.device.Device.{Ghosts as Device}
@@ -27,7 +22,7 @@ use Rattle.lifetime.specs.declared.life.Life.{Life}
 use Rattle.lifetime.specs.declared.means.Means.{Means}
 use Rattle.daemon.specs.Noting.{NotesCall, NotesTimes}
 use Rattle.daemon.specs.Seeds.{IsSeeded}
-use Rattle.daemon.specs.declared.line_journal.LineJournal.{LineJournal}
+use Rattle.line_journal.specs.declared.line_journal.LineJournal.{LineJournal}
 use Rattle.daemon.specs.declared.machine_clocks.MachineClocks.{MachineClocks}
 use Rattle.daemon.specs.declared.machine_random.MachineRandom.{MachineRandom}
 use Rattle.daemon.specs.declared.sockets.MachineSockets.{MachineSockets}
@@ -105,39 +100,6 @@ pub record LivesOn {R E B : Type 0} (disk : Device (DiskFile R File B)) (journal
   pub life : IsLife (life_promises disk noting_sockets noting_clocks journal) (given file bytes handed.registry handed.hooks means)
       (record { end = lived.end; device = lived.device; sockets = lived.sockets; clocks = lived.clocks; journal = lines })
 
--- ONE LIFE BEHIND ANOTHER
-
--- the life ended for a reload
-abbrev pub EndsForReload : LifeEnd → Type 0
-EndsForReload end = (why : Option BatchFault) × (end ≡ Stopped Reload why)
-
--- a later life goes by a registry that some text says, with no hooks but those of its file, and by the same limits
-pub record GoesBy (handed later : HandedOn) : Type 0 where
-  pub text : List ℕ
-  pub registry : registry_in text ≡ Ok later.registry
-  pub hooks : later.hooks ≡ []
-  pub limits : later.limits ≡ handed.limits
-
 -- a life went so, on the file as it was found
 abbrev pub HasLivedBy : {R E B : Type 0} → Device (DiskFile R File B) → Journal (LineJournal E) → HandedOn → MachineLife R E B → Type 0
 HasLivedBy {R} disk journal handed life = (random : MachineRandom R) × LivesOn disk journal handed (lived_of life random)
-
--- Behind a life that ended for a reload another one went so, by a registry that some text says; or that was refused, which left the
--- file as it was, and another one went by another registry.
-pub data Follows {R E B : Type 0} (disk : Device (DiskFile R File B)) (journal : Journal (LineJournal E)) (handed : HandedOn) : MachineLife R E B → Type 0 where
-  goes_on : (later : HandedOn) (life : MachineLife R E B) → GoesBy handed later → HasLivedBy disk journal later life → Follows disk journal handed life
-  goes_back : (refused later : HandedOn) (not life : MachineLife R E B) (fault : StateFault) → GoesBy handed refused → HasLivedBy disk journal refused not → not.end ≡ Refused fault →
-      GoesBy handed later → HasLivedBy disk journal later life → Follows disk journal handed life
-
--- Lives follow a life as long as one ended for a reload. The last of them ended so.
-pub data LivesOnward {R E B : Type 0} (disk : Device (DiskFile R File B)) (journal : Journal (LineJournal E)) (handed : HandedOn) : LifeEnd → LifeEnd → Type 0 where
-  is_last : (end : LifeEnd) → LivesOnward disk journal handed end end
-  follows : (end : LifeEnd) (later : MachineLife R E B) (last : LifeEnd) → EndsForReload end → Follows disk journal handed later →
-      LivesOnward disk journal handed later.end last → LivesOnward disk journal handed end last
-
--- The first life goes by what it was handed, and that is told of it; others may follow.
-pub record LivesInRow {R E B : Type 0} (disk : Device (DiskFile R File B)) (journal : Journal (LineJournal E)) (handed : HandedOn) (Tells : LifeEnd → Type 0) (end : LifeEnd) : Type 0 where
-  pub first : MachineLife R E B
-  pub lives : HasLivedBy disk journal handed first
-  pub told : Tells first.end
-  pub onward : LivesOnward disk journal handed first.end end

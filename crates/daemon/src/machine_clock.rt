@@ -20,3 +20,8 @@ impl<'r, R: rt::Clock> Clock for MachineClock<'r, R> {
         }
     }
 }
+
+/// The time of day, if the machine tells it.
+pub(crate) fn moment_now<R: rt::Clock>(rt: &R) -> Option<Moment> {
+    MachineClock(rt).now()
+}

@@ -1,13 +1,12 @@
 //! One life behind another, on the same file and by the same sockets.
 
-ghost use Rattle.std.specs.Prelude.{◌≡◌, ◌↔◌, IsTrue, IfOk, IfErr, OnOk};
+ghost use Rattle.std.specs.Prelude.{◌≡◌, ◌↔◌, None, IsTrue, IfOk, IfErr};
 ghost use Rattle.lifetime.specs.Openings.{IsOpenedBy};
+ghost use Rattle.daemon.specs.Onward.{EndsForReload, Follows, LivesTo};
 ghost use Rattle.daemon.specs.Reloading.{IsGranted};
-ghost use Rattle.daemon.specs.Reliving.{LivesAs, Relives, left_by};
-ghost use Rattle.daemon.specs.Starts.{EndsForReload, Follows, HandedOn, LivesOnward};
+ghost use Rattle.daemon.specs.Reliving.{IsToldOf, LivesAs, Relives, estate_of};
 
 use crate::call_log::CallLog;
-use crate::line_journal::LineJournal;
 use crate::machine_clocks::MachineClocks;
 use crate::reloads::{Heir, Heirs, Reloads, Wanted};
 use crate::resumption::Resumption;
@@ -18,6 +17,7 @@ use desk::{Candidate, Reloaded};
 use disk_file::{Before, DiskFile, DiskSource};
 use event_loop::{Journal, Limits, LoopFault};
 use lifetime::{Life, LifeEnd, Planned, live, plan_of};
+use line_journal::LineJournal;
 use ports::Ports;
 use std::fs::File;
 use std::io::Write;
@@ -42,12 +42,11 @@ struct Estate<'r, 'w, 'e, R, E, B> {
     journal: LineJournal<'e, E>,
 }
 
-/// What is left of a life: how it ended, what it leaves, and the reload that was wanted, if one was.
+/// A life, and what those were replied who asked for the reloads before it.
 #[derive(Drop)]
-struct Leaving<'r, 'w, 'e, R, E, B> {
-    end: LifeEnd,
-    estate: Estate<'r, 'w, 'e, R, E, B>,
-    wanted: Option<Wanted<'r, R>>,
+pub(crate) struct Relived<'r, 'w, 'e, R, E, B> {
+    pub life: MachineLife<'r, 'w, 'e, R, E, B>,
+    pub replies: CallLog,
 }
 
 /// Whether a life ended for a reload.
@@ -63,30 +62,25 @@ fn is_for_reload(end: &LifeEnd) -> bool
     )
 }
 
-/// What is left of a life.
-fn left_of<'r, 'w, 'e, R, E, B>(
+/// What a life leaves to another one.
+fn estate_of<'r, 'w, 'e, R, E, B>(
     life: MachineLife<'r, 'w, 'e, R, E, B>,
-) -> Leaving<'r, 'w, 'e, R, E, B>
-    ensures { result ≡ left_by life.entry }
+) -> Estate<'r, 'w, 'e, R, E, B>
+    ensures { result ≡ estate_of life.entry }
 {
     let Life {
-        end,
+        end: _end,
         device,
         sockets,
         clocks: _clocks,
         journal,
     } = life;
     let Left { ports, reloads } = sockets.left();
-    let config = reloads.config();
-    Leaving {
-        end,
-        estate: Estate {
-            device,
-            ports,
-            config,
-            journal,
-        },
-        wanted: reloads.wanted(),
+    Estate {
+        device,
+        ports,
+        config: reloads.config(),
+        journal,
     }
 }
 
@@ -123,13 +117,6 @@ fn live_by<
     live(rt.alloc(), source.into_device(), plan, means, opening)
 }
 
-/// A life behind another one, and what was replied to who asked for it.
-#[derive(Drop)]
-struct Relived<'r, 'w, 'e, R, E, B> {
-    life: MachineLife<'r, 'w, 'e, R, E, B>,
-    log: CallLog,
-}
-
 /// Another life, behind one that ended for a reload: by the registry's file as it was then, or by the registry as it was where that is
 /// refused beside the state.
 fn follow<
@@ -144,30 +131,29 @@ fn follow<
     limits: Limits,
     estate: Estate<'r, 'w, 'e, R, E, B>,
     wanted: Wanted<'r, R>,
+    replies: CallLog,
 ) -> Relived<'r, 'w, 'e, R, E, B>
-    ensures { Relives ⟦<DiskFile<'r, R, File, B> as Device>⟧ ⟦<LineJournal<'e, E> as Journal>⟧ limits
-        wanted.entry.heirs estate.entry result.log.calls result.life }
+    ensures { Relives ⟦<DiskFile<'r, R, File, B> as Device>⟧ ⟦<LineJournal<'e, E> as Journal>⟧ limits wanted.entry.heirs
+        estate.entry (IsToldOf wanted.entry.heirs.next.candidate.registry replies.calls result.replies.calls) result.life }
 {
     let Heirs { next, former } = wanted.heirs;
     let reloaded = Reloaded::of(&next.candidate.registry);
-    let mut opening = Resumption::new(rt.alloc(), wanted.asker, reloaded);
+    let mut opening = Resumption::new(rt.alloc(), wanted.asker, reloaded, replies);
     let tried = live_by::<R, E, B>(rt, limits, next, estate, &mut opening);
     let LifeEnd::Refused(fault) = &tried.end else {
-        let log = opening.into_log();
-        return Relived { life: tried, log };
+        let replies = opening.into_log();
+        return Relived {
+            life: tried,
+            replies,
+        };
     };
     opening.refuse(fault);
-    let Leaving {
-        end: _end,
-        estate,
-        wanted: _wanted,
-    } = left_of(tried);
-    let life = live_by::<R, E, B>(rt, limits, former, estate, &mut opening);
-    let log = opening.into_log();
-    Relived { life, log }
+    let life = live_by::<R, E, B>(rt, limits, former, estate_of(tried), &mut opening);
+    let replies = opening.into_log();
+    Relived { life, replies }
 }
 
-/// Another life behind one, where that ended for a reload; else how it ended.
+/// Another life behind one, where that ended for a reload that was wanted; else that life, as it was.
 fn relive<
     'r,
     'w,
@@ -178,28 +164,24 @@ fn relive<
 >(
     rt: &'r R,
     limits: Limits,
-    left: Leaving<'r, 'w, 'e, R, E, B>,
-) -> Result<MachineLife<'r, 'w, 'e, R, E, B>, LifeEnd>
-    ensures ended { OnOk result (EndsForReload left.entry.end) }
-    ensures follows { (handed : HandedOn) → handed.limits ≡ limits → IfOk result
-        (Follows ⟦<DiskFile<'r, R, File, B> as Device>⟧ ⟦<LineJournal<'e, E> as Journal>⟧ handed) }
-    ensures over { IfErr result (λ end. end ≡ left.entry.end) }
+    one: Relived<'r, 'w, 'e, R, E, B>,
+) -> Result<Relived<'r, 'w, 'e, R, E, B>, Relived<'r, 'w, 'e, R, E, B>>
+    ensures follows { IfOk result
+        (Follows ⟦<DiskFile<'r, R, File, B> as Device>⟧ ⟦<LineJournal<'e, E> as Journal>⟧ limits one.entry) }
+    ensures same { IfErr result (λ last. last ≡ one.entry) }
+    ensures over { IfErr result (λ last. EndsForReload last.life.end → last.life.sockets.reloads.wanted ≡ None) }
 {
-    let Leaving {
-        end,
-        estate,
-        wanted,
-    } = left;
-    if !is_for_reload(&end) {
-        return Err(end);
+    let Relived { mut life, replies } = one;
+    if !is_for_reload(&life.end) {
+        return Err(Relived { life, replies });
     }
-    let Some(wanted) = wanted else {
-        return Err(end);
+    let Some(wanted) = life.sockets.take_wanted() else {
+        return Err(Relived { life, replies });
     };
-    Ok(follow::<R, E, B>(rt, limits, estate, wanted).life)
+    Ok(follow::<R, E, B>(rt, limits, estate_of(life), wanted, replies))
 }
 
-/// Lives on behind a life, as long as one ends for a reload. It gives how the last one ended.
+/// Lives on behind a first life, as long as reloads are wanted. It gives the last life.
 pub(crate) fn live_on<
     'r,
     'w,
@@ -207,21 +189,22 @@ pub(crate) fn live_on<
     R: Files<File = File> + Net + Clock + RandomSource + AllocGlobal,
     E: Write,
     B: Before,
->(rt: &'r R, limits: Limits, first: MachineLife<'r, 'w, 'e, R, E, B>) -> LifeEnd
-    ensures { (handed : HandedOn) → handed.limits ≡ limits →
-        LivesOnward ⟦<DiskFile<'r, R, File, B> as Device>⟧ ⟦<LineJournal<'e, E> as Journal>⟧ handed first.entry.end result }
+>(
+    rt: &'r R,
+    limits: Limits,
+    first: MachineLife<'r, 'w, 'e, R, E, B>,
+) -> Relived<'r, 'w, 'e, R, E, B>
+    ensures { LivesTo ⟦<DiskFile<'r, R, File, B> as Device>⟧ ⟦<LineJournal<'e, E> as Journal>⟧ limits first.entry result }
 {
-    let mut left = left_of(first);
+    let mut one = Relived {
+        life: first,
+        replies: CallLog::new(),
+    };
     for _nth in 0..u64::MAX {
-        left = match relive::<R, E, B>(rt, limits, left) {
-            Ok(life) => left_of(life),
-            Err(end) => return end,
+        one = match relive::<R, E, B>(rt, limits, one) {
+            Ok(next) => next,
+            Err(last) => return last,
         };
     }
-    let Leaving {
-        end,
-        estate: _estate,
-        wanted: _wanted,
-    } = left;
-    end
+    one
 }

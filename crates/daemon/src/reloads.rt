@@ -1,18 +1,20 @@
-//! How a server is asked for a reload, and what its next life is to go by.
+//! How a server is asked for a reload or for metrics, and what its next life is to go by.
 
-ghost use Rattle.std.specs.Prelude.{◌≡◌, ◌∷◌, Bool, true, None, IfOk, option_map};
+ghost use Rattle.std.specs.Prelude.{◌≡◌, ◌∷◌, Bool, true, None, IfOk, IfSome, option_map};
 ghost use Rattle.desk.specs.Candidates.{text_of};
 ghost use Rattle.desk.specs.Judging.{IsJudged};
 ghost use Rattle.desk.specs.declared.judging.Judged.TheVariants as verdict;
 ghost use Rattle.daemon.specs.Calls.{Replied};
 ghost use Rattle.daemon.specs.Reloading.{AreHeirs, IsAsked, IsSent, KeepsServing, KeepsWanted};
+ghost use Rattle.daemon.specs.Scraping.{IsScraped};
+ghost use Rattle.metrics.specs.Text.{IsMetricsText};
 
 use crate::call_log::{CallLog, SystemCall};
 use crate::drawn::Drawn;
 use clients::OperatorKey;
 use desk::{
     Candidate, Judged, NotBegun, PEEK_LIMIT, Refusal, ReloadFault, candidate_of, judge,
-    keeps_names, refusal_reply, refused, reply_of,
+    keeps_names, refusal_reply, refused, reply_of, scrape_reply,
 };
 use mio::net::TcpStream;
 use ports::let_go;
@@ -104,6 +106,7 @@ impl<'r, 'w, R> Reloads<'r, 'w, R> {
     pub fn judge(&self, bytes: &[u8]) -> Judged
         ensures judged { IsJudged bytes.now self.now.key result }
         ensures sent { (with_key : Bool) → result ≡ verdict.Asks with_key → with_key ≡ true → IsSent self.now.key }
+        ensures sent_too { (with_key : Bool) → result ≡ verdict.AsksMetrics with_key → with_key ≡ true → IsSent self.now.key }
     {
         judge(bytes, &self.key)
     }
@@ -134,11 +137,12 @@ impl<'r, 'w, R> Reloads<'r, 'w, R> {
         wanted.told = true;
     }
 
-    /// The reload that is under way, if one is.
-    pub fn wanted(self) -> Option<Wanted<'r, R>>
-        ensures { result ≡ self.entry.wanted }
+    /// Takes the reload that is under way, if one is.
+    pub fn take_wanted(&mut self) -> Option<Wanted<'r, R>>
+        ensures taken { result ≡ self.old.wanted }
+        ensures rest { self.new ≡ record self.old { wanted = None } }
     {
-        self.wanted
+        self.wanted.take()
     }
 }
 
@@ -183,12 +187,21 @@ impl<'r, 'w, R: Files + RandomSource + AllocGlobal> Reloads<'r, 'w, R> {
         })
     }
 
-    // Refuses a reload.
+    // Answers who asks, and begins no reload.
     fn refuse(&mut self, asker: TcpStream, reply: Option<Vec<u8>>)
         ensures noted { self.new.log.calls ≡ Replied (option_map text_of reply) ∷ self.old.log.calls }
         ensures same { self.new ≡ record self.old { log = self.new.log } }
     {
         answer(&mut self.log, asker, reply);
+    }
+
+    /// A connection asks for metrics, which are this text, and is answered at once. Where memory for the text was refused, there is none.
+    pub fn tell_metrics(&mut self, asker: TcpStream, with_key: bool, text: Option<Vec<u8>>)
+        requires { IfSome text (λ text. IsMetricsText text.items) }
+        ensures { IsScraped with_key self.old self.new }
+    {
+        let reply = scrape_reply(self.rt.alloc(), with_key, &text);
+        self.refuse(asker, reply);
     }
 
     /// A connection asks for a reload. Where that is refused it is answered at once. Else the loop is to end, and who asked waits.

@@ -1,6 +1,6 @@
 //! What is told of a reload once the next life goes on, or is refused.
 
-ghost use Rattle.std.specs.Prelude.{◌≡◌, [], Some};
+ghost use Rattle.std.specs.Prelude.{◌≡◌, Some};
 ghost use Rattle.daemon.specs.Reloading.{IsRefusedTo};
 
 use crate::call_log::CallLog;
@@ -17,22 +17,27 @@ pub(crate) struct Resumption {
     alloc: Global,
     asker: Option<TcpStream>,
     reloaded: Reloaded,
-    /// What he was replied.
+    /// What those were replied who asked for reloads, so far.
     log: CallLog,
 }
 
 impl Resumption {
-    /// Who asked waits for it.
-    pub(crate) fn new(alloc: Global, asker: TcpStream, reloaded: Reloaded) -> Resumption
+    /// Who asked waits for it, behind those who were replied to before.
+    pub(crate) fn new(
+        alloc: Global,
+        asker: TcpStream,
+        reloaded: Reloaded,
+        log: CallLog,
+    ) -> Resumption
         ensures waits { result.asker ≡ Some asker }
         ensures reloaded { result.reloaded ≡ reloaded }
-        ensures silent { result.log.calls ≡ [] }
+        ensures before { result.log ≡ log }
     {
         Resumption {
             alloc,
             asker: Some(asker),
             reloaded,
-            log: CallLog::new(),
+            log,
         }
     }
 
@@ -47,7 +52,7 @@ impl Resumption {
         answer(&mut self.log, asker, reply);
     }
 
-    /// What he was replied.
+    /// What they were replied.
     pub(crate) fn into_log(self) -> CallLog
         ensures { result ≡ self.log }
     {

@@ -1,23 +1,26 @@
 //! Connections until the program is stopped.
 
-ghost use Rattle.std.specs.Prelude.{◌≡◌, ◌≢◌, [], OnOk, OnErr, IfOk, IfErr, map};
+ghost use Rattle.std.specs.Prelude.{◌≡◌, ◌≢◌, [], None, OnOk, OnErr, IfOk, IfErr, IfSome, map};
 ghost use Rattle.daemon.specs.Listening.{IsToldBy};
 ghost use Rattle.ports.specs.Listening.{Announces};
 ghost use Rattle.daemon.specs.Seeds.{IsSeeded};
-ghost use Rattle.daemon.specs.Starts.{IsFresh, LivesInRow, ServesAnew, handed_anew, handed_on};
+ghost use Rattle.daemon.specs.Onward.{LivesInRow};
+ghost use Rattle.daemon.specs.Starts.{IsFresh, ServesAnew, handed_anew, handed_on};
 ghost use Rattle.ports.specs.declared.fault.ListenFault.TheVariants.{Unwritten};
 ghost use Rattle.outside.specs.declared.fault.LoopFault.TheVariants.{Keep};
 ghost use Rattle.lifetime.specs.Given.{life_promises};
 ghost use Rattle.lifetime.specs.Lives.{LivesBy};
 ghost use Rattle.state_keeper.specs.Starting.{HasFront};
 ghost use Rattle.rules_codec.specs.Facts.{hook_fact};
+ghost use Rattle.telling.specs.Audience.{nobody};
 
 use crate::announcement::Announcement;
+use crate::call_log::CallLog;
 use crate::fault::OpeningFault;
-use crate::line_journal::LineJournal;
+use crate::machine_clock::moment_now;
 use crate::machine_clocks::MachineClocks;
 use crate::machine_random::MachineRandom;
-use crate::reliving::live_on;
+use crate::reliving::{Relived, live_on};
 use crate::reloads::Reloads;
 use crate::sockets::MachineSockets;
 use batch_file::device::Device;
@@ -27,6 +30,7 @@ use disk_file::{Before, DiskFile};
 use event_loop::{Clocks, Journal, Limits, LoopFault, Sockets};
 use hook_chain::Chain;
 use lifetime::{AnewEnd, Life, LifeEnd, Means, Opening, Plan, Planned, live, live_anew, plan_of};
+use line_journal::{AuditLog, Hearers, LineJournal};
 use ports::{ListenFault, Ports};
 use rand_chacha::ChaCha20Rng;
 use rand_core::SeedableRng;
@@ -39,17 +43,18 @@ use std::net::{Net, SocketAddr};
 use std::random::RandomSource;
 use std::rt::{Clock, Files};
 
-/// How a server is started: where it listens, and by which limits it serves.
+/// How a server is started: where it listens, by which limits it serves, and after how many seconds it writes a report, if at all.
 #[derive(Clone, Copy)]
 pub struct Terms<'w> {
     pub address: &'w str,
     pub limits: Limits,
+    pub report: Option<u64>,
 }
 
 /// The file on which a server is started, by its path, and that of its registry; and the hooks that it is to have.
 #[derive(Clone, Copy)]
-pub struct StateTerms<'w, 'h> {
-    pub path: &'w str,
+pub struct StateTerms<'p, 'w, 'h> {
+    pub path: &'p str,
     pub config: &'w str,
     pub hooks: &'h [KeptHook<'h>],
 }
@@ -62,6 +67,18 @@ pub struct Served<'r, R> {
     pub sockets: MachineSockets<'r, 'static, R>,
     pub clocks: MachineClocks<'r, R>,
     pub random: MachineRandom<'r, R>,
+}
+
+/// What is left of a server that was started on the file of its state and can't go on: how its last life ended, and what that was
+/// handed by the machine.
+#[derive(Drop)]
+pub struct ServedOn<'r, 'w, R, B> {
+    pub end: LifeEnd,
+    pub device: DiskFile<'r, R, File, B>,
+    pub sockets: MachineSockets<'r, 'w, R>,
+    pub clocks: MachineClocks<'r, R>,
+    /// What those were replied who asked for a reload that then began.
+    pub replies: CallLog,
 }
 
 /// A listener, and draws by random bytes of the system.
@@ -88,31 +105,37 @@ fn begin<R: Net + RandomSource + AllocGlobal>(
     })
 }
 
-/// What a server is handed: sockets and clocks of the machine, which have noted nothing yet, and a journal.
-pub(crate) fn means_of<'r, 'w, 'e, R: Clock, E>(
+/// What a server is handed: sockets and clocks of the machine, which have noted nothing yet, a journal to which a life begins now,
+/// and room for what it is to be told of.
+pub(crate) fn means_of<'r, 'w, 'e, R: Clock, E: Write>(
     rt: &'r R,
     begun: Begun,
     reloads: Reloads<'r, 'w, R>,
     limits: Limits,
-    journal: LineJournal<'e, E>,
+    mut journal: LineJournal<'e, E>,
 ) -> Means<MachineSockets<'r, 'w, R>, MachineClocks<'r, R>, LineJournal<'e, E>>
     ensures fresh { IsFresh result limits }
     ensures drawn { result.generator ≡ begun.generator }
     ensures ports { result.sockets.ports ≡ begun.ports }
     ensures reloads { result.sockets.reloads ≡ reloads.entry }
+    ensures unwanted { journal.entry.outlets.audit ≡ None → result.tellings ≡ nobody }
+    ensures heard { IfSome journal.entry.outlets.audit (λ log. IfSome log.room (λ room. result.tellings ≡ room)) }
 {
+    let tellings = journal.begin(moment_now(rt));
     Means {
-        sockets: MachineSockets::new(begun.ports, reloads),
+        sockets: MachineSockets::new(rt, begun.ports, reloads, journal.measures()),
         clocks: MachineClocks::new(rt),
         journal,
         generator: begun.generator,
         limits,
+        tellings,
     }
 }
 
 /// Listens at an address, tells where, and serves up to 64 connections at once until the program is stopped, with these
 /// hooks from the first connection on, and with draws by random bytes of the system. The fault of a connection ends that
-/// one alone, and is told to `err`, in at most one line a second. What it gives is why it can't go on.
+/// one alone, and is told to `err`, in at most one line a second; each request that was answered is told to `audit`, if there is one. What
+/// it gives is why it can't go on.
 pub fn start<
     'r,
     'e,
@@ -124,6 +147,7 @@ pub fn start<
     terms: Terms<'_>,
     registry: Registry,
     hooks: Chain,
+    audit: Option<AuditLog>,
     out: &mut W,
     err: &'e mut E,
 ) -> Result<Served<'r, R>, ListenFault>
@@ -142,7 +166,8 @@ pub fn start<
     let Ok(()) = told.open() else {
         return Err(ListenFault::Unwritten);
     };
-    let journal = LineJournal::new(rt, "", err);
+    let hearers = Hearers::new(rt.alloc(), moment_now(rt), audit, terms.report);
+    let journal = LineJournal::new(rt, "", err, hearers);
     let key = registry.operator_key();
     let reloads = Reloads::new(rt, None, key, Vec::new(rt.alloc()));
     let means = means_of(rt, begun, reloads, terms.limits, journal);
@@ -150,8 +175,9 @@ pub fn start<
         fault,
         sockets,
         clocks,
-        journal: _journal,
+        mut journal,
     } = live_anew(rt.alloc(), registry, hooks, means);
+    journal.end_report();
     Ok(Served {
         fault,
         sockets,
@@ -183,10 +209,11 @@ fn live_told<D: Device + Drop, N: Sockets, C: Clocks, J: Journal, W: Write>(
 /// those of the hooks that it lacks. Once it is known that the start goes on it is told where it listens, and up to 64 connections are
 /// served at once, by changes that are kept before a reply tells of them, until the program is stopped, or a reload is wanted: then
 /// another life begins by the registry's file as it is then, or, where that is refused, by the registry as it was. What is told to
-/// `err` is what the start ends or puts aside, and the faults of connections, in at most one line a second. `B` names what may have
-/// been on the file's disk before.
+/// `err` is what the start ends or puts aside, and the faults of connections, in at most one line a second; each request that was
+/// answered is told to `audit`, if there is one. `B` names what may have been on the file's disk before.
 pub fn start_on<
     'r,
+    'w,
     'e,
     R: Files<File = File> + Net + Clock + RandomSource + AllocGlobal,
     W: Write,
@@ -195,14 +222,15 @@ pub fn start_on<
 >(
     rt: &'r R,
     terms: Terms<'_>,
-    state: StateTerms<'e, '_>,
+    state: StateTerms<'e, 'w, '_>,
     candidate: Candidate,
+    audit: Option<AuditLog>,
     out: &mut W,
     err: &'e mut E,
-) -> Result<LifeEnd, OpeningFault>
-    ensures lives { IfOk result (λ end. LivesInRow ⟦<DiskFile<'r, R, File, B> as Device>⟧ ⟦<LineJournal<'e, E> as Journal>⟧
+) -> Result<ServedOn<'r, 'w, R, B>, OpeningFault>
+    ensures lives { IfOk result (LivesInRow ⟦<DiskFile<'r, R, File, B> as Device>⟧ ⟦<LineJournal<'e, E> as Journal>⟧
         (handed_on candidate.registry (map hook_fact state.entry.hooks.now) terms.entry.limits)
-        (λ first. IsToldBy W.contents out.old first out.new) end) }
+        (λ first. IsToldBy W.contents out.old first out.new)) }
     ensures silent { OnErr result (out.new ≡ out.old) }
     ensures quiet { OnErr result (err.new ≡ err.old) }
 {
@@ -213,8 +241,24 @@ pub fn start_on<
     let reloads = Reloads::new(rt, Some(state.config), registry.operator_key(), text);
     let Planned { source, plan } = plan_of(rt.alloc(), file, registry, state.hooks);
     let address = begun.ports.address();
-    let journal = LineJournal::new(rt, state.path, err);
+    let hearers = Hearers::new(rt.alloc(), moment_now(rt), audit, terms.report);
+    let journal = LineJournal::new(rt, state.path, err, hearers);
     let means = means_of(rt, begun, reloads, terms.limits, journal);
-    let life = live_told(rt.alloc(), source.into_device(), plan, means, address, out);
-    Ok(live_on(rt, terms.limits, life))
+    let first = live_told(rt.alloc(), source.into_device(), plan, means, address, out);
+    let Relived { life, replies } = live_on(rt, terms.limits, first);
+    let Life {
+        end,
+        device,
+        sockets,
+        clocks,
+        mut journal,
+    } = life;
+    journal.end_report();
+    Ok(ServedOn {
+        end,
+        device,
+        sockets,
+        clocks,
+        replies,
+    })
 }

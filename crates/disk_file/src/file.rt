@@ -128,7 +128,7 @@ fn cut_off<F: OpenFile>(file: &F, at: u64, error: io::Error) -> io::Result<Syste
 }
 
 /// Why a file of which the system tells this is not opened.
-fn fault_of(found: &Metadata) -> Option<OpenFault>
+pub(crate) fn fault_of(found: &Metadata) -> Option<OpenFault>
     ensures link { IsSymlink (file_type found.now) → result ≡ Some opening.Link }
     ensures file { IfNone result (IsFile (file_type found.now)) }
     ensures owned { IfNone result (bit_and (metadata_mode found.now) 0o022 ≡ 0) }
@@ -180,7 +180,7 @@ fn open_checked<R: Files>(rt: &R, path: &str) -> Result<R::File, OpenFault> {
 }
 
 /// Whether what the system tells of a path is told of this open file.
-fn is_same<F: OpenFile>(found: io::Result<Metadata>, file: &F) -> bool {
+pub(crate) fn is_same<F: OpenFile>(found: io::Result<Metadata>, file: &F) -> bool {
     let (Ok(found), Ok(opened)) = (found, file.metadata()) else {
         return false;
     };

@@ -9,7 +9,7 @@ all_words =
     codes "run" ∷ codes "ask" ∷ codes "ask2" ∷ codes "asm" ∷ codes "list" ∷ codes "check" ∷ codes "check2" ∷
     codes "start" ∷ codes "serve" ∷ codes "registry" ∷ codes "state" ∷ codes "replay" ∷ codes "help" ∷
     codes "bad arguments" ∷ codes "bad record" ∷ codes "cannot read" ∷ codes "ELF file" ∷ codes "not hex" ∷
-    codes "cannot write" ∷ codes "bad line" ∷ codes "hook" ∷ codes "State" ∷ codes "cannot listen" ∷
+    codes "cannot write" ∷ codes "bad line" ∷ codes "hook" ∷ codes "State" ∷ codes "audit" ∷ codes "cannot listen" ∷
     codes "no random bytes" ∷ codes "connection ended" ∷ codes "stopped" ∷ codes "out of memory" ∷
     codes "Missing" ∷ codes "NotState" ∷ codes "Version" ∷ codes "Damaged" ∷ codes "Device" ∷ codes "InUse" ∷
     codes "Open" ∷ codes "Link" ∷ codes "NotAFile" ∷ codes "SecondLink" ∷ codes "WritableByOthers" ∷ codes "ClockAhead" ∷

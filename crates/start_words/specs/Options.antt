@@ -13,7 +13,7 @@ use Rattle.start_words.specs.declared.option.FarClock.{FarClock}
 use Rattle.start_words.specs.declared.option.FarClock.TheVariants as clocks
 use Rattle.start_words.specs.declared.option.HookFile.{HookFile}
 use Rattle.start_words.specs.declared.option.OptionName.{OptionName}
-use Rattle.start_words.specs.declared.option.OptionName.TheVariants.{Silence, Full, Report, State, Hook}
+use Rattle.start_words.specs.declared.option.OptionName.TheVariants.{Silence, Full, Report, Audit, State, Hook}
 use Rattle.start_words.specs.Numbers.{number_said}
 
 -- a hook's name, the layout of the record that it reads, and the path of its file
@@ -25,18 +25,19 @@ pub record HookSaid : Type 0 where
 abbrev pub hook_said : HookFile → HookSaid
 hook_said file = record { name = file.name.now; layout = file.layout; path = file.path.now }
 
--- what has been said: seconds of silence, and where all places are taken, and from report to report, the path of the state's
--- file, what comes of a clock that is far ahead of it, and the hooks in their order
+-- what has been said: seconds of silence, and where all places are taken, and from report to report, the path of the file in which it
+-- is told of each request, that of the state's file, what comes of a clock that is far ahead of it, and the hooks in their order
 pub record Said : Type 0 where
   pub silence : Option ℕ
   pub full : Option ℕ
   pub report : Option ℕ
+  pub audit : Option (List ℕ)
   pub state : Option (List ℕ)
   pub clock : FarClock
   pub hooks : List HookSaid
 
 abbrev pub nothing_said : Said
-nothing_said = record { silence = None; full = None; report = None; state = None; clock = clocks.Refused; hooks = [] }
+nothing_said = record { silence = None; full = None; report = None; audit = None; state = None; clock = clocks.Refused; hooks = [] }
 
 -- why words are refused: the address or the registry's file is missing, numbers by place are none, or one word is wrong
 pub data Refused : Type 0 where
@@ -67,9 +68,10 @@ option_named word =
     if bytes_eq word (codes "--silence") then Some Silence
     else (if bytes_eq word (codes "--full") then Some Full
     else (if bytes_eq word (codes "--report") then Some Report
+    else (if bytes_eq word (codes "--audit") then Some Audit
     else (if bytes_eq word (codes "--state") then Some State
     else (if bytes_eq word (codes "--hook") then Some (Hook V1)
-    else (if bytes_eq word (codes "--hook2") then Some (Hook V2) else None)))))
+    else (if bytes_eq word (codes "--hook2") then Some (Hook V2) else None))))))
 
 -- a number that is not 0
 abbrev pub not_0 : Option ℕ → Option ℕ
@@ -110,6 +112,9 @@ with_option_value said Full value = do
 with_option_value said Report value = do
   seconds ← once said.report (above_0 value)
   Ok (record said { report = seconds })
+with_option_value said Audit value = do
+  path ← once said.audit (path_in value)
+  Ok (record said { audit = path })
 with_option_value said State value = do
   path ← once said.state (path_in value)
   Ok (record said { state = path })

@@ -51,6 +51,8 @@ pub enum OptionName {
     Full,
     /// `--report SECONDS`.
     Report,
+    /// `--audit FILE`.
+    Audit,
     /// `--state FILE`.
     State,
     /// `--hook NAME=FILE`, and `--hook2 NAME=FILE` for a hook that reads records of version 2.
@@ -65,6 +67,7 @@ pub fn option_named(word: &str) -> Option<OptionName>
         "--silence" => Some(OptionName::Silence),
         "--full" => Some(OptionName::Full),
         "--report" => Some(OptionName::Report),
+        "--audit" => Some(OptionName::Audit),
         "--state" => Some(OptionName::State),
         "--hook" => Some(OptionName::Hook(Layout::V1)),
         "--hook2" => Some(OptionName::Hook(Layout::V2)),

@@ -19,6 +19,7 @@ pub struct Options<'w> {
     silence: Option<u32>,
     full: Option<u32>,
     report: Option<u32>,
+    audit: Option<&'w str>,
     state: Option<&'w str>,
     clock: FarClock,
     hooks: Vec<HookFile<'w>>,
@@ -31,7 +32,7 @@ impl<'w> Model for Options<'w> {
 
     ghost Value = { Said };
 
-    ghost view = { λ o. record { silence = o.silence; full = o.full; report = o.report; state = option_copied o.state; clock = o.clock; hooks = map hook_said o.hooks.items } };
+    ghost view = { λ o. record { silence = o.silence; full = o.full; report = o.report; audit = option_copied o.audit; state = option_copied o.state; clock = o.clock; hooks = map hook_said o.hooks.items } };
 }
 
 /// The first word, where it counts by its place, and those behind it.
@@ -83,6 +84,7 @@ impl<'w> Options<'w> {
             silence: None,
             full: None,
             report: None,
+            audit: None,
             state: None,
             clock: FarClock::Refused,
             hooks: Vec::new(alloc),
@@ -109,6 +111,13 @@ impl<'w> Options<'w> {
         ensures { result ≡ self.now.report }
     {
         self.report
+    }
+
+    /// The path of the file in which it is told of each request that was answered, where there is one; `-` is standard output.
+    pub fn audit(&self) -> Option<&'w str>
+        ensures { option_copied result ≡ self.now.audit }
+    {
+        self.audit
     }
 
     /// The path of the file in which the server keeps its state, where there is one.
@@ -155,6 +164,7 @@ impl<'w> Options<'w> {
             )?,
             OptionName::Full => self.full = once(self.full, number_said(value)).map_err(blame)?,
             OptionName::Report => self.report = once(self.report, above_0(value)).map_err(blame)?,
+            OptionName::Audit => self.audit = once(self.audit, path_in(value)).map_err(blame)?,
             OptionName::State => self.state = once(self.state, path_in(value)).map_err(blame)?,
             OptionName::Hook(layout) => {
                 let hook = hook_in(layout, value)

@@ -3,7 +3,7 @@
 use crate::topic::Topic;
 
 /// What the faults mean that a command has however its files are.
-pub const USE_FAULTS: [Topic; 14] = [
+pub const USE_FAULTS: [Topic; 15] = [
     Topic {
         name: "bad arguments",
         text: "\
@@ -92,6 +92,14 @@ oauthd help has each:
   Full, TooLong                     the file, or what is to be written to it, is too long
 
   oauthd start 127.0.0.1:8080 registry.json --state /var/lib/oauthd/state
+",
+    },
+    Topic {
+        name: "audit",
+        text: "\
+audit FAULT: FILE: start was to tell of each request in FILE, and can't; no connection was taken. Missing: its folder is not there. Link, NotAFile, SecondLink, WritableByOthers: it has to be one file that no other may write; - is standard output. InUse: another file was put there just now. Open: the system refuses it.
+
+  oauthd start 127.0.0.1:8080 registry.json --audit /var/lib/oauthd/audit
 ",
     },
     Topic {

@@ -4,6 +4,7 @@ use Rattle.lifetime.specs.PlansLaws.{front_of, planned_of}
 use Rattle.ports.specs.Passing.{KeepsWaiting}
 use Rattle.ports.specs.declared.seats.Ports.{Ports}
 use Rattle.daemon.specs.declared.reloads.Reloads.{Reloads}
+use Rattle.daemon.proofs.Relived.{are_of}
 use Rattle.daemon.proofs.reliving.live_by.Goals as goal
 
 pub live-requires-clause-front : goal.live-requires-clause-front
@@ -29,8 +30,8 @@ returns-clause-lives g c =
             (planned_of _ opened.0 _ opened.2 c.args.heir.candidate.registry [] c.plan_of-source.result.plan c.plan_of-source.ensures.over c.plan_of-source.ensures.made c.plan_of-source.ensures.refused);
       };
       passed = subst (λ (ports : Ports). KeepsWaiting c.args.estate.ports ports) (sym c.means_of-means.ensures.ports) c.ask.ensures;
+      reloads = are_of c.args.heir.candidate _ _ asks c.new-reloads.ensures.text
+          (c.new-reloads.ensures.key ∙ c.operator_key.ensures) c.new-reloads.ensures.unwanted;
       text = ap (λ (r : Reloads _). r.text) asks ∙ c.new-reloads.ensures.text;
-      key = ap (λ (r : Reloads _). r.key) asks ∙ c.new-reloads.ensures.key ∙ c.operator_key.ensures;
       config = ap (λ (r : Reloads _). r.config) asks ∙ c.new-reloads.ensures.config;
-      unwanted = ap (λ (r : Reloads _). r.wanted) asks ∙ c.new-reloads.ensures.unwanted;
     }

@@ -1,20 +1,28 @@
-use Rattle.daemon.specs.Starts.{follows, is_last}
-use Rattle.daemon.proofs.Relived.{last_of, onward_of}
+use Rattle.std.proofs.Common.{◌≡◌, ◌-◌, ◌^◌, arith, inl, inr, refl}
+use Rattle.daemon.proofs.Relived.{at_first, one_more, to_last}
 use Rattle.daemon.proofs.reliving.live_on.Goals as goal
 
 pub loop-nth-init : goal.loop-nth-init
-loop-nth-init g c = λ handed same end onward. onward
+loop-nth-init g c = at_first _ _ _ (record { life = c.args.first; replies = c.new.result })
 
 pub loop-nth-preserved : goal.loop-nth-preserved
-loop-nth-preserved g c = λ handed same end onward.
-    c.loop-nth.invariant handed same end (follows c.loop-nth.left.end c.in-Ok.life end c.in-Ok.ensures.ended (c.in-Ok.ensures.follows handed same)
-    (onward_of _ _ handed c.left_of.result c.in-Ok.life end c.left_of.ensures onward))
+loop-nth-preserved g c = one_more _ _ _ c.loop-nth._nth (record { life = c.args.first; replies = c.new.result }) c.loop-nth.one c.in-Ok.next c.loop-nth.invariant c.in-Ok.ensures.follows
 
 pub returns-in-Err : goal.returns-in-Err
-returns-in-Err g c = λ handed same.
-    onward_of _ _ handed c.left_of-left.result c.args.first c.in-Err.end c.left_of-left.ensures
-    (c.loop-nth.invariant handed same c.in-Err.end (last_of _ _ handed c.loop-nth.left.end c.in-Err.end c.in-Err.ensures.over))
+returns-in-Err g c = record {
+  before = c.new.result;
+  silent = c.new.ensures;
+  count = c.loop-nth._nth;
+  onward = to_last _ _ _ c.loop-nth._nth (record { life = c.args.first; replies = c.new.result }) c.loop-nth.one c.in-Err.last c.loop-nth.invariant c.in-Err.ensures.same;
+  over = λ ended. inl (c.in-Err.ensures.over ended);
+}
 
 pub returns : goal.returns
-returns g c = λ handed same.
-    onward_of _ _ handed c.left_of-left.result c.args.first c.loop-nth.left.end c.left_of-left.ensures (c.loop-nth.invariant handed same c.loop-nth.left.end (is_last c.loop-nth.left.end))
+returns g c =
+    let all : c.loop-nth._nth ≡ 2 ^ 64 - 1 = omega (arith, c.loop-nth-test.false, c.loop-nth.auto._nth-end) in record {
+      before = c.new.result;
+      silent = c.new.ensures;
+      count = c.loop-nth._nth;
+      onward = to_last _ _ _ c.loop-nth._nth (record { life = c.args.first; replies = c.new.result }) c.loop-nth.one c.loop-nth.one c.loop-nth.invariant refl;
+      over = λ ended. inr all;
+    }

@@ -1,4 +1,4 @@
-use Rattle.std.proofs.Common.{◌≡◌, [], ◌∷◌}
+use Rattle.std.proofs.Common.{[], ◌∷◌}
 use mir.Syntax as syntax
 use Rattle.std.specs.contracts.fs.File as files
 use Rattle.std.specs.contracts.fs.FileRead.TheImpl as reads
@@ -8,16 +8,15 @@ use Rattle.std.specs.contracts.fs.system.FileOpenFile.TheImpl as opens
 use Rattle.std.specs.contracts.fs.unix.FileFileExt.TheImpl as places
 use Rattle.disk_file.specs.contracts.file.FileSystemFile.TheImpl as locks
 use Rattle.disk_file.specs.contracts.file.DiskFileDevice.TheImpl as disks
-use Rattle.lifetime.specs.declared.life.LifeEnd.{LifeEnd}
-use Rattle.daemon.specs.Starts.{HandedOn, LivesOnward}
-use Rattle.daemon.specs.contracts.line_journal.LineJournalJournal.TheImpl as journals
+use Rattle.daemon.proofs.Relived.{LeadsTo}
+use Rattle.line_journal.specs.contracts.line_journal.LineJournalJournal.TheImpl as journals
 use Rattle.daemon.proofs.reliving.live_on.Given as goal
 
--- whatever comes of what is left, comes of the first life
+-- whatever row goes on from this life, goes on from the first one
 abbrev pub invariant-loop-nth : goal.invariant-loop-nth
 invariant-loop-nth g l =
     let disk = disks.ghosts files.the_row g.row.R g.row.B g.row.R-Dir locks.ghosts locks.dict reads.ghosts reads.dict writes.ghosts writes.dict opens.ghosts opens.dict places.ghosts places.dict
     g.R.Files g.R.Files-dict seeks.ghosts seeks.dict g.R.Dir.Read g.R.Dir.Read-dict g.R.AllocGlobal g.R.AllocGlobal-dict g.R.Alloc g.R.Alloc-dict g.B.Before g.B.Before-dict
     (syntax.impl ("daemon::std++fs++File+Destruct::drop" ∷ []) syntax.tnil syntax.dnil) g.R.Dir.Destruct-dict in
     let journal = journals.ghosts g.row.E g.E.Write g.E.Write-dict in
-    (handed : HandedOn) → handed.limits ≡ l.limits → (end : LifeEnd) → LivesOnward disk journal handed l.left.end end → LivesOnward disk journal handed l.initial.left.end end
+    LeadsTo disk journal l.limits l._nth l.initial.one l.one

@@ -1,0 +1,4 @@
+-- What the contracts of this crate's own parts and their proofs cite.
+pub mod NoticeTexts
+pub mod AuditTexts
+pub mod Auditing
