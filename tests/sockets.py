@@ -67,15 +67,17 @@ def want(truth, text):
 class Server:
     """A server that runs for one check."""
 
-    def __init__(self, silence=60, full=5, descriptors=None, options=(), errors=None):
+    def __init__(self, silence=60, full=5, descriptors=None, options=(), errors=None, output=None):
         self.errors = errors or tempfile.TemporaryFile()
         words = [program, "start", "127.0.0.1:0", registry, str(silence), str(full), *options]
         limit = None
         if descriptors is not None:
             limit = lambda: resource.setrlimit(resource.RLIMIT_NOFILE, (descriptors, descriptors))
-        self.process = subprocess.Popen(words, stdout=subprocess.PIPE, stderr=self.errors, preexec_fn=limit)
+        self.process = subprocess.Popen(
+            words, stdout=output or subprocess.PIPE, stderr=self.errors, preexec_fn=limit
+        )
         self.began = time.monotonic()
-        line = self.process.stdout.readline().decode()
+        line = (self.process.stdout or output.reader).readline().decode()
         if not line.startswith("listening "):
             self.process.kill()
             raise Wrong(f"`{' '.join(words)}` said {line!r} and {self.lines()}")
@@ -702,6 +704,90 @@ def token_of(server):
     return json.loads(receive(connection, length))["access_token"]
 
 
+# The members of a line about a request.
+AUDITED = [
+    "asked", "client", "endpoint", "error", "family", "grant", "hooks", "life", "moment", "owner", "scope", "status",
+]
+
+
+def audited():
+    """Each answered request has a line, which stands before its reply comes, and no secret or token is in it."""
+    with tempfile.TemporaryDirectory() as folder:
+        path = f"{folder}/audit"
+        with Server(options=["--audit", path]) as server:
+            connection = server.connect()
+            ask(connection)
+            ask(connection, NO_PATH, NO_PATH_REPLY)
+            token = token_of(server)
+            with open(path) as lines:
+                text = lines.read()
+        want(not any(secret in text for secret in [*secrets, token]), f"a secret is in {text}")
+        begun, *lines = [json.loads(line) for line in text.splitlines()]
+        counts = {"clients": len(rules["clients"]), "owners": len(rules["owners"])}
+        want({**begun, "began": None} == {"began": None, **counts}, f"the life begins with {begun}")
+        want(begun["began"] <= lines[0]["moment"], f"it begins at {begun} before {lines[0]}")
+        for line in lines:
+            want(list(line) == AUDITED, f"the members are {list(line)}")
+        told = [(line["endpoint"], line["status"], line["client"], line["grant"]) for line in lines]
+        asking = next(each for each in rules["clients"] if "client_credentials" in each["grants"])
+        wanted = [
+            ("introspect", 200, client["id"], None),
+            ("nowhere", 404, None, None),
+            ("token", 200, asking["id"], "client_credentials"),
+        ]
+        want(told == wanted, f"told is {told}")
+        given = lines[2]
+        want(given["hooks"] == [] and given["owner"] is None, f"no hook, and no owner: {given}")
+        want(given["asked"] == {"life": given["life"], "scope": given["scope"]}, f"all that was asked: {given}")
+        want(given["family"] is not None, f"its family: {given}")
+        return "three requests have three lines, in their order"
+
+
+class Output:
+    """A socket, or a pipe of 4,096 bytes, that is a server's standard output."""
+
+    def __init__(self, is_socket):
+        if is_socket:
+            here, self.there = socket.socketpair()
+            self.reader = here.makefile("rb")
+        else:
+            here, writer = os.pipe()
+            fcntl.fcntl(writer, fcntl.F_SETPIPE_SZ, 4096)
+            self.reader, self.there = os.fdopen(here, "rb"), os.fdopen(writer, "wb")
+        self.lines, self.lost = 0, 0
+
+    def fileno(self):
+        return self.there.fileno()
+
+    def read(self):
+        """Counts the lines of requests that come, and those that were lost."""
+        for line in self.reader:
+            told = json.loads(line)
+            self.lines += list(told) == AUDITED
+            self.lost += told.get("dropped", 0)
+
+
+def audited_output():
+    """Standard output is a socket, and then a pipe. While nobody reads it, each request is answered all the same. Once somebody does,
+    each line is whole, and each request has one, or is counted."""
+    told = []
+    for is_socket in (True, False):
+        output, longest = Output(is_socket), 0
+        with Server(options=["--audit", "-"], output=output) as server:
+            connection = server.connect()
+            for _ in range(2999):
+                longest = max(longest, ask(connection))
+            want(longest < PATIENCE, f"a request took {longest:.2f} seconds")
+            threading.Thread(target=output.read, daemon=True).start()
+            time.sleep(0.5)
+            ask(connection)
+            time.sleep(0.5)
+        want(output.lines + output.lost == 3000 and output.lost > 0, f"{output.lines} lines, {output.lost} lost")
+        want(output.lines > 0, "the last request has no line")
+        told.append(f"{output.lost} of 3,000 are lost")
+    return "; ".join(told)
+
+
 def other_draws():
     """Two starts, and two connections of each: no token comes twice."""
     tokens = []
@@ -731,6 +817,8 @@ CHECKS = {
     "whole-replies": whole_replies,
     "reports": reports,
     "stalled-pipe": stalled_pipe,
+    "audited": audited,
+    "audited-output": audited_output,
     "other-draws": other_draws,
 }
 

@@ -9,7 +9,7 @@ use row_files::reading::rows_of;
 use running::run_row;
 use std::env;
 use std::fs::{self, File};
-use std::io::{self, ErrorKind};
+use std::io::{self, ErrorKind, Stdout};
 use std::net::Net;
 use std::process::ExitCode;
 use std::random::RandomSource;
@@ -19,6 +19,7 @@ use std::rt::{Clock, Env, Files};
 /// them differ.
 fn run_file<R: Files<File = File> + Net + Clock + RandomSource + Print + AllocGlobal>(
     rt: &R,
+    stdout: Stdout,
     names: &mut Names,
     path: &str,
 ) -> io::Result<(usize, usize)> {
@@ -26,7 +27,7 @@ fn run_file<R: Files<File = File> + Net + Clock + RandomSource + Print + AllocGl
     let rows = rows_of(rt.alloc(), names, text.as_str())?;
     let mut differ = 0usize;
     for row in &rows {
-        let told = run_row(rt, row)?;
+        let told = run_row(rt, stdout, row)?;
         if !told.is_empty() {
             differ = differ.saturating_add(1);
             let name = row.name.as_str();
@@ -47,14 +48,16 @@ fn told(rt: &impl Eprint, place: &str, error: io::Error) -> io::Error {
 /// Runs the rows in the files that the program's words say, one after the other, and says how many differ.
 fn run_files<
     R: Files<File = File> + Net + Clock + RandomSource + Env + Print + Eprint + AllocGlobal,
->(rt: &R) -> io::Result<usize> {
+>(rt: &R, stdout: Stdout) -> io::Result<usize> {
     let args = env::args(rt).map_err(|error| told(rt, "arguments", error))?;
     let paths: Vec<String> = args.skip(1).collect(rt.alloc())?;
     let mut names = Names::new(rt.alloc());
     let (mut rows, mut differ) = (0usize, 0usize);
     for path in &paths {
         let path = path.as_str();
-        let (more, wrong) = run_file(rt, &mut names, path).map_err(|error| told(rt, path, error))?;
+        let (more, wrong) = run_file(rt, stdout, &mut names, path).map_err(|error| told(
+            rt, path, error,
+        ))?;
         rows = rows.saturating_add(more);
         differ = differ.saturating_add(wrong);
     }
@@ -63,7 +66,7 @@ fn run_files<
 }
 
 fn main(rt: HostRuntime) -> ExitCode {
-    ExitCode::from(match run_files(&rt) {
+    ExitCode::from(match run_files(&rt, rt.stdout()) {
         Ok(0) => 0,
         // A row differs.
         Ok(_) => 1,

@@ -8,7 +8,7 @@ use row_files::row::{Row, RowFile, Talk, Word};
 use row_files::world::World;
 use std::alloc::{AllocError, Global};
 use std::fs::{self, File, OpenOptions};
-use std::io::{self, Write};
+use std::io::{self, Stdout, Write};
 use std::net::Net;
 use std::os::unix::fs::OpenOptionsExt;
 use std::random::RandomSource;
@@ -59,6 +59,7 @@ fn remove_files<R: Files>(rt: &R, files: &[RowFile]) {
 struct Runner<'m, R> {
     rt: &'m R,
     alloc: Global,
+    stdout: Stdout,
     row: &'m Row,
 }
 
@@ -66,7 +67,13 @@ impl<R: Files<File = File> + Net + Clock + RandomSource + AllocGlobal> Runner<'_
     /// Carries out a command line. Where memory is refused the runner stops, unless the row wants that.
     fn ended(&self, words: &[String]) -> io::Result<Ended> {
         let (mut out, mut err) = (Vec::new(self.alloc), Vec::new(self.alloc));
-        let status = perform::<_, _, _, Unknown>(self.rt, words, &mut out, &mut err).code();
+        let status = perform::<_, _, _, Unknown>(
+            self.rt,
+            words,
+            self.stdout,
+            &mut out,
+            &mut err,
+        ).code();
         if status == Status::NoMemory.code() && self.row.status != Some(status) {
             return Err(io::Error::from(AllocError));
         }
@@ -153,6 +160,7 @@ impl<R: Files<File = File> + Net + Clock + RandomSource + AllocGlobal> Runner<'_
 /// Runs a row, and tells what differs: nothing, where all ended as it is to end. Its files are removed behind it.
 pub fn run_row<R: Files<File = File> + Net + Clock + RandomSource + AllocGlobal>(
     rt: &R,
+    stdout: Stdout,
     row: &Row,
 ) -> io::Result<String> {
     let clock = Standing {
@@ -163,6 +171,7 @@ pub fn run_row<R: Files<File = File> + Net + Clock + RandomSource + AllocGlobal>
     let runner = Runner {
         rt: &world,
         alloc: rt.alloc(),
+        stdout,
         row,
     };
     let mut told = runner.write_files()?;

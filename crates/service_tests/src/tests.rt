@@ -205,7 +205,7 @@ fn done_with(
     out.room = room;
     out.is_full = is_full;
     let mut err = Page::new(rt.alloc());
-    let status = perform::<_, _, _, Unknown>(rt, &words, &mut out, &mut err).code();
+    let status = perform::<_, _, _, Unknown>(rt, &words, rt.stdout(), &mut out, &mut err).code();
     Ok(Outcome { status, out, err })
 }
 
@@ -231,7 +231,13 @@ fn served(rt: &HostRuntime, texts: &[&str], request: &str) -> Result<(Outcome, C
         line: Page::new(rt.alloc()),
     };
     let mut err = Page::new(rt.alloc());
-    let status = perform::<_, _, _, Unknown>(&visited, &words, &mut door, &mut err).code();
+    let status = perform::<_, _, _, Unknown>(
+        &visited,
+        &words,
+        rt.stdout(),
+        &mut door,
+        &mut err,
+    ).code();
     let clients = seats.replace(None).ok_or("nobody came")?;
     let out = door.line;
     Ok((Outcome { status, out, err }, clients))
@@ -406,7 +412,7 @@ fn answers_and_faults_that_cannot_be_written(rt: HostRuntime) -> Result<(), Fail
     let mut err = Page::new(rt.alloc());
     err.room = 0;
     assert_eq!(rt;
-        perform::<_, _, _, Unknown>(&rt, &words, &mut out, &mut err).code(),
+        perform::<_, _, _, Unknown>(&rt, &words, rt.stdout(), &mut out, &mut err).code(),
         2
     );
     assert_eq!(rt; out.text(), "");

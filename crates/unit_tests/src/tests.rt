@@ -17,4 +17,5 @@ mod room;
 mod sockets;
 mod store;
 mod streams;
+mod told;
 mod words;

@@ -69,6 +69,7 @@ fn come(
 ) -> Result<(), AllocError> {
     assert_eq!(rt; open(edge, connection), Ok(()));
     let mut past = 0usize;
+    let mut nobody = edge.nobody();
     for second in 0..25u32 {
         let start = past;
         past = start
@@ -82,7 +83,10 @@ fn come(
         }
         let piece = bytes.as_slice().get(start..past).unwrap_or(&[]);
         let moment = Moment::new(u64::from(1000 + second));
-        assert_eq!(rt; edge.hear(connection, piece, moment, rng), Ok(()));
+        assert_eq!(rt;
+            edge.hear(connection, piece, moment, rng, &mut nobody),
+            Ok(())
+        );
     }
     assert_eq!(rt; end(edge, connection), Ok(()));
     Ok(())

@@ -7,7 +7,7 @@ use super::asked::{
 };
 use super::exchanges::{Exchange, assert_answered, edge_of, first, open};
 use hook_chain::Chain;
-use hook_host::{HookFault, HookHost, decided};
+use hook_host::{HookFault, HookHost, Verdicts, decided};
 use hook_record::{Ask, Narrowed};
 use insn::layout::Layout;
 use std::test::Fail;
@@ -20,9 +20,13 @@ struct Answering {
 }
 
 impl HookHost for Answering {
+    ghost use Rattle.std.specs.Prelude.{[], ◌∷◌, codes, refl};
+    ghost use Rattle.hook_host.specs.Verdicts.{verdict_of};
     ghost use Rattle.hook_chain.specs.Chains.{Accepts, IsInstalled, IsRemoved, RefusesInstall, RefusesRemove, hook_names};
 
     ghost answer = { λ host _. host.answer };
+
+    ghost verdicts = { λ host _. verdict_of (codes "any") host.answer ∷ [] };
 
     ghost names = { λ host. hook_names host.hooks };
 
@@ -38,6 +42,12 @@ impl HookHost for Answering {
 
     fn decide(&self, _ask: &Ask) -> Narrowed {
         self.answer
+    }
+
+    fn explain(&self, _ask: &Ask) -> Verdicts {
+        let mut verdicts = Verdicts::none();
+        verdicts.push("any", self.answer);
+        verdicts
     }
 
     fn check(&self, name: &str, layout: Layout, code: &[u8]) -> Result<Answering, HookFault> {
@@ -64,6 +74,8 @@ impl HookHost for Answering {
     fn name_at(&self, i: usize) -> Option<&str> {
         self.hooks.name_at(i)
     }
+
+    ghost last_answers = { λ host _. refl };
 }
 
 fn allowed(scope: u64, life: u32) -> Narrowed {

@@ -10,6 +10,7 @@ use rand_core::SeedableRng;
 use std::alloc::Global;
 use std::cell::Cell;
 use std::test::Fail;
+use telling::Tellings;
 
 /// It changes something: a token is issued.
 const ASKS: &str =
@@ -253,6 +254,7 @@ fn outcome_of(alloc: Global, requests: &[&str], ways: Ways) -> Result<Outcome, C
             is_pressed: false,
             has_failed: false,
         },
+        tellings: Tellings::unwanted(alloc),
     };
     let fault = serve_all(&mut tools, limits(None));
     Ok(Outcome {

@@ -6,6 +6,7 @@ use event_loop::{Accepted, LoopFault, Ready, Received, Sent, Sockets, Tools, ser
 use rand_chacha::ChaCha20Rng;
 use rand_core::SeedableRng;
 use std::test::Fail;
+use telling::Tellings;
 
 const ASKS: &str =
     "POST /token HTTP/1.1\r\nContent-Length: 61\r\n\r\ngrant_type=client_credentials&client_id=bot&client_secret=b0t";
@@ -98,6 +99,7 @@ fn a_request_that_comes_meanwhile_is_kept_with_the_first(rt: HostRuntime) -> Res
         generator: ChaCha20Rng::from_seed([0; 32]),
         journal: Count::new(),
         keeper: NoKeeper,
+        tellings: Tellings::unwanted(rt.alloc()),
     };
     assert_eq!(rt; serve_all(&mut tools, limits(None)), LoopFault::Wait);
     // Nothing was written before both were read.

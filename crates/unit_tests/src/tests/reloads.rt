@@ -12,6 +12,7 @@ use rand_chacha::ChaCha20Rng;
 use rand_core::SeedableRng;
 use std::alloc::Global;
 use std::test::Fail;
+use telling::Tellings;
 
 const RULES: &str =
     "{\"access_life\":300,\"refresh_life\":600,\"operator\":\"op-key\",\"owners\":[],\"scopes\":[\"read\"],\"clients\":[]}";
@@ -237,6 +238,7 @@ fn served_three(alloc: Global, rest_at: u64, take_at: u64) -> Result<(Three, Loo
         generator: ChaCha20Rng::from_seed([0; 32]),
         journal: Count::new(),
         keeper: NoKeeper,
+        tellings: Tellings::unwanted(alloc),
     };
     let limits = Limits {
         idle: 1000,

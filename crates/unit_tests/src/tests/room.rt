@@ -8,6 +8,7 @@ use rand_chacha::ChaCha20Rng;
 use rand_core::SeedableRng;
 use std::alloc::Global;
 use std::test::Fail;
+use telling::Tellings;
 
 const REQUEST: &[u8; 19] = b"GET /x HTTP/1.1\r\n\r\n";
 
@@ -152,6 +153,7 @@ fn serve_crowd(alloc: Global, most: usize) -> Result<(Crowd, LoopFault), ConfigF
         generator: ChaCha20Rng::from_seed([0; 32]),
         journal: Count::new(),
         keeper: NoKeeper,
+        tellings: Tellings::unwanted(alloc),
     };
     let limits = Limits {
         idle: u64::MAX,

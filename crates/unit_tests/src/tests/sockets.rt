@@ -16,6 +16,7 @@ use rand_chacha::ChaCha20Rng;
 use rand_core::SeedableRng;
 use std::alloc::Global;
 use std::test::Fail;
+use telling::Tellings;
 
 const REGISTRY: &[u8] =
     br#"{"access_life":300,"refresh_life":86400,"operator":"op-key","owners":["ann-key"],"scopes":["read"],"clients":[{"id":"bot","secret":"b0t","redirects":[],"scope":"read","grants":["client_credentials"]}]}"#;
@@ -317,6 +318,8 @@ impl Journal for Count {
 
     ghost reports = { λ _ _ _. ⊤ };
 
+    ghost audits = { λ _ _ _ _. ⊤ };
+
     fn note(&mut self, _fault: ConnectionFault) {}
 
     fn report(&mut self, notice: &Notice) {
@@ -336,6 +339,8 @@ impl Journal for Count {
             _ => {}
         }
     }
+
+    fn audit(&mut self, _rules: &Registry, _tellings: &Tellings) {}
 }
 
 /// Nobody is silent for too long.
@@ -378,6 +383,7 @@ fn ended(alloc: Global, seed: u8, failures: Option<u32>) -> Result<Run, ConfigFa
         generator: ChaCha20Rng::from_seed([0; 32]),
         journal: Count::new(),
         keeper: NoKeeper,
+        tellings: Tellings::unwanted(alloc),
     };
     let fault = serve_all(&mut tools, limits(Some(5)));
     Ok(Run {
