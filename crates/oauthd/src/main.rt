@@ -10,7 +10,7 @@ fn main(rt: HostRuntime) -> ExitCode {
     let mut out = rt.stdout();
     let mut err = rt.stderr();
     let status = match program_words(&rt) {
-        Ok(words) => perform::<_, _, _, Unknown>(&rt, &words, &mut out, &mut err),
+        Ok(words) => perform::<_, _, _, Unknown>(&rt, &words, rt.stdout(), &mut out, &mut err),
         Err(fault) => told(fault, &mut err),
     };
     ExitCode::from(status.code())
