@@ -423,6 +423,40 @@ within_narrowed w a b n at_n inside = record {
   single = λ x y one other. subst (λ (z : ℕ). word_holds w Eq x z ≡ true) ((shows_one b y other x).0 (inside x ((shows_one a x one x).1 refl))) (same_holds w x);
 }
 
+-- one that covers others is left those, if there is one of them
+pub covered_narrowed : (w : Width) (a b : Scalar) (n : ℕ) → InScalar b n → IsWithin InScalar b a → AreNarrowed (record { cond = Eq; width = w; taken = true }) a b (b, b)
+covered_narrowed w a b n at_n inside = record {
+  within = (inside, λ x h. h);
+  words = λ sees said. record {
+    left = λ s all x h. all x (x, (inside x h).unsigned, h.unsigned, same_holds W64 x);
+    right = λ s all x h. all x (x, (inside x h).unsigned, h.unsigned, same_holds W64 x);
+    some = (n, (n, (inside n at_n).unsigned, at_n.unsigned, same_holds W64 n));
+  };
+  numbers = λ whole said. record {
+    left = λ s all x h. all x (x, (inside x h).signed, h.signed, same_holds W64 x);
+    right = λ s all x h. all x (x, (inside x h).signed, h.signed, same_holds W64 x);
+    some = (n, (n, (inside n at_n).signed, at_n.signed, same_holds W64 n));
+  };
+  halves = λ half said. record {
+    left = λ s all x h. all x (x, (inside x h).half, h.half, same_holds W32 x);
+    right = λ s all x h. all x (x, (inside x h).half, h.half, same_holds W32 x);
+    some = (n, (n, (inside n at_n).half, at_n.half, same_holds W32 n));
+  };
+  equal = λ sees said. (λ x h. h, inside);
+  bits = λ said. (
+    λ x h. record { partner = x; there = h.bits; alike = refl },
+    λ x h. record { partner = x; there = (inside x h).bits; alike = refl },
+  );
+  single = λ x y one other. subst (λ (z : ℕ). word_holds w Eq z y ≡ true) ((shows_one a x one y).0 (inside y ((shows_one b y other y).1 refl))) (same_holds w y);
+}
+
+-- words that are equal are one
+pub same_word : (x y : ℕ) → x < 2 ^ 64 → y < 2 ^ 64 → word_holds W64 Eq x y ≡ true → y ≡ x
+same_word x y h1 h2 h3 = grind (arith)
+
+pub covered_kept : (a b : Scalar) → IsEqualKept W64 a b (Some b)
+covered_kept a b x y at_a at_b same = subst (InScalar b) (same_word x y (InScalar-words a x at_a) (InScalar-words b y at_b) same) at_b
+
 -- ==== what a link leaves of what is known of its two registers
 
 -- ---- two registers

@@ -179,6 +179,11 @@ abbrev pub moved_by : Action → ℕ → Option Link → Option Link
 moved_by (Operate w Add dst (Imm imm)) k link = moved_from dst (w, imm) k link
 moved_by action k link = None
 
+-- an instruction adds a constant to a register; no other one moves links
+abbrev pub AddsConstant : Action → Type 0
+AddsConstant (Operate w Add dst (Imm imm)) = Unit {0}
+AddsConstant action = ⊥
+
 -- the link of register k among those that are moved, if any are
 abbrev pub links_in : Option Links → ℕ → Option Link
 links_in None k = None

@@ -3,7 +3,7 @@
 ghost use Rattle.std.specs.Option.{option_or};
 ghost use Rattle.std.specs.Prelude.{◌≡◌, ◌<◌, ℕ, None, Some, if◌then◌else◌, IfSome, length, slice_index_or, false, true};
 ghost use Rattle.insn.specs.Instruction.{reg_number};
-ghost use Rattle.links.specs.Links.{AreHomeless, AreHomesLeft, AreLeft, AreLinksJoined, AreMade, IsLinkJoin, bits_moved, home_at, home_unless as spec_home_unless, link_moved, links_in, moved_by, moved_from as spec_moved_from, plus_moved as spec_plus_moved, bits_after, copied, difference_made, has_turn as spec_has_turn, joins as spec_joins, less, lesser, link_after, link_at, link_kept, link_left, link_made, link_of as spec_link_of, with_turn as spec_with_turn};
+ghost use Rattle.links.specs.Links.{AddsConstant, AreHomeless, AreHomesLeft, AreLeft, AreLinksJoined, AreMade, IsLinkJoin, bits_moved, home_at, home_unless as spec_home_unless, link_moved, links_in, moved_by, moved_from as spec_moved_from, plus_moved as spec_plus_moved, bits_after, copied, difference_made, has_turn as spec_has_turn, joins as spec_joins, less, lesser, link_after, link_at, link_kept, link_left, link_made, link_of as spec_link_of, with_turn as spec_with_turn};
 ghost use Rattle.links.specs.LinksParts.{AreNumbersRefined, AreSameKept, IsEqualKept, IsLinkRefined};
 ghost use Rattle.links.specs.Narrowed.{AreLinkNarrowed, AreSameNarrowed, IsDerived, IsLinkNarrowed, IsNarrowedTo, IsTraced};
 
@@ -273,13 +273,25 @@ fn narrowed_to(width: Width, numbers: Scalar, others: Scalar) -> Option<Scalar>
     Some(numbers)
 }
 
+/// What numbers can still be that are one of others; `None` where there are none. They are the others where they cover
+/// them and there is one of those at least.
+fn same_in(numbers: Scalar, others: Scalar) -> Option<Scalar>
+    ensures right { IsEqualKept Width.W64 numbers others result }
+    ensures narrowed { IfSome result (IsNarrowedTo Width.W64 numbers others) }
+{
+    if numbers.covers(others) && others.has(others.bounds().0) {
+        return Some(others);
+    }
+    narrowed_to(Width::W64, numbers, others)
+}
+
 /// What two numbers can still be that are the same; `None` where there are none.
 pub fn refine_same(stored: Scalar, held: Scalar) -> Option<(Scalar, Scalar)>
     ensures right { AreSameKept stored held result }
     ensures narrowed { IfSome result (AreSameNarrowed stored held) }
 {
-    let held = narrowed_to(Width::W64, held, stored)?;
-    let stored = narrowed_to(Width::W64, stored, held)?;
+    let held = same_in(held, stored)?;
+    let stored = same_in(stored, held)?;
     Some((stored, held))
 }
 
@@ -350,6 +362,16 @@ impl Links {
         ensures { result ≡ home_at self.now number }
     {
         if self.any { self.homes[number] } else { None }
+    }
+
+    /// Whether the register of a number has neither a link nor a home.
+    #[inline(always)]
+    pub fn is_bare(&self, number: usize) -> bool
+        requires { number < 11 }
+        ensures link { result ≡ true → link_at self.now number ≡ None }
+        ensures home { result ≡ true → home_at self.now number ≡ None }
+    {
+        self.each[number].is_none() && self.homes[number].is_none()
     }
 
     /// Whether some register has a home.
@@ -470,7 +492,7 @@ impl Links {
             Action::Operate(width, BinOp::Sub, dst, Operand::Reg(src)) => {
                 difference(width, dst, src, registers)
             }
-            Action::Operate(width, op, dst, Operand::Imm(imm)) => {
+            Action::Operate(width, op, dst, Operand::Imm(imm)) if self.any => {
                 self.after_operation(dst, width, op, imm)
             }
             _ => None,
@@ -492,9 +514,10 @@ impl Links {
             .of_register(register)
     }
 
-    /// Whether an instruction may move links.
+    /// Whether an instruction may move links: it adds a constant to a register.
     pub fn moves(&self, action: Action) -> bool
-        ensures { result ≡ false → (k : ℕ) → k < 11 → moved_by action k (link_at self.now k) ≡ None }
+        ensures sum { result ≡ true → AddsConstant action }
+        ensures none { result ≡ false → (k : ℕ) → k < 11 → moved_by action k (link_at self.now k) ≡ None }
     {
         match action {
             Action::Operate(_, BinOp::Add, _, Operand::Imm(_)) => self.any,
