@@ -5,7 +5,7 @@ use Rattle.hook_record.specs.declared.Ask.{Ask}
 use Rattle.hook_record.specs.declared.Narrowed.{Narrowed}
 use Rattle.hook_record.specs.declared.Narrowed.TheVariants.{Denied, EmptyScope, Allowed}
 use Rattle.hook_host.specs.Verdicts.{Verdict, last_left}
-use Rattle.hook_host.specs.Names.{IsHookName, hook_limit, name_limit}
+use Rattle.hook_host.specs.Names.{IsHookName, name_limit}
 use Rattle.std.proofs.lemmas.List.{drop_more, get_or-map, length-map}
 use Rattle.std.proofs.lemmas.List.Elements.{All-get_or}
 use Rattle.verifier.specs.Verdicts.{Checked}
@@ -55,12 +55,6 @@ turn_on ask left named hooks told i below is =
     ∙ ap (λ (more : List Verdict). told ++ more) (left_by_first ask left named (drop (i + 1) hooks))
     ∙ ap (λ (rest : List Named). told ++ left_in_turn ask left rest) (sym (drop_more hooks i named below ∙ ap (λ (x : Named). x ∷ drop (i + 1) hooks) (sym is)))
 
--- of one hook there is one verdict at most
-pub turn_few : (ask : Ask) (left : Narrowed) (named : Named) → length (left_in_turn ask left (named ∷ [])) ≤ 1
-turn_few ask (Allowed scope life) named = omega arith
-turn_few ask Denied named = omega arith
-turn_few ask EmptyScope named = omega arith
-
 -- a hook's name is short
 pub name_short : (hooks : List Named) (capacity i : ℕ) (named : Named) → HoldsAll hooks capacity → i < length hooks → named ≡ get_or hooks i named →
     length named.name ≤ name_limit
@@ -69,7 +63,3 @@ name_short hooks capacity i named holds below is =
     let name = All-get_or IsHookName (hook_names hooks) i named.name there holds.names.each in
     let same : get_or (hook_names hooks) i named.name ≡ named.name = get_or-map (λ (h : Named). h.name) hooks i named named.name below ∙ ap (λ (h : Named). h.name) (sym is) in
     subst (λ (text : List ℕ). length text ≤ name_limit) same name.short
-
--- before the last hook was asked there is a place for what it leaves
-pub place_left : (hooks : List Named) (capacity i : ℕ) (told : List Verdict) → HoldsAll hooks capacity → i < length hooks → length told ≤ i → length told < hook_limit
-place_left hooks capacity i told holds below few = omega (arith, below, few, holds.names.few, length-map hooks (λ (h : Named). h.name))

@@ -12,7 +12,7 @@ use encoding::decode;
 use hook_host::{HookFault, HookHost, Verdicts};
 use hook_record::{Ask, Narrowed};
 use insn::layout::Layout;
-use std::alloc::Global;
+use std::alloc::{AllocError, Global};
 use std::marker::Model;
 use verifier::verified::{Verified, verify};
 
@@ -131,17 +131,16 @@ impl HookHost for Chain {
         left
     }
 
-    #[tactic(auto, using(crate::specs::TurnLaws::place_left))]
-    fn explain(&self, ask: &Ask) -> Verdicts {
-        let mut verdicts = Verdicts::none();
+    fn explain(&self, alloc: Global, ask: &Ask) -> Result<Verdicts, AllocError> {
+        let mut verdicts = Verdicts::none(alloc);
         let mut left = Narrowed::Allowed {
             scope: ask.scope,
             life: ask.life,
         };
         for hook in &self.hooks {
-            left = hook.judge(ask, left, &mut verdicts);
+            left = hook.judge(ask, left, &mut verdicts)?;
         }
-        verdicts
+        Ok(verdicts)
     }
 
     fn check(&self, name: &str, layout: Layout, code: &[u8]) -> Result<Chain, HookFault> {

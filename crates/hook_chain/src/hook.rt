@@ -1,15 +1,16 @@
 //! One hook, and what it leaves of an ask.
 
-ghost use Rattle.std.specs.Prelude.{◌≡◌, ◌<◌, ◌≤◌, ◌++◌, ◌∷◌, [], length};
+ghost use Rattle.std.specs.Prelude.{◌≡◌, ◌≤◌, ◌++◌, ◌∷◌, [], IfOk, OnOk, length};
 ghost use Rattle.insn.specs.Values.{record_size};
 ghost use Rattle.hook_chain.specs.Exits.{narrowed_by_hook, narrowed_further, record_of};
 ghost use Rattle.hook_chain.specs.Turns.{left_in_turn};
-ghost use Rattle.hook_host.specs.Names.{hook_limit, name_limit};
+ghost use Rattle.hook_host.specs.Names.{name_limit};
 
 use flat_machine::run;
 use hook_host::Verdicts;
 use hook_record::{Ask, Narrowed, narrow, write, write_v2};
 use insn::layout::Layout;
+use std::alloc::AllocError;
 use std::marker::Model;
 use verifier::verified::Verified;
 
@@ -66,16 +67,20 @@ impl Hook {
     }
 
     /// What the hook leaves of what is left so far, which is told where the hook is asked.
-    pub fn judge(&self, ask: &Ask, left: Narrowed, verdicts: &mut Verdicts) -> Narrowed
-        requires few { length verdicts.old < hook_limit }
-        requires short { length self.now.name ≤ name_limit }
-        ensures left { result ≡ narrowed_further ask.entry.now left self.now.hook }
-        ensures told { verdicts.new ≡ verdicts.old ++ left_in_turn ask.entry.now left (self.now ∷ []) }
+    pub fn judge(
+        &self,
+        ask: &Ask,
+        left: Narrowed,
+        verdicts: &mut Verdicts,
+    ) -> Result<Narrowed, AllocError>
+        requires { length self.now.name ≤ name_limit }
+        ensures left { IfOk result (λ further. further ≡ narrowed_further ask.entry.now left self.now.hook) }
+        ensures told { OnOk result (verdicts.new ≡ verdicts.old ++ left_in_turn ask.entry.now left (self.now ∷ [])) }
     {
         let further = self.narrowed_further(ask, left);
         if let Narrowed::Allowed { .. } = left {
-            verdicts.push(self.name.as_str(), further);
+            verdicts.push(self.name.as_str(), further)?;
         }
-        further
+        Ok(further)
     }
 }

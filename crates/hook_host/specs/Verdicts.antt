@@ -1,5 +1,5 @@
 -- What each hook of a host leaves of an ask.
-use Rattle.std.specs.Prelude.{ℕ, List, [], ◌∷◌, map, take}
+use Rattle.std.specs.Prelude.{ℕ, List, [], ◌∷◌, take}
 use Rattle.hook_host.specs.declared.entry.Entry.{Entry}
 use Rattle.hook_record.specs.declared.Narrowed.{Narrowed}
 
@@ -14,10 +14,6 @@ verdict_of name left = record { name = name; left = left }
 -- what an entry keeps
 abbrev pub verdict_in : Entry → Verdict
 verdict_in entry = record { name = take entry.size entry.name; left = entry.left }
-
--- what so many entries keep
-abbrev pub verdicts_in : ℕ → List Entry → List Verdict
-verdicts_in count entries = map verdict_in (take count entries)
 
 -- what the last of the hooks left, or what there was before all of them
 abbrev pub last_left : Narrowed → List Verdict → Narrowed

@@ -19,15 +19,6 @@ pub struct Entry {
 impl Entry {
     ghost use Rattle.hook_host.specs.Verdicts.{verdict_in, verdict_of};
 
-    /// No hook denied.
-    pub(crate) fn nothing() -> Self {
-        Entry {
-            name: [0; LONGEST],
-            size: 0,
-            left: Narrowed::Denied,
-        }
-    }
-
     /// The hook of the name left this.
     #[tactic(auto, using(crate::proofs::Filling::front))]
     pub(crate) fn new(name: &str, left: Narrowed) -> Self

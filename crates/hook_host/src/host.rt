@@ -14,6 +14,7 @@ ghost use Rattle.hook_host.specs.Verdicts.{Verdict, last_left};
 use crate::{HookFault, Verdicts};
 use hook_record::{Ask, Narrowed};
 use insn::layout::Layout;
+use std::alloc::{AllocError, Global};
 
 /// Keeps hooks under names, and answers what may be granted.
 ///
@@ -50,8 +51,8 @@ pub trait HookHost: Drop {
         ensures { result ≡ answer self.now ask.entry.now };
 
     /// What each hook leaves of an ask.
-    fn explain(&self, ask: &Ask) -> Verdicts
-        ensures { result ≡ verdicts self.now ask.entry.now };
+    fn explain(&self, alloc: Global, ask: &Ask) -> Result<Verdicts, AllocError>
+        ensures { IfOk result (λ told. told ≡ verdicts self.now ask.entry.now) };
 
     /// Tests whether a program, which reads records of a layout, may be installed under a name. What it gives has that hook
     /// alone, and all memory that is wanted for taking it.
