@@ -61,19 +61,20 @@ impl Endpoint {
         }
     }
 
-    fn path(self) -> &'static [u8]
+    /// Its path.
+    pub fn path(self) -> &'static str
         ensures { result.now ≡ path_at self }
     {
         match self {
-            Endpoint::Authorize => b"/authorize".as_slice(),
-            Endpoint::GiveConsent => b"/consent".as_slice(),
-            Endpoint::IssueToken => b"/token".as_slice(),
-            Endpoint::RevokeToken => b"/revoke".as_slice(),
-            Endpoint::Introspect => b"/introspect".as_slice(),
-            Endpoint::InstallHook => b"/hooks".as_slice(),
-            Endpoint::RemoveHook => b"/hooks/remove".as_slice(),
-            Endpoint::EndOwner => b"/owners/end".as_slice(),
-            Endpoint::Read(Document::Hooks) => b"/hooks/list".as_slice(),
+            Endpoint::Authorize => "/authorize",
+            Endpoint::GiveConsent => "/consent",
+            Endpoint::IssueToken => "/token",
+            Endpoint::RevokeToken => "/revoke",
+            Endpoint::Introspect => "/introspect",
+            Endpoint::InstallHook => "/hooks",
+            Endpoint::RemoveHook => "/hooks/remove",
+            Endpoint::EndOwner => "/owners/end",
+            Endpoint::Read(Document::Hooks) => "/hooks/list",
         }
     }
 
@@ -117,7 +118,7 @@ fn among(path: &[u8], endpoints: &[Endpoint]) -> Option<Endpoint>
     ensures { result ≡ find (λ endpoint. bytes_eq path.now (path_at endpoint)) endpoints.now }
 {
     match endpoints {
-        [endpoint, ..] if path == endpoint.path() => Some(*endpoint),
+        [endpoint, ..] if path == endpoint.path().as_bytes() => Some(*endpoint),
         [_, others @ ..] => among(path, others),
         [] => None,
     }

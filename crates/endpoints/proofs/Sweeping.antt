@@ -1,17 +1,17 @@
 -- What a step leaves is swept.
 use Rattle.std.proofs.Common.{◌≡◌, ◌⊎◌, inl, inr, ◌+◌, ◌≤◌, ℕ, List, length, max, ap, sym, ◌∙◌, arith, subst}
-use Rattle.endpoints.proofs.Names.{Event, unexpired_count, Hosting, FitsStore, Held, SeenServer, Outset, FitsServer, Arrival, IsSwept, Sweeps}
-use Rattle.endpoints.specs.Telling.{StepsTelling}
+use Rattle.endpoints.proofs.Names.{Event, unexpired_count, Hosting, FitsStore, Held, SeenServer, Outset, FitsServer, IsSwept, Sweeps}
+use Rattle.endpoints.specs.Telling.{Heeded, StepsTelling}
 use Rattle.telling.specs.declared.telling.Stepped.{Stepped}
 use Rattle.endpoints.proofs.Answering.{swept_step}
 
 module _ {H : Type 0} (hosting : Hosting H) where
-  pub swept_steps : (old mid : SeenServer H) (kept : Held) (arrival : Arrival) (stepped : Stepped) →
+  pub swept_steps : (old mid : SeenServer H) (kept : Held) (heeded : Heeded) (stepped : Stepped) →
       ((history : List Event) → FitsStore mid.store history mid.greatest → FitsStore kept history mid.greatest) →
-      StepsTelling hosting old arrival stepped mid → StepsTelling hosting old arrival stepped (record mid { store = kept })
-  swept_steps old mid kept arrival stepped dropped steps outset history m fits =
+      StepsTelling hosting old heeded stepped mid → StepsTelling hosting old heeded stepped (record mid { store = kept })
+  swept_steps old mid kept heeded stepped dropped steps outset history m fits =
       let s = steps outset history m fits in
-      (s.0, s.1, s.2, swept_step hosting (record { server = old; outset = outset; history = history; moment = max m arrival.moment }) mid kept _ stepped.reply dropped s.3, s.4)
+      (s.0, s.1, s.2, swept_step hosting (record { server = old; outset = outset; history = history; moment = max m heeded.arrival.moment }) mid kept _ stepped.reply dropped s.3, s.4)
 
   -- what is kept is as much as is unexpired of one history, and so of each
   swept_each : (mid : SeenServer H) (kept : Held) (outset : Outset H) (after : List Event) (n : ℕ) →
@@ -35,10 +35,10 @@ module _ {H : Type 0} (hosting : Hosting H) where
         | inr fewer ↦ inr fewer
       ]
 
-  pub sweeps : (old mid : SeenServer H) (kept : Held) (arrival : Arrival) (stepped : Stepped) →
+  pub sweeps : (old mid : SeenServer H) (kept : Held) (heeded : Heeded) (stepped : Stepped) →
       ((history : List Event) → FitsStore mid.store history mid.greatest → FitsStore kept history mid.greatest) →
       ((history : List Event) → FitsStore mid.store history mid.greatest →
       (length kept.kept ≡ unexpired_count history mid.greatest) ⊎ length kept.kept + 62 ≤ length old.store.kept) →
-      StepsTelling hosting old arrival stepped mid → Sweeps hosting old (record mid { store = kept })
-  sweeps old mid kept arrival stepped dropped few steps outset history m fits =
-      let s = steps outset history m fits in swept_or mid kept outset _ (max m arrival.moment) (length old.store.kept) dropped few s.3.fits
+      StepsTelling hosting old heeded stepped mid → Sweeps hosting old (record mid { store = kept })
+  sweeps old mid kept heeded stepped dropped few steps outset history m fits =
+      let s = steps outset history m fits in swept_or mid kept outset _ (max m heeded.arrival.moment) (length old.store.kept) dropped few s.3.fits

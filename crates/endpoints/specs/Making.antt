@@ -15,11 +15,11 @@ abbrev pub HasConsentRoom : KeptConsents → List Change → Type 0
 HasConsentRoom kept (Consented owner client mask ∷ []) = 1 ≤ kept.room
 HasConsentRoom kept cs = Unit {0}
 
--- there is room for the changes, and they are ready to be noted at the moment
-pub record HasRooms {H : Type 0} (server : SeenServer H) (moment : ℕ) (changes : Changes) : Type 0 where
+-- there is room for the changes, and they are ready to be noted at the greatest moment
+pub record HasRooms {H : Type 0} (server : SeenServer H) (changes : Changes) : Type 0 where
   pub store : HasRoom server.store (as_list changes)
   pub consents : HasConsentRoom server.consents (as_list changes)
-  pub notes : ArePrepared server.prepared moment changes
+  pub notes : ArePrepared server.prepared server.greatest changes
 
 -- nothing has changed but what room there is
 pub record IsSame {H : Type 0} (hosting : Hosting H) (old new : SeenServer H) : Type 0 where
@@ -31,7 +31,7 @@ pub record IsSame {H : Type 0} (hosting : Hosting H) (old new : SeenServer H) : 
 
 -- the server can make and note the changes of a ruling, without memory
 pub record IsReadyToMake {H : Type 0} (hosting : Hosting H) (server : SeenServer H) (changes : Changes) (checked : Checked H) : Type 0 where
-  pub rooms : HasRooms server server.greatest changes
+  pub rooms : HasRooms server changes
   pub hook : CanTake hosting server.host (as_list changes) checked
 
 -- the host comes by the changes from the one before, where it can make its own

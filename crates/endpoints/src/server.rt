@@ -1,5 +1,5 @@
 //! The server.
-ghost use Rattle.std.specs.Prelude.{◌≡◌, ◌≤◌, [], None, Some, IfErr, IfOk, OnErr, OnOk, is_some, max, length, option_map, unwrap_or, ◌⊎◌, ◌+◌};
+ghost use Rattle.std.specs.Prelude.{◌≡◌, ◌≤◌, [], None, Some, IfErr, IfOk, OnErr, OnOk, max, length, option_map, unwrap_or, ◌⊎◌, ◌+◌};
 ghost use Rattle.consent.specs.Changes.{as_list};
 ghost use Rattle.messages.specs.Asked.{asked_of};
 ghost use Rattle.answers.specs.Short.{IsShortReply, IsShortAnswer, state_limit};
@@ -15,11 +15,11 @@ ghost use Rattle.endpoints.specs.Noting.{IsNothingPrepared, with_notes};
 ghost use Rattle.endpoints.specs.Reading.{EndsAt, IsRequestRead, IsShortReading, endpoint_of};
 ghost use Rattle.endpoints.specs.Ruling.{CanTake};
 ghost use Rattle.endpoints.specs.Rulings.{RulesRead, asking_at, read_request};
-ghost use Rattle.endpoints.specs.RulingsParts.{AnswersRequest, Begins, RulesReadAlone};
+ghost use Rattle.endpoints.specs.RulingsParts.{AnswersRequest, EndsBy, IsToldBy, RulesReadAlone, heeding};
 ghost use Rattle.endpoints.specs.Listing.{AreConsentsOf, AreRecordsOf, IsLastOf};
 ghost use Rattle.endpoints.specs.Server.{FitsServer, Notes, NowNotes, outset_of};
 ghost use Rattle.endpoints.specs.Steps.{Reaches, Sweeps};
-ghost use Rattle.endpoints.specs.Telling.{StepsTelling};
+ghost use Rattle.endpoints.specs.Telling.{StepsTelling, heeded};
 ghost use Rattle.token_store.specs.Fits.{FitsStore};
 
 use crate::authorize::authorize;
@@ -35,16 +35,16 @@ use crate::reading::{Reading, read};
 use crate::redo::layout_of;
 use crate::revoke::revoke;
 use crate::ruling::{Checked, Ruling};
-use answers::{Answer, Cause, Decision, Endpoint, Halt, Tally, View, Want, write};
+use answers::{Answer, Cause, Decision, Endpoint, Halt, Tally, View, Want, status_of, write};
 use change_codec::Batch;
 use clients::Registry;
 use consent::{Change, Changes, Consents, KeptConsent, KeptRecord, Moment, RecordVersion};
 use hook_host::{HookFault, HookHost, hook_count};
 use http::StatusCode;
-use messages::{Draws, Request};
+use messages::{Draws, Request, failure};
 use std::alloc::{AllocError, Global};
 use std::marker::Model;
-use telling::{Stepped, Telling};
+use telling::{Interest, Stepped, Told, Upshot, told_sought};
 use token_endpoint::decide;
 use token_store::Store;
 
@@ -277,23 +277,19 @@ impl<H: HookHost> Server<H> {
         self.greatest
     }
 
-    /// Makes room for the changes, and makes them ready to be noted at the moment, which changes no answer, also where memory
-    /// is refused. Then what was ready is so still, or nothing is.
+    // Makes room for the changes, and makes them ready to be noted at the greatest moment, which changes no answer, also where
+    // memory is refused. Then what was ready is so still, or nothing is.
     #[tactic(auto, using(crate::proofs::Besides::room_for))]
-    pub(crate) fn reserve(
-        &mut self,
-        moment: Moment,
-        changes: &Changes<'_>,
-    ) -> Result<(), AllocError>
+    fn reserve(&mut self, changes: &Changes<'_>) -> Result<(), AllocError>
         ensures same { IsSame H.HookHost self.old self.new }
-        ensures room { OnOk result (HasRooms self.new moment changes.now) }
+        ensures room { OnOk result (HasRooms self.new changes.now) }
         ensures err { OnErr result ((self.new.prepared ≡ self.old.prepared) ⊎ IsNothingPrepared self.new.prepared) }
     {
         if let Changes::One(Change::Consented { .. }) | Changes::Left { .. } = changes {
             self.consents.reserve(1)?;
         }
         self.store.reserve(changes)?;
-        prepare(&mut self.unkept, moment, changes)
+        prepare(&mut self.unkept, self.greatest, changes)
     }
 
     /// Sets a hook, at the greatest moment, which is noted where that is done. A refused one changes nothing.
@@ -317,8 +313,7 @@ impl<H: HookHost> Server<H> {
             version,
             code,
         });
-        let now = self.greatest;
-        let Ok(()) = self.reserve(now, &changes) else {
+        let Ok(()) = self.reserve(&changes) else {
             return Err(HookFault::Memory);
         };
         self.apply(&changes, Checked::Installs(hook));
@@ -338,16 +333,17 @@ impl<H: HookHost> Server<H> {
         self.store.apply(changes, self.greatest);
     }
 
-    // What a request at the endpoint shows by itself, where it is to be told of.
-    fn begin(
+    // What is told of a request at the endpoint, where that is wanted, by what came of it.
+    fn told_of(
         &self,
         endpoint: Endpoint,
         request: &Request<'_>,
         draws: &Draws,
-        is_told: bool,
-    ) -> Result<Telling, AllocError>
-        ensures begun { IfOk result (Begins H.HookHost self.now (asking_at endpoint (asked_of request.now) draws.now)) }
-        ensures wanted { IfOk result (λ telling. is_some telling.facts ≡ is_told) }
+        upshot: Upshot,
+        interest: Interest,
+    ) -> Result<Option<Told>, AllocError>
+        ensures { IfOk result (IsToldBy H.HookHost self.now
+            (heeding (asking_at endpoint (asked_of request.now) draws.now) interest) upshot) }
     {
         let view = View {
             rules: &self.rules,
@@ -356,7 +352,29 @@ impl<H: HookHost> Server<H> {
             moment: self.greatest,
             draws,
         };
-        Telling::begin(self.alloc, &view, &self.host, endpoint, request, is_told)
+        told_sought(
+            interest, self.alloc, &view, &self.host, endpoint, request, upshot,
+        )
+    }
+
+    // What ended a request at the endpoint is answered.
+    fn halted(
+        &self,
+        endpoint: Endpoint,
+        request: &Request<'_>,
+        draws: &Draws,
+        halt: Halt,
+        interest: Interest,
+    ) -> Result<Stepped, AllocError>
+        ensures { IfOk result (EndsBy H.HookHost self.now
+            (heeding (asking_at endpoint (asked_of request.now) draws.now) interest) halt) }
+    {
+        let Halt::Refuse(error) = halt else {
+            return Err(AllocError);
+        };
+        let reply = failure(self.alloc, status_of(error), error)?;
+        let told = self.told_of(endpoint, request, draws, Upshot::refused(error), interest)?;
+        Ok(Stepped { reply, told })
     }
 
     // Answers a request at its endpoint, and makes what comes of it. Where memory is refused, nothing is made. The cause of
@@ -367,27 +385,27 @@ impl<H: HookHost> Server<H> {
         request: &Request<'_>,
         draws: &Draws,
         cause: &mut Option<Cause>,
-        is_told: bool,
+        interest: Interest,
     ) -> Result<Stepped, AllocError>
         ensures replies { AnswersRequest H.HookHost self.old
-            (asking_at endpoint (asked_of request.now) draws.now) result self.new }
-        ensures wanted { IfOk result (λ stepped. is_some stepped.told ≡ is_told) }
+            (heeding (asking_at endpoint (asked_of request.now) draws.now) interest) result self.new }
         ensures short { length request.now.target.now ≤ state_limit → IfOk result (λ stepped. IsShortReply stepped.reply) }
     {
-        let telling = self.begin(endpoint, request, draws, is_told)?;
+        // The decision borrows from the request, which is told of behind it.
+        let again = *request;
         let reading = match self.read(endpoint, request) {
             Ok(reading) => reading,
-            Err(halt) => return telling.halted(self.alloc, halt),
+            Err(halt) => return self.halted(endpoint, &again, draws, halt, interest),
         };
         let Ruling { decision, checked } = match self.decide(request, &reading, draws) {
             Ok(ruling) => ruling,
-            Err(halt) => return telling.halted(self.alloc, halt),
+            Err(halt) => return self.halted(endpoint, &again, draws, halt, interest),
         };
         *cause = Cause::of(&decision.answer);
         let reply = write(self.alloc, &self.rules, &self.host, &decision.answer)?;
-        let told = telling.told(&decision.answer, &decision.changes);
-        let now = self.moment();
-        self.reserve(now, &decision.changes)?;
+        let upshot = Upshot::of(&decision.answer, &decision.changes);
+        let told = self.told_of(endpoint, &again, draws, upshot, interest)?;
+        self.reserve(&decision.changes)?;
         self.apply(&decision.changes, checked);
         Ok(Stepped { reply, told })
     }
@@ -399,30 +417,26 @@ impl<H: HookHost> Server<H> {
         moment: Moment,
         draws: &Draws,
         cause: &mut Option<Cause>,
-        is_told: bool,
+        interest: Interest,
     ) -> Stepped
         ensures replies { StepsTelling H.HookHost self.old
-            (record { asked = asked_of request.now; moment = moment; draws = draws.now }) result self.new }
-        ensures wanted { is_some result.told ≡ is_told }
+            (heeded (record { asked = asked_of request.now; moment = moment; draws = draws.now }) interest) result self.new }
         ensures short { length request.now.target.now ≤ state_limit → IsShortReply result.reply }
     {
         self.greatest = greater(self.greatest, moment);
         make_way(&mut self.store, self.rules.limits().records, self.greatest);
         let now = self.greatest;
+        let alloc = self.alloc;
         let Some(endpoint) = Endpoint::at(request.path()) else {
-            return Stepped::bare(is_told, now, None, StatusCode::NOT_FOUND);
+            return Stepped::bare(alloc, interest, now, None, StatusCode::NOT_FOUND);
         };
+        let at = Some(endpoint);
         if request.method != endpoint.method() {
-            return Stepped::bare(is_told, now, Some(endpoint), StatusCode::METHOD_NOT_ALLOWED);
+            return Stepped::bare(alloc, interest, now, at, StatusCode::METHOD_NOT_ALLOWED);
         }
-        let Ok(stepped) = self.answer_at(endpoint, request, draws, cause, is_told) else {
+        let Ok(stepped) = self.answer_at(endpoint, request, draws, cause, interest) else {
             *cause = Some(Cause::Wants(Want::Memory));
-            return Stepped::bare(
-                is_told,
-                now,
-                Some(endpoint),
-                StatusCode::SERVICE_UNAVAILABLE,
-            );
+            return Stepped::bare(alloc, interest, now, at, StatusCode::SERVICE_UNAVAILABLE);
         };
         stepped
     }
@@ -454,17 +468,16 @@ impl<H: HookHost> Server<H> {
         request: &Request<'_>,
         moment: Moment,
         draws: &Draws,
-        is_told: bool,
+        interest: Interest,
     ) -> Stepped
         ensures replies { StepsTelling H.HookHost self.old
-            (record { asked = asked_of request.now; moment = moment; draws = draws.now }) result self.new }
-        ensures wanted { is_some result.told ≡ is_told }
+            (heeded (record { asked = asked_of request.now; moment = moment; draws = draws.now }) interest) result self.new }
         ensures kept { Sweeps H.HookHost self.old self.new }
         ensures short { length request.now.target.now ≤ state_limit → IsShortReply result.reply }
     {
         let before = self.record_count();
         let mut cause = None;
-        let stepped = self.answer(request, moment, draws, &mut cause, is_told);
+        let stepped = self.answer(request, moment, draws, &mut cause, interest);
         self.sweep(before);
         let endpoint = Endpoint::at(request.path());
         self.tally.count(endpoint, stepped.reply.status(), cause);

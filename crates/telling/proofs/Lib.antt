@@ -1,4 +1,4 @@
 pub mod Changing
-pub mod Ending
+pub mod Denying
 pub mod Revoking
 pub mod Showing

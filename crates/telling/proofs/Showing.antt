@@ -1,6 +1,5 @@
 -- What a request shows, put together.
-use Rattle.std.proofs.Common.{◌≡◌, ℕ, List, Option, Some, None, refl, ap, sym, ◌∙◌}
-use Rattle.std.specs.Prelude.{option_map}
+use Rattle.std.proofs.Common.{◌≡◌, ℕ, List, Option, Some, None, refl, ap}
 use Rattle.answers.specs.Requesters.{KnownClient, Parameters}
 use Rattle.answers.specs.Setting.{Setting}
 use Rattle.answers.specs.declared.endpoint.Endpoint.{Endpoint}
@@ -9,11 +8,7 @@ use Rattle.hook_host.specs.Verdicts.{Verdict}
 use Rattle.hook_record.specs.declared.Ask.{Ask}
 use Rattle.messages.specs.Asked.{Asked}
 use Rattle.token_endpoint.specs.Asks.{Lineage}
-use Rattle.telling.specs.Seen.{facts_seen}
-use Rattle.telling.specs.Telling.{Shown, ask_shown, client_at_endpoint, grant_at_endpoint, lineage_at, nobody_shown, params_at, shown_alone, shown_by, told_with, verdicts_on}
-use Rattle.telling.specs.declared.came.Came.{Came}
-use Rattle.telling.specs.declared.changed.Changed.{Changed}
-use Rattle.telling.specs.declared.facts.Facts.{Facts}
+use Rattle.telling.specs.Telling.{Shown, ask_shown, client_at_endpoint, grant_at_endpoint, lineage_at, nobody_shown, params_at, shown_alone, shown_by, verdicts_on}
 
 -- of a client
 pub shown_is : (verdicts : Ask → List Verdict) (s : Setting) (endpoint : Endpoint) (params : Parameters) (known : KnownClient)
@@ -39,8 +34,3 @@ module _ (verdicts : Ask → List Verdict) (s : Setting) (endpoint : Endpoint) (
 -- the owner who asks is another
 pub with_asking : (shown alone : Shown) (owner : Option ℕ) → shown ≡ alone → record shown { owner = owner } ≡ record alone { owner = owner }
 with_asking shown alone owner same = ap (λ (x : Shown). record x { owner = owner }) same
-
--- what is told of the same reply and the same changes is the same
-pub told_alike : (facts : Option Facts) (moment : ℕ) (endpoint : Endpoint) (came other : Came) (happened change : Changed) → came ≡ other → happened ≡ change →
-    option_map (λ f. told_with moment endpoint (facts_seen f) came happened) facts ≡ option_map (λ f. told_with moment endpoint (facts_seen f) other change) facts
-told_alike facts moment endpoint came other happened change reply changes = rw (reply, changes) refl

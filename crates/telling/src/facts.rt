@@ -187,41 +187,46 @@ fn ask_shown(
 }
 
 // What each hook leaves of what is asked.
-fn verdicts_on<H: HookHost>(host: &H, ask: Option<Ask>) -> Verdicts
-    ensures { result ≡ verdicts_on (H.verdicts host.now) ask }
+fn verdicts_on<H: HookHost>(
+    alloc: Global,
+    host: &H,
+    ask: Option<Ask>,
+) -> Result<Verdicts, AllocError>
+    ensures { IfOk result (λ told. told ≡ verdicts_on (H.verdicts host.now) ask) }
 {
     match ask {
-        Some(ask) => host.explain(&ask),
-        None => Verdicts::none(),
+        Some(ask) => host.explain(alloc, &ask),
+        None => Ok(Verdicts::none(alloc)),
     }
 }
 
 // What the request of a client shows.
 #[tactic(auto, using(crate::proofs::Showing::shown_is))]
 fn shown_by<H: HookHost>(
+    alloc: Global,
     view: &View<'_>,
     host: &H,
     endpoint: Endpoint,
     params: &Params<'_>,
     known: &KnownClient<'_>,
-) -> Facts
-    ensures { InEachSetting view.now (λ s. facts_seen result
-        ≡ shown_by (H.verdicts host.now) s endpoint params.now (known_of known.now)) }
+) -> Result<Facts, AllocError>
+    ensures { IfOk result (λ facts. InEachSetting view.now (λ s. facts_seen facts
+        ≡ shown_by (H.verdicts host.now) s endpoint params.now (known_of known.now))) }
 {
     let grant = grant_at(endpoint, params, known);
     let ask = ask_shown(view, grant, params, known);
-    Facts {
+    Ok(Facts {
         client: Some(known.number),
         grant,
         lineage: lineage_at(endpoint, view, grant, params, known.number),
         owner: None,
         ask,
-        verdicts: verdicts_on(host, ask),
-    }
+        verdicts: verdicts_on(alloc, host, ask)?,
+    })
 }
 
 // What one shows of whom no client is known.
-fn nobody() -> Facts
+fn nobody(alloc: Global) -> Facts
     ensures { facts_seen result ≡ nobody_shown }
 {
     Facts {
@@ -230,7 +235,7 @@ fn nobody() -> Facts
         lineage: None,
         owner: None,
         ask: None,
-        verdicts: Verdicts::none(),
+        verdicts: Verdicts::none(alloc),
     }
 }
 
@@ -248,12 +253,12 @@ fn client_facts<H: HookHost>(
 {
     let params = match params_at(alloc, endpoint, request) {
         Ok(Some(params)) => params,
-        Ok(None) => return Ok(nobody()),
+        Ok(None) => return Ok(nobody(alloc)),
         Err(error) => return Err(error),
     };
     match client_at(alloc, view.rules, endpoint, request, &params) {
-        Ok(Some(known)) => Ok(shown_by(view, host, endpoint, &params, &known)),
-        Ok(None) => Ok(nobody()),
+        Ok(Some(known)) => shown_by(alloc, view, host, endpoint, &params, &known),
+        Ok(None) => Ok(nobody(alloc)),
         Err(error) => Err(error),
     }
 }

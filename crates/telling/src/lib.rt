@@ -4,11 +4,13 @@
 mod came;
 mod changed;
 mod facts;
+mod interest;
 mod telling;
 mod tellings;
 mod told;
 
 pub use facts::Facts;
-pub use telling::{Stepped, Telling};
+pub use interest::Interest;
+pub use telling::{Stepped, Upshot, told_sought};
 pub use tellings::Tellings;
 pub use told::Told;

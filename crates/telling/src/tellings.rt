@@ -1,14 +1,16 @@
 //! What was told and was not handed on yet.
-ghost use Rattle.std.specs.Prelude.{◌≡◌, ◌↔◌, IfOk, IsTrue, nat_lt};
-ghost use Rattle.telling.specs.Audience.{IsAllTold, heard, heard_some, new_audience, nobody};
+ghost use Rattle.std.specs.Prelude.{◌≡◌, ◌↔◌, IfOk, IsTrue};
+ghost use Rattle.telling.specs.Audience.{IsAllTold, forgotten, heard, heard_some, new_audience, nobody};
 
+use crate::interest::Interest;
 use crate::told::Told;
 use std::alloc::{AllocError, Global};
 use std::marker::Model;
 
-/// What was told and was not handed on yet, up to so many, and how much more there was. Without room nothing is wanted.
+/// What was told and was not handed on yet, up to so many, and how much more there was.
 #[derive(Drop)]
 pub struct Tellings {
+    interest: Interest,
     room: usize,
     told: Vec<Told>,
     dropped: u64,
@@ -20,7 +22,7 @@ impl Model for Tellings {
 
     ghost Value = { Audience };
 
-    ghost view = { λ t. record { room = t.room; told = t.told.items; dropped = t.dropped } };
+    ghost view = { λ t. record { interest = t.interest; room = t.room; told = t.told.items; dropped = t.dropped } };
 
     // The room was taken at the beginning.
     ghost invariant = { λ t. t.room ≤ vec_capacity t.told };
@@ -32,28 +34,30 @@ impl Tellings {
         ensures { result ≡ nobody }
     {
         Tellings {
+            interest: Interest::Nothing,
             room: 0,
             told: Vec::new(alloc),
             dropped: 0,
         }
     }
 
-    /// Room for so many.
-    pub fn with_room(alloc: Global, room: usize) -> Result<Self, AllocError>
-        ensures { IfOk result (λ tellings. tellings ≡ new_audience room) }
+    /// Room for so many of the requests of which it is to be told.
+    pub fn with_room(alloc: Global, interest: Interest, room: usize) -> Result<Self, AllocError>
+        ensures { IfOk result (λ tellings. tellings ≡ new_audience interest room) }
     {
         Ok(Tellings {
+            interest,
             room,
             told: Vec::with_capacity(alloc, room)?,
             dropped: 0,
         })
     }
 
-    /// Whether anything is wanted.
-    pub fn is_wanted(&self) -> bool
-        ensures { result ≡ nat_lt 0 self.now.room }
+    /// Of which requests it is to be told.
+    pub fn interest(&self) -> Interest
+        ensures { result ≡ self.now.interest }
     {
-        self.room > 0
+        self.interest
     }
 
     /// One more is told: it is heard where there is room, and else counted.
@@ -101,7 +105,7 @@ impl Tellings {
 
     /// It was handed on.
     pub fn forget(&mut self)
-        ensures { self.new ≡ new_audience self.old.room }
+        ensures { self.new ≡ forgotten self.old }
     {
         self.told.clear();
         self.dropped = 0;

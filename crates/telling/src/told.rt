@@ -1,6 +1,7 @@
 //! What is told of a request that was answered.
 ghost use Rattle.std.specs.Prelude.{◌≡◌, option_map};
 ghost use Rattle.std.specs.Option.{option_or};
+ghost use Rattle.telling.specs.Interests.{denies, is_denial};
 ghost use Rattle.telling.specs.Seen.{facts_seen};
 ghost use Rattle.telling.specs.Telling.{bare_told, family_shown, owner_shown, told_with};
 ghost use Rattle.token_endpoint.specs.AsksParts.{lineage_seen};
@@ -12,9 +13,10 @@ use answers::Endpoint;
 use clients::GrantType;
 use consent::{ClientNo, Moment, OwnerNo, ScopeSet};
 use hook_host::Verdicts;
-use hook_record::Ask;
+use hook_record::{Ask, Narrowed};
 use http::StatusCode;
 use messages::ErrorName;
+use std::alloc::Global;
 use token_endpoint::Lineage;
 
 /// What is told of a request that was answered. No text of a request has a place here, no key, digest or draw.
@@ -45,8 +47,36 @@ pub struct Told {
     pub verdicts: Verdicts,
 }
 
+// Whether nothing may be granted.
+fn denies(left: Narrowed) -> bool
+    ensures { result ≡ denies left }
+{
+    match left {
+        Narrowed::Denied => true,
+        _ => false,
+    }
+}
+
+impl Told {
+    /// Whether the last of the hooks that were asked denied.
+    #[tactic(auto, using(crate::proofs::Denying::last_denies, crate::proofs::Denying::none_denies))]
+    pub fn is_denial(&self) -> bool
+        ensures { result ≡ is_denial self.now.verdicts }
+    {
+        let Some(last) = self.verdicts.entries().last() else {
+            return false;
+        };
+        denies(last.left())
+    }
+}
+
 /// A request of which nothing is told but where it came and the status.
-pub(crate) fn bare(moment: Moment, endpoint: Option<Endpoint>, status: StatusCode) -> Told
+pub(crate) fn bare(
+    alloc: Global,
+    moment: Moment,
+    endpoint: Option<Endpoint>,
+    status: StatusCode,
+) -> Told
     ensures { result ≡ bare_told moment endpoint status }
 {
     Told {
@@ -61,7 +91,7 @@ pub(crate) fn bare(moment: Moment, endpoint: Option<Endpoint>, status: StatusCod
         scope: None,
         life: None,
         ask: None,
-        verdicts: Verdicts::none(),
+        verdicts: Verdicts::none(alloc),
     }
 }
 

@@ -27,6 +27,27 @@ module _ (fact : Ask → Type 0) where
   point_same true here one other asks each put = refl
   point_same false here one other asks each put = each put
 
+-- the grant type is looked at before
+abbrev pub unusable : KnownClient → GrantType → Bool
+unusable known grant = not (has_grant grant known.client.grants)
+
+module _ (s : Setting) (params : Parameters) (known : KnownClient) where
+  by_test : (b : Bool) (grant : GrantType) → given (unless b (Some grant)) (λ grant. ask_by_grant grant s params known) ≡ unless b (ask_by_grant grant s params known)
+  by_test true grant = refl
+  by_test false grant = refl
+
+  by_name : (o : Option GrantType) →
+      given (given o (λ grant. unless (unusable known grant) (Some grant))) (λ grant. ask_by_grant grant s params known)
+      ≡ given o (λ grant. unless (unusable known grant) (ask_by_grant grant s params known))
+  by_name None = refl
+  by_name (Some grant) = by_test (unusable known grant) grant
+
+  pub by_type : (o : Option (List ℕ)) →
+      given (given o (λ name. given (grant_named name) (λ grant. unless (unusable known grant) (Some grant)))) (λ grant. ask_by_grant grant s params known)
+      ≡ given o (λ name. given (grant_named name) (λ grant. unless (unusable known grant) (ask_by_grant grant s params known)))
+  by_type None = refl
+  by_type (Some name) = by_name (grant_named name)
+
 module _ (s : Setting) (answer : Ask → Narrowed) (params : Parameters) (known : KnownClient) where
   abbrev same_left : Ask → Type 0
   same_left ask = left_by_host s ask ≡ left_by_host (answered_by s answer) ask
@@ -67,29 +88,9 @@ module _ (s : Setting) (answer : Ask → Narrowed) (params : Parameters) (known 
   grant_same RefreshToken = refresh_same
   grant_same ClientCredentials = credentials_same
 
-  -- the grant type is looked at before
-  abbrev unusable : GrantType → Bool
-  unusable grant = not (has_grant grant known.client.grants)
-
-  by_test : (b : Bool) (grant : GrantType) → given (unless b (Some grant)) (λ grant. ask_by_grant grant s params known) ≡ unless b (ask_by_grant grant s params known)
-  by_test true grant = refl
-  by_test false grant = refl
-
-  by_name : (o : Option GrantType) →
-      given (given o (λ grant. unless (unusable grant) (Some grant))) (λ grant. ask_by_grant grant s params known)
-      ≡ given o (λ grant. unless (unusable grant) (ask_by_grant grant s params known))
-  by_name None = refl
-  by_name (Some grant) = by_test (unusable grant) grant
-
-  by_type : (o : Option (List ℕ)) →
-      given (given o (λ name. given (grant_named name) (λ grant. unless (unusable grant) (Some grant)))) (λ grant. ask_by_grant grant s params known)
-      ≡ given o (λ name. given (grant_named name) (λ grant. unless (unusable grant) (ask_by_grant grant s params known)))
-  by_type None = refl
-  by_type (Some name) = by_name (grant_named name)
-
   pub asked_alone : Puts (token_ask s params known) same_left → token_points s params known ≡ token_points (answered_by s answer) params known
   asked_alone put =
       need_same same_left (value_sent (codes "grant_type") params) _ _ _ _ (λ name.
       need_same same_left (grant_named name) _ _ _ _ (λ grant.
-      point_same same_left (unusable grant) _ _ _ _ (grant_same grant)))
-      (λ ask is. put ask (by_type (value_sent (codes "grant_type") params) ∙ is))
+      point_same same_left (unusable known grant) _ _ _ _ (grant_same grant)))
+      (λ ask is. put ask (by_type s params known (value_sent (codes "grant_type") params) ∙ is))

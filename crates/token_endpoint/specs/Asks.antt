@@ -1,6 +1,10 @@
 -- What the host is asked for a request for tokens, where it is asked.
-use Rattle.std.specs.Prelude.{ℕ, List, Bool, true, false, not, Option, Some, None, option_map, codes, bytes_eq}
+use Rattle.std.specs.Prelude.{◌≡◌, ℕ, List, Bool, true, false, not, Option, Some, None, option_map, codes, bytes_eq}
+use Rattle.answers.specs.Outcomes.{Outcome, status_of}
 use Rattle.hook_record.specs.declared.Kind.TheVariants as kind
+use Rattle.messages.specs.Reply.{plain}
+use Rattle.messages.specs.Reply.Body.{Failure}
+use Rattle.messages.specs.declared.error.ErrorName.{ErrorName}
 use Rattle.token_endpoint.specs.Names.{value_sent, grant_named, has_grant, GrantType, AuthorizationCode, RefreshToken, ClientCredentials, Grant, is_spent, has_ended, Ask, Narrowed, Code, proves, Parameters, KnownClient, ClientRecord, scope_within}
 use Rattle.token_endpoint.specs.Names.{Setting, digest_told, code_of_client, refresh_of_client}
 use Rattle.token_endpoint.specs.ClientCredentials.{own_ask}
@@ -98,3 +102,7 @@ answered_by s answer = record {
   moment = s.moment;
   draws = s.draws;
 }
+
+-- an error is answered
+abbrev pub IsRefusal : Outcome → Type 0
+IsRefusal outcome = (error : ErrorName) × (outcome.reply ≡ plain (status_of error) (Failure error))

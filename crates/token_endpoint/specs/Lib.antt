@@ -11,5 +11,6 @@ pub mod Issuing
 pub mod Parts
 -- Laws, each proved: a reader may skip them.
 pub mod AskLaws
+pub mod DenialLaws
 -- What these files import, passed on.
 pub mod Names

@@ -4,7 +4,7 @@ use Rattle.std.specs.Prelude.{not, bytes_eq}
 use Rattle.endpoints.proofs.Answering.{at_moment, swept, bare_step, none_made, stepped, unkept_as, host_as}
 use Rattle.answers.proofs.Sizes.{written_short}
 use Rattle.endpoints.proofs.Shorter.{bare_small}
-use Rattle.endpoints.proofs.Answering.{bare_tells}
+use Rattle.endpoints.specs.RulingsParts.{heeding}
 use Rattle.endpoints.proofs.server.Server.answer.Goals as goal
 
 pub returns-in_default-clause-short : goal.returns-in_default-clause-short
@@ -26,7 +26,7 @@ returns-in_default-clause-replies g c = λ outset history m fits0.
       None,
       tt,
       rw (none, ← moment.1) (bare_step g.H.HookHost (record { server = c.args.self.now; outset = outset; history = history; moment = c.greater-self-inside.result }) _ 404 _ now c.bare.ensures.reply (unkept_as _ _ c.self.view_is) (host_as _ _ c.self.view_is)),
-      rw (none, ← moment.1, c.bare.ensures.told) (bare_tells c.args.is_told _),
+      rw (none, ← moment.1) c.bare.ensures.told,
     )
 
 pub returns-then-ne-clause-replies : goal.returns-then-ne-clause-replies
@@ -41,7 +41,7 @@ returns-then-ne-clause-replies g c = λ outset history m fits0.
       None,
       tt,
       rw (there, other, ← moment.1) (bare_step g.H.HookHost (record { server = c.args.self.now; outset = outset; history = history; moment = c.greater-self-inside.result }) _ 405 _ now c.bare-then-ne.ensures.reply (unkept_as _ _ c.self.view_is) (host_as _ _ c.self.view_is)),
-      rw (there, other, ← moment.1, c.bare-then-ne.ensures.told) (bare_tells c.args.is_told _),
+      rw (there, other, ← moment.1) c.bare-then-ne.ensures.told,
     )
 
 pub returns-in_default-answer_at-clause-replies : goal.returns-in_default-answer_at-clause-replies
@@ -52,12 +52,12 @@ returns-in_default-answer_at-clause-replies g c = λ outset history m fits0.
     let method : bytes_eq c.args.request.now.method.now (method_at c.in-Some.endpoint) ≡ true =
     not-false _ (sym (c.ne.ensures ∙ ap (λ b. not (bytes_eq c.args.request.now.method.now b)) c.method.ensures) ∙ c.if-ne.false) in
     let now = swept g.H.HookHost _ outset history m _ _ moment.0 fits (c.make_way.ensures.fits history) in
-    let same = none_made g.H.HookHost _ _ (record { endpoint = c.in-Some.endpoint; asked = asked_of c.args.request.now; draws = c.args.draws.now }) c.answer_at.result c.in_default-answer_at.not-Ok c.answer_at.ensures.replies in (
+    let same = none_made g.H.HookHost _ _ (heeding (record { endpoint = c.in-Some.endpoint; asked = asked_of c.args.request.now; draws = c.args.draws.now }) c.args.interest) c.answer_at.result c.in_default-answer_at.not-Ok c.answer_at.ensures.replies in (
       true,
       None,
       tt,
       rw (there, method, ← moment.1) (bare_step g.H.HookHost (record { server = c.args.self.now; outset = outset; history = history; moment = c.greater-self-inside.result }) _ 503 _ (same.fits outset history _ now) c.bare-in_default-answer_at.ensures.reply (same.unkept ∙ unkept_as _ _ c.self.view_is) (same.host ∙ host_as _ _ c.self.view_is)),
-      rw (there, method, ← moment.1, c.bare-in_default-answer_at.ensures.told) (bare_tells c.args.is_told _),
+      rw (there, method, ← moment.1) c.bare-in_default-answer_at.ensures.told,
     )
 
 pub returns-clause-replies : goal.returns-clause-replies
@@ -69,4 +69,4 @@ returns-clause-replies g c = λ outset history m fits0.
     not-false _ (sym (c.ne.ensures ∙ ap (λ b. not (bytes_eq c.args.request.now.method.now b)) c.method.ensures) ∙ c.if-ne.false) in
     let now = swept g.H.HookHost _ outset history m _ c.make_way.new.store moment.0 fits (c.make_way.ensures.fits history) in
     rw (← moment.1) (stepped g.H.HookHost c.args.self.now (record { rules = c.self.inside.rules; host = c.self.inside.host; store = c.make_way.new.store; consents = c.self.inside.consents; greatest = c.greater-self-inside.result; unkept = noted_in c.self.inside.unkept; prepared = prepared_in c.self.inside.unkept })
-    _ outset history c.in-Some.endpoint (asked_of c.args.request.now) c.args.draws.now _ there method now c.in-Ok.ensures.replies (host_as _ _ c.self.view_is) (unkept_as _ _ c.self.view_is))
+    _ outset history c.in-Some.endpoint (asked_of c.args.request.now) c.args.draws.now c.args.interest _ there method now c.in-Ok.ensures.replies (host_as _ _ c.self.view_is) (unkept_as _ _ c.self.view_is))
