@@ -20,3 +20,4 @@ pub mod Leaving
 pub mod InVain
 pub mod Auditing
 pub mod Tracing
+pub mod Denying

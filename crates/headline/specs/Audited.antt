@@ -1,11 +1,17 @@
 -- What is told of requests, and what happened with them.
-use Rattle.std.specs.Prelude.{◌≡◌, ◌⊎◌, ℕ, List, [], ◌∷◌, All, Contains, Option, Some}
-use Rattle.headline.specs.Names.{flat_map, RegistryRecord, Change, Grant, grant_at, CodeGiven, Issued, Spent, FamilyEnded, Ask, Hosting, Outset, Happening, Came, Resumed, Run, World, first_world}
+use Rattle.std.specs.Prelude.{◌≡◌, ◌⊎◌, ℕ, List, [], ◌∷◌, All, Contains, Option, Some, codes}
+use Rattle.headline.specs.Names.{flat_map, RegistryRecord, Change, Grant, grant_at, CodeGiven, Issued, Spent, FamilyEnded, Ask, Allowed, Failure, Checked, narrowed_by}
+use Rattle.headline.specs.Names.{Hosting, Outset, Happening, Came, Resumed, Run, World, first_world}
 use Rattle.consent.specs.History.{Event}
 use Rattle.endpoints.specs.Telling.{request_told}
-use Rattle.headline.specs.Occasions.{Occasion, outcome_of, setting_on}
-use Rattle.hook_host.specs.Verdicts.{Verdict}
+use Rattle.headline.specs.Hooked.{without_hooks}
+use Rattle.headline.specs.Occasions.{GoesTo, Occasion, outcome_of, reply_on, setting_on}
+use Rattle.hook_host.specs.Verdicts.{Verdict, last_left}
+use Rattle.messages.specs.declared.error.ErrorName.TheVariants.{InvalidScope}
+use Rattle.telling.specs.declared.interest.Interest.{Interest}
+use Rattle.telling.specs.declared.interest.Interest.TheVariants.{Nothing}
 use Rattle.telling.specs.declared.told.Told.{Told}
+use Rattle.telling.specs.Interests.{wanted_of}
 
 -- ONE REQUEST
 
@@ -26,6 +32,22 @@ abbrev pub IsAudited : RegistryRecord → List Event → Occasion → Type 0
 IsAudited rules history occasion =
     (verdicts : Ask → List Verdict) →
     All (IsOfFamily history occasion.arrival.moment (told_on verdicts rules history occasion).family) (outcome_of rules history occasion).changes
+
+-- Without hooks tokens would be given; with them none are, and not for a scope of which nothing is left.
+pub record IsDenied (rules : RegistryRecord) (history : List Event) (occasion : Occasion) : Type 0 where
+  pub goes : GoesTo occasion (codes "/token")
+  pub granted_without : (reply_on rules history (without_hooks occasion)).status ≡ 200
+  pub refused : ¬ ((reply_on rules history occasion).status ≡ 200)
+  pub not_for_scope : ¬ ((reply_on rules history occasion).body ≡ Failure InvalidScope)
+
+-- where the host is hooks, of each of which it is known what it left, whoever is denied is told of: where denials are wanted,
+-- and where everything is
+abbrev pub IsDenialTold : RegistryRecord → List Event → Occasion → Type 0
+IsDenialTold rules history occasion =
+    (hooks : List Checked) → ((ask : Ask) → occasion.host.answer ask ≡ narrowed_by hooks ask) →
+    (verdicts : Ask → List Verdict) → ((ask : Ask) → last_left (Allowed ask.scope ask.life) (verdicts ask) ≡ occasion.host.answer ask) →
+    IsDenied rules history occasion → (interest : Interest) → ¬ (interest ≡ Nothing) →
+    wanted_of interest (told_on verdicts rules history occasion) ≡ Some (told_on verdicts rules history occasion)
 
 -- A SCHEDULE
 

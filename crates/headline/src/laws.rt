@@ -1,7 +1,7 @@
 //! Laws of every history that a server comes to, of requests and of their replies.
 
 ghost use Rattle.headline.specs.Activity.{IsActiveWhereLive, TellsWithin};
-ghost use Rattle.headline.specs.Audited.{AreAudited, IsAudited};
+ghost use Rattle.headline.specs.Audited.{AreAudited, IsAudited, IsDenialTold};
 ghost use Rattle.headline.specs.Authority.{EndsWithAuthority, IsAllAuthorized, IsIsolated};
 ghost use Rattle.headline.specs.Codes.{BindsCodes};
 ghost use Rattle.headline.specs.Decided.{IsAllDecided};
@@ -147,4 +147,10 @@ pub fn what_happens_in_a_family_is_told()
 /// family's number in what is told of an answered request; or it was there when the server went on from what was kept.
 pub fn whatever_happened_is_told<H: HookHost>()
     ensures { AreAudited H.HookHost }
+{}
+
+/// Whoever is denied is told of, where denials are wanted, and where everything is: a request for tokens that without hooks
+/// would be answered with some, and that hooks refuse, unless nothing of its scope is left.
+pub fn whoever_is_denied_is_told()
+    ensures { OnEachOccasion IsDenialTold }
 {}

@@ -4,12 +4,13 @@ use Rattle.http_edge.proofs.Names.{map-append, max, Hosting, Event, Change, even
 use Rattle.http_edge.proofs.Names.{Before, FitsServer, AreNoted, IsStep, Message, Messages, asked_of_message, AnsweredRequest, answerer, IsOutcomeOfRequest, AreAnswered, AreAskedBy, changes_made, draws_in}
 use Rattle.http_edge.proofs.Names.{replies_of, ends_of, end_if, faulty_if, SeenOutput, Said, said_so, tellings_of, lane_output, with_reply, with_faulty, AreMessagesServed, IsStillNone, IsHeard, IsHearingRefusal, timed_bytes, hearing, before_messages, replying, SeenLane, Sources, Memory}
 use Rattle.std.proofs.lemmas.List.Concat.{flat_map-append}
-use Rattle.std.specs.Prelude.{Option, is_some, nat_lt}
+use Rattle.std.specs.Prelude.{Option}
 use Rattle.answers.specs.Outcomes.{Outcome}
 use Rattle.answers.specs.Setting.{Setting}
-use Rattle.endpoints.specs.Telling.{StepsTelling, request_told}
+use Rattle.endpoints.specs.Telling.{Heeded, StepsTelling, heeded, request_told}
 use Rattle.telling.specs.Audience.{Audience, heard_by, heard_some}
 use Rattle.telling.specs.AudienceLaws.{heard_next, none_heard}
+use Rattle.telling.specs.Interests.{wanted_of}
 use Rattle.telling.specs.declared.telling.Stepped.{Stepped}
 use Rattle.telling.specs.declared.told.Told.{Told}
 use Rattle.http_edge.proofs.Drawing.{suffices_none}
@@ -62,6 +63,10 @@ draws_push draws rs r are = ap (λ (l : List Draws). l ++ r.draws ∷ []) are �
 tellings_push : (rs : List AnsweredRequest) (r : AnsweredRequest) → tellings_of (rs ++ r ∷ []) ≡ tellings_of rs ++ r.told ∷ []
 tellings_push rs r = map-append (λ (x : AnsweredRequest). x.told) rs (r ∷ [])
 
+-- a request as it comes, and of which requests it is to be told by what was said so far
+abbrev pub heeded_by : Said → Asked → ℕ → Draws → Heeded
+heeded_by said asked moment draws = heeded (record { asked = asked; moment = moment; draws = draws }) said.audience.interest
+
 -- what is said once this is answered too
 abbrev pub said_then : Said → Stepped → Said
 said_then said stepped = said_so (with_reply said.output (reply_bytes stepped.reply)) (heard_some said.audience stepped.told)
@@ -70,12 +75,12 @@ said_then said stepped = said_so (with_reply said.output (reply_bytes stepped.re
 served_more : {H : Type 0} (hosting : Hosting H) (before : Before H) (server server' : SeenServer H) (first now : Said) (g moment : ℕ) (messages : List Message) (draws : List Draws) (rs : List AnsweredRequest) (message : Message) (d : Draws) (stepped : Stepped) (asked : Asked) →
     asked ≡ asked_of_message message → max g moment ≡ before.moment → AreAskedBy messages rs → draws ≡ draws_in rs →
     AreAnswered hosting (answerer before.outset before.history before.server.host before.moment) rs server.host → now.output.bytes ≡ first.output.bytes ++ replies_of rs → now.output.ends ≡ first.output.ends ++ ends_of (length first.output.bytes) rs →
-    now.audience ≡ heard_by first.audience (tellings_of rs) → is_some stepped.told ≡ nat_lt 0 now.audience.room →
+    now.audience ≡ heard_by first.audience (tellings_of rs) →
     FitsServer hosting server before.outset (with_changes before.history before.moment (changes_made rs)) g →
     AreNoted before.server server before.history (with_changes before.history before.moment (changes_made rs)) →
-    StepsTelling hosting server (record { asked = asked; moment = moment; draws = d }) stepped server' →
+    StepsTelling hosting server (heeded_by now asked moment d) stepped server' →
     AreMessagesServed hosting before first (record { messages = messages ++ message ∷ []; moment = moment; draws = draws ++ d ∷ [] }) (replying server' (said_then now stepped))
-served_more hosting before server server' first now g moment messages draws rs message d stepped asked asks later all are answered written_is ends_are heard wanted fits noted steps =
+served_more hosting before server server' first now g moment messages draws rs message d stepped asked asks later all are answered written_is ends_are heard fits noted steps =
     let output = first.output in
     let out = now.output in
     let reply = stepped.reply in
@@ -113,7 +118,7 @@ served_more hosting before server server' first now g moment messages draws rs m
           ∙ ap (λ n. output.ends ++ (ends_of (length output.bytes) rs ++ n ∷ [])) is ∙ ap (λ x. output.ends ++ x) (sym (ends_push (length output.bytes) rs r)));
       heard =
           ap (λ a. heard_some a stepped.told) heard
-          ∙ heard_next first.audience (tellings_of rs) stepped.told t (wanted ∙ ap (λ (a : Audience). nat_lt 0 a.room) heard) tells
+          ∙ heard_next first.audience (tellings_of rs) stepped.told t (tells ∙ ap (λ (a : Audience). wanted_of a.interest t) heard)
           ∙ ap (heard_by first.audience) (sym (tellings_push rs r));
       fits = rw joined at done.fits;
       noted = λ kept notes. rw joined at (done.noted kept (noted kept notes));
@@ -143,20 +148,19 @@ none_asked (r ∷ rs) asked = absurd (cc)
 pub served_push : {H : Type 0} (hosting : Hosting H) (first server server' : SeenServer H) (begun now : Said) (outset : Outset H) (history : List Event) (m moment : ℕ) (messages : List Message) (draws : List Draws) (message : Message) (d : Draws) (stepped : Stepped) (asked : Asked) →
     asked ≡ asked_of_message message →
     AreMessagesServed hosting (before_messages first outset history m (record { messages = messages; moment = moment; draws = draws })) begun (record { messages = messages; moment = moment; draws = draws }) (replying server now) →
-    is_some stepped.told ≡ nat_lt 0 now.audience.room →
-    StepsTelling hosting server (record { asked = asked; moment = moment; draws = d }) stepped server' →
+    StepsTelling hosting server (heeded_by now asked moment d) stepped server' →
     AreMessagesServed hosting (before_messages first outset history m (record { messages = messages ++ message ∷ []; moment = moment; draws = draws ++ d ∷ [] })) begun
     (record { messages = messages ++ message ∷ []; moment = moment; draws = draws ++ d ∷ [] }) (replying server' (said_then now stepped))
-served_push hosting first server server' begun now outset history m moment [] draws message d stepped asked asks served wanted steps =
+served_push hosting first server server' begun now outset history m moment [] draws message d stepped asked asks served steps =
     let none = none_asked served.requests served.asked in
     let said : now.output.bytes ≡ begun.output.bytes ++ [] = served.output_is ∙ ap (λ rs. begun.output.bytes ++ replies_of rs) none in
     let ends : now.output.ends ≡ begun.output.ends ++ [] = served.ends_are ∙ ap (λ rs. begun.output.ends ++ ends_of (length begun.output.bytes) rs) none in
     let heard : now.audience ≡ heard_by begun.audience [] = served.heard ∙ ap (λ rs. heard_by begun.audience (tellings_of rs)) none in
     served_more hosting (record { server = first; outset = outset; history = history; moment = max m moment }) server server' begun now m moment [] draws [] message d stepped asked asks refl refl
-    (served.draws ∙ ap draws_in none) (rw none at served.answered) said ends heard wanted (rw none at served.fits) (rw none at served.noted) steps
-served_push hosting first server server' begun now outset history m moment (x ∷ messages) draws message d stepped asked asks served wanted steps =
+    (served.draws ∙ ap draws_in none) (rw none at served.answered) said ends heard (rw none at served.fits) (rw none at served.noted) steps
+served_push hosting first server server' begun now outset history m moment (x ∷ messages) draws message d stepped asked asks served steps =
     served_more hosting (record { server = first; outset = outset; history = history; moment = max m moment }) server server' begun now (max m moment) moment (x ∷ messages) draws served.requests message d stepped asked asks (omega arith)
-    served.asked served.draws served.answered served.output_is served.ends_are served.heard wanted served.fits served.noted steps
+    served.asked served.draws served.answered served.output_is served.ends_are served.heard served.fits served.noted steps
 
 abbrev of_parts : List ℕ → List ℕ → SeenOutput
 of_parts bytes ends = record { bytes = bytes; ends = ends }

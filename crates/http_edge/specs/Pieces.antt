@@ -29,7 +29,7 @@ abbrev pub supplied : {H S : Type 0} → SeenEdge H → S → Audience → Suppl
 supplied edge source audience = record { edge = edge; source = source; audience = audience }
 
 -- A piece was given to the edge, and each request that it brings had the source's next draws. The source stands right behind
--- these. What is told of the requests was heard.
+-- these. What is told of the requests was heard, where it is wanted.
 pub record PieceGiven {H S : Type 0} (hosting : Hosting H) (sources : Sources S) (old : SuppliedEdge H S) (piece : Piece) (new : SuppliedEdge H S) :
     Type 0 where
   pub messages : List Message

@@ -44,7 +44,7 @@ pub(crate) fn answer_all<H: HookHost, S: DrawSource>(
         };
         let request = lend(here, &found);
         let draws = source.draw(demand_of(&request));
-        let Stepped { reply, told } = server.step(&request, moment, &draws, tellings.is_wanted());
+        let Stepped { reply, told } = server.step(&request, moment, &draws, tellings.interest());
         output.push(&reply);
         tellings.hear_some(told);
         start += found.end;

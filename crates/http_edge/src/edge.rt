@@ -354,8 +354,8 @@ impl<H: HookHost> Edge<H> {
     }
 
     /// A piece of a connection's stream came at a moment. Each request that it completes has the next draws of the source, and
-    /// the source stands right behind them. What is told of them, in their order, is heard. A refused piece changes nothing,
-    /// takes no draws and tells of nothing.
+    /// the source stands right behind them. What is told of them, in their order, is heard where it is wanted. A refused piece
+    /// changes nothing, takes no draws and tells of nothing.
     pub fn hear<S: DrawSource>(
         &mut self,
         c: ConnectionNo,

@@ -112,8 +112,7 @@ loop-i-preserved g c =
       served = λ outset history m fit.
           rw (← all_drawn, c.push.ensures.written, c.hear_some.ensures)
           (served_push g.H.HookHost c.args.server.now c.loop-i.server c.step-reply.new.self (said_so (seen_output c.args.output.now) c.args.tellings.now) (said_so (seen_output c.loop-i.output) c.loop-i.tellings) outset history m c.args.moment before.messages drawn message c.draw-draws.result c.step-reply.result (asked_of c.lend-request.result) asked
-          (before.served outset history m fit) (c.step-reply.ensures.wanted ∙ c.is_wanted.ensures)
-          c.step-reply.ensures.replies);
+          (before.served outset history m fit) (rw c.interest.ensures at c.step-reply.ensures.replies));
       drawn =
           c.draw-draws.ensures.after ∙ ap (λ (w : Demand). sources.behind c.loop-i.source w) wants ∙ ap (λ s. sources.behind s (demand_of (asked_of_message message))) before.drawn
           ∙ sym (behind_push sources c.args.source.now before.messages message);
