@@ -205,7 +205,7 @@ module _ {N C J K H : Type 0} (p : Promises N C J K H) where
     told = λ k room took is. absurd (not_longer s.calls _ is);
   }
   step_does s s' (keeps keeper e unkept on undone kept basis further) = record {
-    moves = keeps_all unkept kept (kept_last s.progress.journey.world on.world on.happens) (kept_history s.progress.journey.world on.world on.happens) (keeps_within p.keeping.crashes 0 (horizon_bound 0) s.keeper keeper (omega arith) basis) ((refl, refl), ap (λ (w : World). w.greatest) on.happens.kept, refl);
+    moves = keeps_all unkept kept (kept_last s.progress.journey.world on.world on.happens) (kept_history s.progress.journey.world on.world on.happens) basis.basis ((refl, refl), ap (λ (w : World). w.greatest) on.happens.kept, refl);
     did = λ first before. deed.kept before;
     kept = λ k room took is. absurd (cc);
     told = λ k room took is. absurd (cc);
@@ -226,7 +226,7 @@ module _ {N C J K H : Type 0} (p : Promises N C J K H) where
   fails_does s s' fault (no_time limit room found n c may done told) = record { did = λ first before. deed.did _ n before done; reached = λ was. was; tells = (keeps_same p.keeping.crashes (horizon_bound 0) s.keeper s.keeper refl).meanwhile }
   fails_does s s' fault (too_far limit room found n times c seconds may done told far) = record { did = λ first before. deed.did _ n before done; reached = λ was. was; tells = (keeps_same p.keeping.crashes (horizon_bound 0) s.keeper s.keeper refl).meanwhile }
   fails_does s s' fault (no_moment limit room found n times c keeper may done told near lost basis asked) = record { did = λ first before. deed.did _ n before done; reached = λ was. was; tells = basis }
-  fails_does s s' fault (not_kept keeper unkept undone lost basis asked) = record { did = λ first before. before; reached = λ was. was; tells = tells_within p.keeping.crashes 0 (horizon_bound 0) s.keeper keeper (omega arith) basis }
+  fails_does s s' fault (not_kept keeper unkept undone lost basis asked) = record { did = λ first before. before; reached = λ was. was; tells = basis }
   fails_does s s' fault (not_shortened keeper all undone lost basis asked) = record { did = λ first before. before; reached = λ was. was; tells = tells_within p.keeping.crashes 0 (horizon_bound 0) s.keeper keeper (omega arith) basis }
   fails_does s s' fault (to_reload time) = record { did = λ first before. before; reached = λ was. was; tells = (keeps_same p.keeping.crashes (horizon_bound 0) s.keeper s.keeper refl).meanwhile }
   fails_does s s' fault (no_more many) = record { did = λ first before. before; reached = λ was. was; tells = (keeps_same p.keeping.crashes (horizon_bound 0) s.keeper s.keeper refl).meanwhile }

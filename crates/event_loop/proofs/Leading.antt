@@ -82,7 +82,7 @@ module _ {N C J K H : Type 0} (p : Promises N C J K H) where
 
   -- all places are read, what changed is kept, and all are written to
   pub kept_then : (first : LoopState N C J K H) (found : List Ready) (past : Past H) (a b c : Service) (s u v w : Tools N C J K H) →
-      GoesReading p first 64 (standing (running a s) found past) (running b u) → LeadsToTold p u v → LeadsWriting p 64 (running b v) (running c w) → GoesWriting p first 64 (standing (running a s) found past) (running c w)
+      GoesReading p first 64 (standing (running a s) found past) (running b u) → LeadsToTold p b.times.moment u v → LeadsWriting p 64 (running b v) (running c w) → GoesWriting p first 64 (standing (running a s) found past) (running c w)
   kept_then first found past a b c s u v w read keep write = record {
     on = record {
       next = z.on.next;
@@ -98,7 +98,7 @@ module _ {N C J K H : Type 0} (p : Promises N C J K H) where
   }
     where
       x : GoesTold p first (standing (running b u) found read.on.next) v
-      x = keep first found b read.on.next read.hearing.not_kept read.on.served (served_answered p first _ read.on.served).reached
+      x = keep first found b read.on.next refl read.hearing.not_kept read.on.served (served_answered p first _ read.on.served).reached
 
       y : GoesKept p first (standing (running b u) found read.on.next) v
       y = x.goes

@@ -3,7 +3,7 @@ use Rattle.std.specs.Prelude.{◌≡◌, ◌≢◌, ◌⊎◌, ℕ, List, ◌∷
 use Rattle.event_loop.specs.Names.{Event, Until, IsFrontOf, Holds, HoldsBasis, Leaves, Journey}
 use Rattle.outside.specs.Calls.{Transfer, Wrote}
 use Rattle.event_loop.specs.LoopStates.{Promises, LoopState, IsAllKept}
-use Rattle.event_loop.specs.Served.{LoopStep, waits}
+use Rattle.event_loop.specs.Served.{LoopStep, keeps, waits}
 use Rattle.telling.specs.Audience.{IsAllTold}
 
 -- Steps lead on from a state.
@@ -11,9 +11,10 @@ pub data Onward {N C J K H : Type 0} (p : Promises N C J K H) (s : LoopState N C
   stays : Onward p s s
   onward : {s' s'' : LoopState N C J K H} → Onward p s s' → LoopStep p s' s'' → Onward p s s''
 
--- the moment that the clocks told, where the step is a wait
+-- the moment that the clocks told, where it is kept: behind a wait, and with changes
 abbrev pub told_by : {N C J K H : Type 0} {p : Promises N C J K H} {s s' : LoopState N C J K H} → LoopStep p s s' → ℕ
 told_by (waits limit room found n times c keeper may done told near kept further) = times.moment
+told_by {s = s} (keeps keeper e unkept on undone kept moments further) = s.times.moment
 told_by step = 0
 
 -- the greatest one that they told on the way from the one state to the other

@@ -5,7 +5,7 @@ use Rattle.std.proofs.lemmas.Bool.{cases_lt}
 use Rattle.event_loop.specs.Names.{IsFrontOf, Event}
 use Rattle.event_loop.specs.Durable.{Onward, latest, onward, stays, told_by}
 use Rattle.event_loop.specs.LoopStates.{LoopState, Promises}
-use Rattle.event_loop.specs.Served.{LoopStep, Served, begins, goes, waits}
+use Rattle.event_loop.specs.Served.{LoopStep, Served, begins, goes, keeps, waits}
 use Rattle.std.specs.Prelude.{max}
 
 pub same_front : (a b : List Event) → b ≡ a → IsFrontOf a b
@@ -42,6 +42,7 @@ module _ {N C J K H : Type 0} (p : Promises N C J K H) where
 
   told_there : (s s' : LoopState N C J K H) (step : LoopStep p s s') → (told_by step ≡ 0) ⊎ (told_by step ≡ s'.times.moment)
   told_there s s' (waits limit room found n times c keeper may done told near kept further) = inr refl
+  told_there s s' (keeps keeper e unkept on undone kept moments further) = inr refl
   told_there s s' step = inl refl
 
   -- the greatest one was told, if any was

@@ -39,7 +39,7 @@ pub data CannotGoOn {N C J K H : Type 0} (p : Promises N C J K H) (s : LoopState
       HeldMeanwhile p.keeping.crashes s.keeper keeper → TellsBasis p.keeping.crashes (horizon_bound times.moment) s.keeper keeper → p.keeping.has_failed keeper →
       CannotGoOn p s Keep (record (with_call s (call.Waited limit room found) n) { clocks = c; keeper = keeper; found = found })
   not_kept : (keeper : K) (unkept : IsUnkept s.progress.journey.world) → ¬ (IsDone Keeping s.calls) →
-      KeepsNot p.keeping.crashes unkept.kept s.progress.journey.world.history s.keeper keeper → TellsBasis p.keeping.crashes 0 s.keeper keeper → p.keeping.has_failed keeper →
+      KeepsNot p.keeping.crashes unkept.kept s.progress.journey.world.history s.keeper keeper → TellsBasis p.keeping.crashes (horizon_bound s.times.moment) s.keeper keeper → p.keeping.has_failed keeper →
       CannotGoOn p s Keep (record s { keeper = keeper })
   not_shortened : (keeper : K) → IsAllKept s.progress.journey.world → ¬ (IsDone Shortening s.calls) →
       KeepsNot p.keeping.crashes s.progress.journey.world.history s.progress.journey.world.history s.keeper keeper → TellsBasis p.keeping.crashes 0 s.keeper keeper → p.keeping.has_failed keeper →
@@ -47,9 +47,10 @@ pub data CannotGoOn {N C J K H : Type 0} (p : Promises N C J K H) (s : LoopState
   to_reload : IsTimeToReload s.reload s.limits.crowded s.times s.places s.progress.journey.world.connections → CannotGoOn p s Reload s
   no_more : rounds_limit ≤ call.waits s.calls → CannotGoOn p s Rounds s
 
--- the moment that the clocks told then, where it could not be kept
+-- the moment that the clocks told then, where it could not be kept, alone or with changes
 abbrev pub told_then : {N C J K H : Type 0} {p : Promises N C J K H} {s s' : LoopState N C J K H} {fault : LoopFault} → CannotGoOn p s fault s' → ℕ
 told_then (no_moment limit room found n times c keeper may done told near lost basis asked) = times.moment
+told_then {s = s} (not_kept keeper unkept undone lost basis asked) = s.times.moment
 told_then failing = 0
 
 -- what a loop begins with: its limits, its tools, and the journey that led to their edge

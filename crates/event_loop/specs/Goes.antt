@@ -471,9 +471,9 @@ module _ {N C J K H : Type 0} (p : Promises N C J K H) where
     pub done : DoneAfter before.past.calls next.calls
     pub alone : (other : CallKind) → other ≢ Keeping → ¬ (IsDone other before.past.calls) → ¬ (IsDone other next.calls)
 
-  abbrev pub LeadsToKept : Tools N C J K H → Tools N C J K H → Type 0
-  LeadsToKept tools tools' =
-      (first : LoopState N C J K H) (found : List Ready) (service : Service) (past : Past H) → ¬ (IsDone Keeping past.calls) →
+  abbrev pub LeadsToKept : ℕ → Tools N C J K H → Tools N C J K H → Type 0
+  LeadsToKept moment tools tools' =
+      (first : LoopState N C J K H) (found : List Ready) (service : Service) (past : Past H) → service.times.moment ≡ moment → ¬ (IsDone Keeping past.calls) →
       Served p first (state_of (running service tools) found past) → Reached p.hosting tools.edge past.journey → GoesKept first (standing (running service tools) found past) tools'
 
   -- where nothing is unkept, all that was told is handed on, and all else is as it was
@@ -491,15 +491,15 @@ module _ {N C J K H : Type 0} (p : Promises N C J K H) where
     pub goes : GoesKept first before tools'
     pub told : IsAllTold tools'.tellings
 
-  abbrev pub LeadsToTold : Tools N C J K H → Tools N C J K H → Type 0
-  LeadsToTold tools tools' =
-      (first : LoopState N C J K H) (found : List Ready) (service : Service) (past : Past H) → ¬ (IsDone Keeping past.calls) →
+  abbrev pub LeadsToTold : ℕ → Tools N C J K H → Tools N C J K H → Type 0
+  LeadsToTold moment tools tools' =
+      (first : LoopState N C J K H) (found : List Ready) (service : Service) (past : Past H) → service.times.moment ≡ moment → ¬ (IsDone Keeping past.calls) →
       Served p first (state_of (running service tools) found past) → Reached p.hosting tools.edge past.journey → GoesTold first (standing (running service tools) found past) tools'
 
   -- or keeping failed
-  abbrev pub LeadsToLoss : Tools N C J K H → LoopFault → Tools N C J K H → Type 0
-  LeadsToLoss tools fault tools' =
-      (first : LoopState N C J K H) (found : List Ready) (service : Service) (past : Past H) → ¬ (IsDone Keeping past.calls) →
+  abbrev pub LeadsToLoss : ℕ → Tools N C J K H → LoopFault → Tools N C J K H → Type 0
+  LeadsToLoss moment tools fault tools' =
+      (first : LoopState N C J K H) (found : List Ready) (service : Service) (past : Past H) → service.times.moment ≡ moment → ¬ (IsDone Keeping past.calls) →
       Served p first (state_of (running service tools) found past) → Reached p.hosting tools.edge past.journey →
       CannotGoOn p (state_of (running service tools) found past) fault (state_of (running service tools') found past)
 

@@ -1,5 +1,5 @@
 -- How the moment that the clocks tell is looked at and kept.
-use Rattle.std.specs.Prelude.{ℕ, ◌-◌, ◌&&◌, nat_lt, if◌then◌else◌, Option, None, Some}
+use Rattle.std.specs.Prelude.{ℕ, ◌-◌, ◌^◌, min, ◌&&◌, nat_lt, if◌then◌else◌, Option, None, Some}
 use Rattle.change_codec.specs.Keeping.{Crashes, Until, HoldsBasis, HoldsStill, KeepsBasis, horizon_bound}
 use Rattle.outside.specs.declared.clocks.Times.{Times}
 
@@ -7,6 +7,11 @@ use Rattle.outside.specs.declared.clocks.Times.{Times}
 abbrev pub seconds_too_far : Option ℕ → Option Times → ℕ → Option ℕ
 seconds_too_far (Some limit) (Some now) moment = if nat_lt 0 moment && nat_lt limit (now.moment - moment) then Some (now.moment - moment) else None
 seconds_too_far limit now moment = None
+
+-- With changes the keeper keeps the moment that the clocks told, a minute ahead.
+pub record KeepsAhead {K : Type 0} (crashes : Crashes K) (moment : ℕ) (old new : K) : Type 0 where
+  pub basis : KeepsBasis crashes (horizon_bound moment) old new
+  pub ahead : HoldsBasis crashes new (Until (min (horizon_bound moment) (2 ^ 63 - 1)))
 
 -- The keeper holds what it held, and tells the moment that the clocks told, or one that is at most a minute later.
 pub record KeepsTimes {K : Type 0} (crashes : Crashes K) (times : Times) (old new : K) : Type 0 where

@@ -17,10 +17,10 @@ use Rattle.event_loop.specs.Reading.{ReadsPlace}
 use Rattle.event_loop.specs.Writing.{WritesPlace}
 use Rattle.event_loop.specs.Closing.{AreWithin, Cause, Closes, IsBetween, IsEldest, IsOwed, IsRoomMade, IsTimeToReload, Passes, asked_since}
 use Rattle.event_loop.specs.Reporting.{IsDue, Tells, TellsRefusal, is_long_ago}
-use Rattle.event_loop.specs.Moments.{KeepsTimes, seconds_too_far}
+use Rattle.event_loop.specs.Moments.{KeepsAhead, KeepsTimes, seconds_too_far}
 use Rattle.event_loop.specs.declared.report.LastTold.{LastTold}
 use Rattle.outside.specs.declared.report.Report.{Report}
-use Rattle.telling.specs.Audience.{IsAllTold, new_audience}
+use Rattle.telling.specs.Audience.{IsAllTold, forgotten}
 
 -- No more is kept than may be, or something is unkept, or shortening was refused less than a minute ago.
 abbrev pub IsKeptShort : {N C J K H : Type 0} → Promises N C J K H → LoopState N C J K H → Type 0
@@ -136,12 +136,12 @@ pub data LoopStep {N C J K H : Type 0} (p : Promises N C J K H) (s : LoopState N
       LoopStep p s (record s { noted = record s.noted { journal = journal }; told = told })
   keeps : (keeper : K) (e : SeenEdge H) (unkept : IsUnkept s.progress.journey.world) (on : GoesOn p.hosting e s.progress.journey Kept) →
       ¬ (IsDone Keeping s.calls) → Keeps p.keeping.crashes unkept.kept s.progress.journey.world.history s.keeper keeper →
-      KeepsBasis p.keeping.crashes 0 s.keeper keeper → IsNoFurther p.keeping.to_go p.keeping.size s.keeper keeper →
+      KeepsAhead p.keeping.crashes s.times.moment s.keeper keeper → IsNoFurther p.keeping.to_go p.keeping.size s.keeper keeper →
       LoopStep p s (record s { keeper = keeper; progress = led s.progress on; calls = call.Kept ∷ s.calls })
   -- where nothing is unkept, what was told of requests, if anything was, is handed to the journal, all of it, in its order, with how
   -- much more there was no room for
   audits : (journal : J) → IsAllKept s.progress.journey.world → ¬ (IsAllTold s.progress.audience) → p.journal.audits s.noted.journal s.progress.edge.server.rules s.progress.audience journal →
-      LoopStep p s (record s { noted = record s.noted { journal = journal }; progress = record s.progress { audience = new_audience s.progress.audience.room } })
+      LoopStep p s (record s { noted = record s.noted { journal = journal }; progress = record s.progress { audience = forgotten s.progress.audience } })
   -- where more is kept than may be, the keeper alone is another, which holds the same: no more than a slice was gone over, and less
   -- is to be gone over than before until that is shortened, or it is
   shortens : (keeper : K) → IsAllKept s.progress.journey.world → p.keeping.is_long s.keeper → ¬ (IsDone Shortening s.calls) →

@@ -4,8 +4,8 @@ ghost use Rattle.consent.specs.History.{Happened};
 ghost use Rattle.http_edge.specs.Edges.{unkept_of};
 ghost use Rattle.event_loop.specs.Goes.{InEach, IsAllKept, IsUnkept, LeadsToAudit, LeadsToKept, LeadsToLoss, LeadsToTold, keeping, promises};
 
-use crate::tools::{Clocks, HookHost, Journal, Keeper, Sockets, Tools};
-use change_codec::Batch;
+use crate::tools::{Batch, Clocks, HookHost, Journal, Keeper, Sockets, Tools};
+use consent::Moment;
 use http_edge::Edge;
 use outside::LoopFault;
 
@@ -25,15 +25,15 @@ pub(crate) fn unkept<H: HookHost>(edge: &Edge<H>) -> Option<&Batch>
 }
 
 impl<N: Sockets, C: Clocks, J: Journal, K: Keeper, H: HookHost> Tools<N, C, J, K, H> {
-    // What is unkept is kept, all at once.
-    fn keep_unkept(&mut self) -> Result<(), LoopFault>
-        ensures kept { OnOk result (LeadsToKept (promises N.Sockets C.Clocks J.Journal (keeping K.Keeper) H.HookHost) self.old self.new) }
-        ensures lost { IfErr result (λ fault. LeadsToLoss (promises N.Sockets C.Clocks J.Journal (keeping K.Keeper) H.HookHost) self.old fault self.new) }
+    // What is unkept is kept, all at once, at a moment of the clock.
+    fn keep_unkept(&mut self, moment: Moment) -> Result<(), LoopFault>
+        ensures kept { OnOk result (LeadsToKept (promises N.Sockets C.Clocks J.Journal (keeping K.Keeper) H.HookHost) moment self.old self.new) }
+        ensures lost { IfErr result (λ fault. LeadsToLoss (promises N.Sockets C.Clocks J.Journal (keeping K.Keeper) H.HookHost) moment self.old fault self.new) }
     {
         let Some(batch) = unkept(&self.edge) else {
             return Ok(());
         };
-        let Ok(()) = self.keeper.keep(batch) else {
+        let Ok(()) = self.keeper.keep(batch, moment) else {
             return Err(LoopFault::Keep);
         };
         self.edge.forget_unkept();
@@ -53,11 +53,11 @@ impl<N: Sockets, C: Clocks, J: Journal, K: Keeper, H: HookHost> Tools<N, C, J, K
     }
 
     /// What is unkept is kept, all at once, and then what was told of it is handed on.
-    pub(crate) fn keep_all(&mut self) -> Result<(), LoopFault>
-        ensures kept { OnOk result (LeadsToTold (promises N.Sockets C.Clocks J.Journal (keeping K.Keeper) H.HookHost) self.old self.new) }
-        ensures lost { IfErr result (λ fault. LeadsToLoss (promises N.Sockets C.Clocks J.Journal (keeping K.Keeper) H.HookHost) self.old fault self.new) }
+    pub(crate) fn keep_all(&mut self, moment: Moment) -> Result<(), LoopFault>
+        ensures kept { OnOk result (LeadsToTold (promises N.Sockets C.Clocks J.Journal (keeping K.Keeper) H.HookHost) moment self.old self.new) }
+        ensures lost { IfErr result (λ fault. LeadsToLoss (promises N.Sockets C.Clocks J.Journal (keeping K.Keeper) H.HookHost) moment self.old fault self.new) }
     {
-        if let Err(fault) = self.keep_unkept() {
+        if let Err(fault) = self.keep_unkept(moment) {
             return Err(fault);
         }
         self.hand_on();

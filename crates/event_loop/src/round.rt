@@ -112,7 +112,7 @@ impl<N: Sockets, C: Clocks, J: Journal, K: Keeper, H: HookHost> Tools<N, C, J, K
         self.hear_all(service, &found[..count]);
         self.read_all(service);
         self.read_more(service, found);
-        if let Err(fault) = self.keep_all() {
+        if let Err(fault) = self.keep_all(service.times.moment) {
             return Err(fault);
         }
         self.write_all(service);

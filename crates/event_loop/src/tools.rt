@@ -1,5 +1,5 @@
 //! What the loop works with.
-pub use change_codec::Keeper;
+pub use change_codec::{Batch, Keeper};
 pub use hook_host::HookHost;
 use http_edge::Edge;
 pub use outside::{Clocks, Journal, Sockets};

@@ -11,3 +11,4 @@ pub mod Shorts
 pub mod Tells
 pub mod Names
 pub mod Begun
+pub mod Behind

@@ -1,5 +1,5 @@
 -- What a state file stands for.
-use Rattle.std.specs.Prelude.{◌≡◌, ◌++◌, ◌^◌, ◌==◌, ◌&&◌, ℕ, zero, suc, max, nat_lt, length, List, [], ◌∷◌, Option, None, Some, IsSome, if◌then◌else◌, unwrap_or}
+use Rattle.std.specs.Prelude.{◌≡◌, ◌++◌, ◌^◌, ◌==◌, ◌&&◌, ℕ, zero, suc, max, nat_lt, length, take, drop, List, [], ◌∷◌, Option, None, Some, IsSome, if◌then◌else◌, unwrap_or}
 use Rattle.std.specs.Int.{w64, from_be_bytes, to_be_bytes}
 use Rattle.consent.specs.History.{greatest_family, last_moment}
 use Rattle.shortening.specs.Standing.{IsLeftOf}
@@ -9,10 +9,10 @@ use Rattle.state_file.specs.Names.{recovered, Event, HaveSpelling, batch_spellin
 abbrev pub horizon : ℕ → List ℕ
 horizon until = 3 ∷ to_be_bytes w64 until
 
--- the moment of a horizon, which is below 2^63
+-- the moment of a horizon, which is below 2^63, if the batch is one, or begins with one
 abbrev pub horizon_in : List ℕ → Option ℕ
 horizon_in (suc (suc (suc zero)) ∷ bytes) =
-    if (length bytes == 8) && nat_lt (from_be_bytes w64 bytes) (2 ^ 63) then Some (from_be_bytes w64 bytes) else None
+    if nat_lt 7 (length bytes) && nat_lt (from_be_bytes w64 (take 8 bytes)) (2 ^ 63) then Some (from_be_bytes w64 (take 8 bytes)) else None
 horizon_in _ = None
 
 -- the horizon of a moment, if that is any
@@ -24,11 +24,20 @@ abbrev pub until_of : List (List ℕ) → ℕ
 until_of [] = 0
 until_of (batch ∷ batches) = max (unwrap_or (horizon_in batch) 0) (until_of batches)
 
--- the batch has these dated changes: rules, which begin with a byte 0, and a horizon have none
+-- the bytes spell these dated changes
+abbrev pub AreChanges : List ℕ → List Event → Type 0
+AreChanges bytes facts = HaveSpelling facts × (bytes ≡ batch_spelling facts)
+
+-- so do those behind a horizon, if there are any
+abbrev pub AreBehind : List ℕ → List Event → Type 0
+AreBehind [] facts = facts ≡ []
+AreBehind bytes facts = AreChanges bytes facts
+
+-- the batch has these dated changes: rules, which begin with a byte 0, have none, and behind a horizon there may be some
 abbrev pub IsTold : List ℕ → List Event → Type 0
 IsTold (zero ∷ rules) facts = facts ≡ []
-IsTold (suc (suc (suc zero)) ∷ bytes) facts = IsSome (horizon_in (3 ∷ bytes)) × (facts ≡ [])
-IsTold batch facts = HaveSpelling facts × (batch ≡ batch_spelling facts)
+IsTold (suc (suc (suc zero)) ∷ bytes) facts = IsSome (horizon_in (3 ∷ bytes)) × AreBehind (drop 8 bytes) facts
+IsTold batch facts = AreChanges batch facts
 
 -- the batches tell this list of dated changes, one after the other
 abbrev pub AreTold : List (List ℕ) → List Event → Type 0

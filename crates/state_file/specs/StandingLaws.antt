@@ -2,7 +2,7 @@
 use Rattle.std.proofs.Common.{◌≡◌, ◌≤◌, ◌∙◌, ℕ, zero, suc, max, List, [], ◌∷◌, ◌++◌, refl, sym, ap, subst, append_assoc, arith}
 use Rattle.state_file.specs.Names.{Event, HaveSpelling, batch_spelling}
 use Rattle.std.proofs.lemmas.List.{append-nil}
-use Rattle.std.specs.Prelude.{IsSome}
+use Rattle.std.specs.Prelude.{IsSome, drop}
 use Rattle.change_codec.specs.SpellingLaws.{one_list}
 use Rattle.consent.specs.History.{Happened, event_at, greatest_family, last_moment}
 use Rattle.consent.specs.History.Change.{Numbered}
@@ -12,7 +12,7 @@ use Rattle.shortening.specs.Standing.{IsLeftOf}
 use Rattle.shortening.specs.StandingLaws.{left-grown, left-renewed, greatest-renewed, last-numbered}
 use Rattle.shortening.specs.Shortened.{shortened}
 use Rattle.state_file.specs.Renewing.{IsShortened, left_numbered}
-use Rattle.state_file.specs.Standing.{AreTold, IsTold, StandFor, horizon, horizon_in, until_of}
+use Rattle.state_file.specs.Standing.{AreBehind, AreTold, IsTold, StandFor, horizon, horizon_in, until_of}
 
 -- the changes of some batches, and of those behind them
 pub AreTold-joined : (batches more : List (List ℕ)) (facts others : List Event) → AreTold batches facts → AreTold more others →
@@ -44,10 +44,20 @@ AreTold-rules fields = ([], [], refl, refl, refl)
 pub AreTold-horizon : (until : ℕ) → IsSome (horizon_in (horizon until)) → AreTold (horizon until ∷ []) []
 AreTold-horizon until is = ([], [], (is, refl), refl, refl)
 
+-- and a horizon with changes behind it
+pub AreTold-behind : (until : ℕ) (facts : List Event) → IsSome (horizon_in (horizon until ++ batch_spelling facts)) → HaveSpelling facts →
+    AreTold ((horizon until ++ batch_spelling facts) ∷ []) facts
+AreTold-behind until facts is fit = (facts, [], (is, (fit, refl)), refl, sym (append-nil facts))
+
+-- behind a horizon is one list
+is_one_behind : (bytes : List ℕ) (some others : List Event) → AreBehind bytes some → AreBehind bytes others → some ≡ others
+is_one_behind [] some others a b = a ∙ sym b
+is_one_behind (byte ∷ bytes) some others a b = one_list some others a.0 b.0 (sym a.1 ∙ b.1)
+
 -- the batches tell one list
 is_one : (batch : List ℕ) (some others : List Event) → IsTold batch some → IsTold batch others → some ≡ others
 is_one (zero ∷ rules) some others a b = a ∙ sym b
-is_one (suc (suc (suc zero)) ∷ bytes) some others a b = a.1 ∙ sym b.1
+is_one (suc (suc (suc zero)) ∷ bytes) some others a b = is_one_behind (drop 8 bytes) some others a.1 b.1
 is_one _ some others a b = one_list some others a.0 b.0 (sym a.1 ∙ b.1)
 
 pub one_told : (batches : List (List ℕ)) (some others : List Event) → AreTold batches some → AreTold batches others → some ≡ others

@@ -15,11 +15,11 @@ pub fn horizon(until: Moment) -> [u8; 9]
     batch
 }
 
-/// The moment of a horizon, if the batch is one.
+/// The moment of a horizon, if the batch is one, or begins with one.
 pub fn horizon_in(batch: &[u8]) -> Option<Moment>
     ensures { result ≡ horizon_in batch.now }
 {
-    let [3, a, b, c, d, e, f, g, h] = *batch else {
+    let [3, a, b, c, d, e, f, g, h, ..] = *batch else {
         return None;
     };
     let until = u64::from_be_bytes([a, b, c, d, e, f, g, h]);
@@ -30,7 +30,7 @@ pub fn horizon_in(batch: &[u8]) -> Option<Moment>
 }
 
 /// The later of two moments.
-pub(crate) fn later(a: Moment, b: Moment) -> Moment
+pub fn later(a: Moment, b: Moment) -> Moment
     ensures { result ≡ max a b }
 {
     if a.get() < b.get() { b } else { a }

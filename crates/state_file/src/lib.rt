@@ -2,7 +2,7 @@
 //! or what is left of these when what no longer matters is left out. And a server made of what it tells.
 //!
 //! A batch of the file begins with a byte 0 where it is of rules, with a byte 1 where it is of dated changes, and with a byte 3
-//! where it is a horizon of a moment. The last batch of rules tells under which the changes are right.
+//! where it is a horizon of a moment, behind which one of changes may stand. The last batch of rules tells under which they are right.
 #![tactic(auto)]
 
 mod comparing;
@@ -28,7 +28,7 @@ mod sizes;
 pub use comparing::compare;
 pub use fault::StateFault;
 pub use hooks::{SetHook, SetHooks};
-pub use horizons::{horizon, until_of};
+pub use horizons::{horizon, later, until_of};
 pub use known::Known;
 pub use laws::{chains_are_made_again, what_is_right_is_made_again};
 pub use listing::{changes_in, changes_of};

@@ -1,15 +1,14 @@
 -- What a keeper holds once its file has a batch more, or stands as it was, or another stands in its place.
 use Rattle.std.proofs.Common.{◌≡◌, ◌⊎◌, ⊎_elim, ◌≤◌, inl, inr, ℕ, List, [], ◌∷◌, ◌++◌, Option, None, Some, refl, sym, ap, ◌∙◌, subst, append_assoc, arith}
 use Rattle.std.proofs.lemmas.List.{append_cancel_left}
-use Rattle.state_keeper.proofs.Names.{LeavesOnly, recovered, IsOnDisk, BatchFile, Device, Event, Until, HoldsBasis, KeepsBasis, TellsBasis, RulesFact, HaveSpelling, batch_spelling, SeenKeeper}
-use Rattle.state_keeper.proofs.Names.{file_crashes, StandFor, until_of, AreDrafted, IsDraft, AreTold-changes, append-nil, until_of-append, until_of-more, Tell, last_rules, last_rules-push}
+use Rattle.state_keeper.proofs.Names.{LeavesOnly, recovered, IsOnDisk, BatchFile, Device, Event, Until, HoldsBasis, KeepsBasis, TellsBasis, RulesFact, SeenKeeper}
+use Rattle.state_keeper.proofs.Names.{file_crashes, StandFor, until_of, AreDrafted, IsDraft, append-nil, Tell}
 use Rattle.batch_file.specs.Frames.{IsOldOrNew, IsBeforeOrAfter, IsReadable}
 use Rattle.change_codec.specs.Keeping.{Basis, IsWithin, NoLater, Readable, Rules, Holds, Keeps, KeepsNot, LeavesEither, StandsForEither}
-use Rattle.consent.specs.History.{Happened}
 use Rattle.state_file.specs.Knowing.{LeftTells, TellBasis}
 use Rattle.state_keeper.specs.Seen.{MayBe}
 use Rattle.state_file.specs.Renewing.{IsShortened}
-use Rattle.state_file.specs.StandingLaws.{StandFor-joined, StandFor-shortened}
+use Rattle.state_file.specs.StandingLaws.{StandFor-shortened}
 use Rattle.batch_file.specs.CrashesLaws.{both, then, weaker}
 use Rattle.state_keeper.proofs.Fronts.{at_rest_readable, front_readable}
 use Rattle.batch_file.specs.declared.appending.BatchFault.{BatchFault}
@@ -330,16 +329,3 @@ module _ {D : Type 0} (device : Device D) (old mid new : SeenKeeper D) (draft : 
       now c (inl left) = here c (settled.durable c left) (true c left)
       now c (inr is) = ⊎_elim (λ same. here c same is.0)
           (λ draft. absurd (subst (λ (f : Option (List (List ℕ))). AreDrafted f (recovered (device.seen new.file.device)) (recovered c)) none draft.1)) is.1
-
--- A BATCH OF CHANGES MORE
-
-pub changes_stand : (batches : List (List ℕ)) (batch : List ℕ) (facts : List Event) (before after : List Event) → batch ≡ batch_spelling facts → HaveSpelling facts →
-    Happened before facts after → StandFor batches before → StandFor (batches ++ batch ∷ []) after
-changes_stand batches batch facts before after is fits happened stands =
-    subst (λ (b : List ℕ). StandFor (batches ++ b ∷ []) after) (sym is)
-    (StandFor-joined batches (batch_spelling facts ∷ []) before after facts stands (AreTold-changes facts fits) happened)
-
-pub changes_tell : (batches : List (List ℕ)) (batch : List ℕ) (facts : List Event) → batch ≡ batch_spelling facts → TellOn 0 batches (batches ++ batch ∷ [])
-changes_tell batches batch facts is = tell_on 0 batches (batches ++ batch ∷ []) (until_of-more batches (batch ∷ []))
-    (λ moment le was. (let all = until_of-append batches (batch_spelling facts ∷ []) in rw is (omega (arith, all, was))))
-    (λ rules tell. (tell.0, ap (λ (b : List ℕ). last_rules (batches ++ b ∷ [])) is ∙ last_rules-push batches (batch_spelling facts) ∙ tell.1, tell.2))

@@ -1,3 +1,4 @@
+pub mod Ahead
 pub mod Drafts
 pub mod Ended
 pub mod Fronts

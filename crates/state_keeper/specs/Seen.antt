@@ -1,11 +1,11 @@
 -- A keeper as it is seen, and what a crash may leave of its file.
-use Rattle.std.specs.Prelude.{◌≡◌, ◌⊎◌, ◌+◌, ◌^◌, ◌≤◌, ◌++◌, ◌∷◌, ℕ, List, length, Option, None, Some, unwrap_or}
+use Rattle.std.specs.Prelude.{◌≡◌, ◌⊎◌, ◌+◌, ◌^◌, ◌≤◌, ◌++◌, ◌∷◌, ℕ, List, length, Option, None, Some, unwrap_or, nat_lt, if◌then◌else◌}
 use Rattle.state_keeper.specs.Names.{recovered, Device}
 use Rattle.change_codec.specs.Keeping.{Crashes, crashes}
 use Rattle.batch_file.specs.declared.appending.BatchFault.{BatchFault}
 use Rattle.batch_file.specs.declared.appending.BatchFile.{BatchFile}
 use Rattle.state_file.specs.Renewing.{IsShortened}
-use Rattle.state_file.specs.Standing.{StandsFor}
+use Rattle.state_file.specs.Standing.{StandsFor, horizon}
 use Rattle.state_file.specs.Knowing.{LeftTells, IsLong}
 use Rattle.batch_file.specs.Frames.{IsReadable}
 
@@ -58,6 +58,10 @@ ShortensFile device old new =
 -- a shortening began with all that the file had, or goes on with what it had when it began
 abbrev pub GoesOn : {D : Type 0} → Device D → SeenKeeper D → SeenKeeper D → Type 0
 GoesOn device old new = new.front ≡ Some (unwrap_or old.front (recovered (device.seen old.file.device)))
+
+-- a batch of changes as it is written: with a horizon in front of it, where that is later than those before
+abbrev pub with_horizon : ℕ → ℕ → List ℕ → List ℕ
+with_horizon before until batch = if nat_lt before until then horizon until ++ batch else batch
 
 -- one of the batches has a frame of so many bytes, or it is none
 abbrev pub IsFrameSize : List (List ℕ) → ℕ → Type 0

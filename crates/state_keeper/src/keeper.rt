@@ -1,6 +1,7 @@
 //! Keeping the changes of each round, and the moment, in a state file.
 
-ghost use Rattle.std.specs.Prelude.{◌≡◌, ◌≤◌, ◌<◌, ◌+◌, ◌-◌, ◌^◌, min};
+ghost use Rattle.std.specs.Prelude.{◌≡◌, ◌≤◌, ◌<◌, ◌+◌, ◌-◌, ◌^◌, min, IfOk};
+ghost use Rattle.state_keeper.specs.Seen.{with_horizon};
 
 use crate::course::HEADER;
 use crate::passing::Shortening;
@@ -9,11 +10,11 @@ use batch_file::device::Device;
 use batch_file::system::SystemFault;
 use change_codec::{Batch, KeepFault, Keeper, Length, ShortenFault};
 use consent::Moment;
-use state_file::{Known, horizon, size_behind};
-use std::alloc::Global;
+use state_file::{Known, horizon, later, size_behind};
+use std::alloc::{AllocError, Global};
 use std::marker::Model;
 
-/// A horizon is so many seconds ahead of the clock, so that no more than one is written in that time.
+/// A horizon is so many seconds ahead of the clock, so that in that time none is written but with changes.
 const SPAN: u64 = 60;
 
 /// The greatest moment.
@@ -62,6 +63,23 @@ fn horizon_at(now: Moment) -> Moment
     ensures in_range { result < 2 ^ 63 }
 {
     Moment::new((now.get() + SPAN).min(LAST))
+}
+
+/// What is written of a batch: it, and in front of it a horizon, where that is later than those before.
+fn with_horizon(
+    alloc: Global,
+    before: Moment,
+    until: Moment,
+    batch: &[u8],
+) -> Result<Vec<u8>, AllocError>
+    ensures { IfOk result (λ written. written.items ≡ with_horizon before until batch.now) }
+{
+    let mut written = Vec::with_capacity(alloc, batch.len().saturating_add(9))?;
+    if before.get() < until.get() {
+        written.extend_from_slice(&horizon(until))?;
+    }
+    written.extend_from_slice(batch)?;
+    Ok(written)
 }
 
 impl<D: Device> StateKeeper<D> {
@@ -135,14 +153,21 @@ impl<D: Device> Keeper for StateKeeper<D> {
 
     ghost only_now = { λ k c left. inl (D.only_now k.file.device c left) };
 
-    fn keep(&mut self, batch: &Batch) -> Result<(), KeepFault> {
+    // The horizon of the moment goes with it.
+    fn keep(&mut self, batch: &Batch, now: Moment) -> Result<(), KeepFault> {
         if self.fault.is_some() {
             return Err(KeepFault::Failed);
         }
-        match self.file.append(self.alloc, batch.bytes()) {
+        let ahead = horizon_at(now);
+        let Ok(written) = with_horizon(self.alloc, self.known.until, ahead, batch.bytes()) else {
+            self.fault = Some(BatchFault::Memory);
+            return Err(KeepFault::Failed);
+        };
+        match self.file.append(self.alloc, &written) {
             Ok(()) => {
                 let size = self.file.end - HEADER;
-                self.known.shortened = size_behind(batch.bytes(), size, self.known.shortened);
+                self.known.shortened = size_behind(&written, size, self.known.shortened);
+                self.known.until = later(self.known.until, ahead);
                 Ok(())
             }
             Err(fault) => {

@@ -85,7 +85,7 @@ returns-in-Err-keep_all-clause-wrong g c = λ first past begun was_ready unshort
       served = more.on.served;
       found = [];
       next = more.on.next;
-      fails = c.in-Err-keep_all.ensures.lost first [] c.read_more.new.service more.on.next more.hearing.not_kept more.on.served (served_answered _ first _ more.on.served).reached;
+      fails = c.in-Err-keep_all.ensures.lost first [] c.read_more.new.service more.on.next refl more.hearing.not_kept more.on.served (served_answered _ first _ more.on.served).reached;
     }
 
 pub returns-clause-goes : goal.returns-clause-goes
