@@ -1,10 +1,12 @@
 -- What is told of requests: each has a line, or is counted.
 use Rattle.std.specs.Prelude.{◌≡◌, ◌⊎◌, ◌+◌, ◌-◌, ◌^◌, ℕ, List, [], ◌∷◌, Option, Some, None, min}
 use Rattle.clients.specs.RegistryRecord.{RegistryRecord}
-use Rattle.telling.specs.Audience.{Audience}
+use Rattle.telling.specs.Audience.{Audience, new_audience, nobody}
+use Rattle.telling.specs.declared.interest.Interest.TheVariants.{Denials, Everything}
 use Rattle.telling.specs.declared.told.Told.{Told}
 use Rattle.line_journal.specs.declared.audit_log.AuditLog.{AuditLog}
 use Rattle.line_journal.specs.declared.line_journal.LineJournal.{LineJournal}
+use Rattle.line_journal.specs.declared.measures.Measures.{Measures}
 use Rattle.line_journal.specs.AuditTexts.{dropped_text, told_lines}
 
 -- the line of a request, under the rules, has its place, behind what is to be told before it
@@ -52,5 +54,22 @@ AuditsIn rules (Some old) audience new = (log : AuditLog) × (new ≡ Some log) 
 -- by a journal, which writes no other line
 pub record Audits {E : Type 0} (old : LineJournal E) (rules : RegistryRecord) (audience : Audience) (new : LineJournal E) : Type 0 where
   pub audit : AuditsIn rules old.outlets.audit audience new.outlets.audit
+  pub outlets : new.outlets ≡ record old.outlets { audit = new.outlets.audit }
   pub lines : new.lines ≡ old.lines
   pub dropped : new.dropped ≡ old.dropped
+
+-- of what a life is told: of each request, where there is a log, in the room that this took at its start, or in as much; and else of
+-- those that a hook denied, where that is measured
+abbrev pub IsRoom : Option Audience → Audience → Type 0
+IsRoom (Some room) audience = audience ≡ room
+IsRoom None audience = audience ≡ new_audience Everything 4096
+
+abbrev pub IsTold : Option AuditLog → Option Measures → Audience → Type 0
+IsTold (Some log) measures audience = IsRoom log.room audience
+IsTold None (Some measures) audience = audience ≡ new_audience Denials 1024
+IsTold None None audience = audience ≡ nobody
+
+-- of nothing, where memory is refused for that, which the room of a log's start is not
+abbrev pub MayBeUntold : Option AuditLog → Audience → Type 0
+MayBeUntold (Some log) audience = (log.room ≡ None) × (audience ≡ nobody)
+MayBeUntold None audience = audience ≡ nobody

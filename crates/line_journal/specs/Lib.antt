@@ -2,3 +2,4 @@
 pub mod NoticeTexts
 pub mod AuditTexts
 pub mod Auditing
+pub mod Reporting

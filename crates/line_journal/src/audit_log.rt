@@ -1,10 +1,11 @@
 //! Where it is told of each request that was answered, in lines.
 
-ghost use Rattle.std.specs.Prelude.{◌≡◌, ◌++◌, ◌∷◌, [], Some, IfOk, IfErr, IfSome, false, true};
+ghost use Rattle.std.specs.Prelude.{◌≡◌, ◌++◌, ◌∷◌, [], Some, None, IfOk, IfErr, false, true};
 ghost use Rattle.line_journal.specs.AuditTexts.{begun_text, dropped_text, line_text, lost_text, start_text, told_lines};
-ghost use Rattle.line_journal.specs.Auditing.{MayTellLost, Tells, TellsAll, TellsAudience, counted};
+ghost use Rattle.line_journal.specs.Auditing.{IsRoom, MayTellLost, Tells, TellsAll, TellsAudience, counted};
 ghost use Rattle.json.specs.Token.{end_object};
 ghost use Rattle.telling.specs.Audience.{new_audience};
+ghost use Rattle.telling.specs.declared.interest.Interest.TheVariants.{Everything};
 
 use crate::line_sink::LineSink;
 use clients::Registry;
@@ -17,7 +18,7 @@ use std::fs::File;
 use std::io::Stdout;
 use std::net::Net;
 use std::rt::Files;
-use telling::{Tellings, Told};
+use telling::{Interest, Tellings, Told};
 
 /// Of so many requests it can be told before the next replies are written.
 const ROOM: usize = 4096;
@@ -74,9 +75,9 @@ fn dropped_line(alloc: Global, dropped: u64) -> Result<Vec<u8>, AllocError>
 impl AuditLog {
     // What tells of nothing yet, and has room for what is told.
     fn new(alloc: Global, lines: LineSink) -> Result<AuditLog, AllocError>
-        ensures { IfOk result (λ log. log.room ≡ Some (new_audience 4096)) }
+        ensures { IfOk result (λ log. log.room ≡ Some (new_audience Everything 4096)) }
     {
-        let room = Tellings::with_room(alloc, ROOM)?;
+        let room = Tellings::with_room(alloc, Interest::Everything, ROOM)?;
         Ok(AuditLog {
             alloc,
             lines,
@@ -92,7 +93,7 @@ impl AuditLog {
         path: &str,
         stdout: Stdout,
     ) -> Result<AuditLog, OpenFault>
-        ensures { IfOk result (λ log. log.room ≡ Some (new_audience 4096)) }
+        ensures { IfOk result (λ log. log.room ≡ Some (new_audience Everything 4096)) }
     {
         let alloc = rt.alloc();
         if is_output(path) {
@@ -102,14 +103,15 @@ impl AuditLog {
         Ok(AuditLog::new(alloc, LineSink::of_file(alloc, file))?)
     }
 
-    /// A life begins at a moment, if that is known. It has room for what is told in it; `None` where memory is refused.
-    pub(crate) fn begin(&mut self, moment: Option<Moment>) -> Option<Tellings>
-        ensures { IfSome self.old.room (λ room. result ≡ Some room) }
+    /// A life begins at a moment, if that is known. It has room for what is told in it.
+    pub(crate) fn begin(&mut self, moment: Option<Moment>) -> Result<Tellings, AllocError>
+        ensures told { IfOk result (IsRoom self.old.room) }
+        ensures refused { IfErr result (λ _. self.old.room ≡ None) }
     {
         self.begun = moment;
         match self.room.take() {
-            Some(room) => Some(room),
-            None => Tellings::with_room(self.alloc, ROOM).ok(),
+            Some(room) => Ok(room),
+            None => Tellings::with_room(self.alloc, Interest::Everything, ROOM),
         }
     }
 

@@ -1,8 +1,11 @@
 //! When a report is written as a line.
 
-use outside::Report;
+ghost use Rattle.std.specs.Prelude.{◌≡◌, is_some};
+ghost use Rattle.line_journal.specs.Reporting.{due_after, due_behind, due_each, is_due, is_time, is_written, kept_since, over};
 
-/// When a report is written as a line: each so many seconds, where reports are wanted, and at the end of a life.
+use outside::{Notice, Report};
+
+/// When a report is written as a line: each so many seconds of a life, where reports are wanted, and at its end.
 #[derive(Clone, Copy)]
 pub(crate) struct Due {
     every: Option<u64>,
@@ -12,9 +15,21 @@ pub(crate) struct Due {
     since: Option<Report>,
 }
 
+// Whether it is time for a report, where so many seconds have passed since the last one.
+fn is_time(every: Option<u64>, passed: u64) -> bool
+    ensures { result ≡ is_time every passed }
+{
+    match every {
+        Some(every) => every <= passed,
+        None => false,
+    }
+}
+
 impl Due {
-    /// Each so many seconds, if at all.
-    pub(crate) fn each(every: Option<u64>) -> Due {
+    /// Each so many seconds of a life that begins, if at all.
+    pub(crate) fn each(every: Option<u64>) -> Due
+        ensures { result ≡ due_each every }
+    {
         Due {
             every,
             last: 0,
@@ -22,32 +37,58 @@ impl Due {
         }
     }
 
-    /// As often in another life.
-    pub(crate) fn anew(self) -> Due {
-        Due::each(self.every)
+    // Whether a report is to be written now.
+    fn is_due(&self, report: &Report) -> bool
+        ensures { result ≡ is_due self.now report.now }
+    {
+        is_time(self.every, report.seconds.saturating_sub(self.last))
     }
 
-    /// Whether reports are wanted.
-    pub(crate) fn is_wanted(&self) -> bool {
-        self.every.is_some()
-    }
-
-    /// There is a report: whether it is to be written now.
-    pub(crate) fn note(&mut self, report: &Report) -> bool {
-        let Some(every) = self.every else {
-            return false;
-        };
-        if report.seconds.saturating_sub(self.last) < every {
+    // A report is not written now: it is kept, where reports are wanted.
+    fn keep(&mut self, report: &Report)
+        ensures { self.new ≡ kept_since self.old.every self.old report.now }
+    {
+        if let Some(_) = self.every {
             self.since = Some(*report);
-            return false;
         }
-        self.last = report.seconds;
-        self.since = None;
-        true
     }
 
-    /// The last report, where it was not written.
-    pub(crate) fn take(&mut self) -> Option<Report> {
+    // There is a report: whether it is to be written now.
+    fn note_report(&mut self, report: &Report) -> bool
+        ensures due { result ≡ is_due self.old report.now }
+        ensures after { self.new ≡ due_after self.old report.now }
+    {
+        if self.is_due(report) {
+            self.last = report.seconds;
+            self.since = None;
+            true
+        } else {
+            self.keep(report);
+            false
+        }
+    }
+
+    /// There is a notice: whether it is to be written now.
+    pub(crate) fn note(&mut self, notice: &Notice) -> bool
+        ensures written { result ≡ is_written self.old notice.now }
+        ensures after { self.new ≡ due_behind self.old notice.now }
+    {
+        match notice {
+            Notice::Reported(report) => self.note_report(report),
+            Notice::StoreFull => self.every.is_some(),
+            Notice::ShorteningRefused
+            | Notice::WantsRoom(_)
+            | Notice::SetAside(_)
+            | Notice::Narrowed(_)
+            | Notice::Ahead(_) => true,
+        }
+    }
+
+    /// A life is over: its last report, where it was not written.
+    pub(crate) fn take(&mut self) -> Option<Report>
+        ensures taken { result ≡ self.old.since }
+        ensures over { self.new ≡ over self.old }
+    {
         self.since.take()
     }
 }

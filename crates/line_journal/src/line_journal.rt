@@ -1,7 +1,9 @@
 //! Faults and reports, in lines.
 
-ghost use Rattle.std.specs.Prelude.{◌≡◌, ◌<◌, ◌⊎◌, ◌+◌, ◌-◌, ◌^◌, None, IfOk, IfSome, min, string_bytes};
+ghost use Rattle.std.specs.Prelude.{◌≡◌, ◌<◌, ◌⊎◌, ◌+◌, ◌-◌, ◌^◌, IfErr, IfOk, min, string_bytes};
+ghost use Rattle.line_journal.specs.Auditing.{IsTold, MayBeUntold};
 ghost use Rattle.line_journal.specs.NoticeTexts.{notice_text, room_text, set_aside_text};
+ghost use Rattle.line_journal.specs.Reporting.{Ends, Notes, due_each};
 ghost use Rattle.telling.specs.Audience.{nobody};
 
 use crate::audit_log::AuditLog;
@@ -10,30 +12,26 @@ use crate::measures::Measures;
 use crate::outlet::Outlet;
 use clients::Registry;
 use consent::Moment;
-use outside::{ConnectionFault, Journal, Notice, Report};
+use outside::{ConnectionFault, Journal, Notice};
 use reports::report_text;
 use std::alloc::{AllocError, Global};
 use std::io::Write;
 use std::net::Net;
-use telling::Tellings;
+use telling::{Interest, Tellings};
 
-/// What hears more than faults: where it is told of each request, if anywhere; what is measured, where memory was had for it; and after
-/// how many seconds a report is written, if at all.
+/// Of so many requests that a hook denied it can be told before the next replies are written.
+const ROOM: usize = 1024;
+
+/// What hears more than faults: where it is told of each request, if anywhere; and what is measured, where memory was had for it.
 #[derive(Drop)]
 pub struct Hearers {
     audit: Option<AuditLog>,
     measures: Option<Measures>,
-    every: Option<u64>,
 }
 
 impl Hearers {
     /// Those of a server that begins at a moment, if that is known.
-    pub fn new(
-        alloc: Global,
-        moment: Option<Moment>,
-        audit: Option<AuditLog>,
-        every: Option<u64>,
-    ) -> Hearers
+    pub fn new(alloc: Global, moment: Option<Moment>, audit: Option<AuditLog>) -> Hearers
         ensures { result.audit ≡ audit }
     {
         let began = match moment {
@@ -43,7 +41,6 @@ impl Hearers {
         Hearers {
             audit,
             measures: Measures::new(alloc, began).ok(),
-            every,
         }
     }
 }
@@ -73,8 +70,25 @@ pub struct Outlets {
     due: Due,
 }
 
+impl Outlets {
+    // Room for what is told of requests in a life that begins at a moment, if that is known.
+    fn room(&mut self, alloc: Global, moment: Option<Moment>) -> Result<Tellings, AllocError>
+        ensures told { IfOk result (IsTold self.old.audit self.old.measures) }
+        ensures refused { IfErr result (λ _. MayBeUntold self.old.audit nobody) }
+        ensures due { self.new.due ≡ self.old.due }
+    {
+        if let Some(audit) = &mut self.audit {
+            return audit.begin(moment);
+        }
+        match &self.measures {
+            Some(_) => Tellings::with_room(alloc, Interest::Denials, ROOM),
+            None => Ok(Tellings::unwanted(alloc)),
+        }
+    }
+}
+
 impl<'e, E: Write> LineJournal<'e, E> {
-    /// A journal that noted nothing yet, about the file of the state at a path, where there is one.
+    /// A journal that noted nothing yet, and to which no life began, about the file of the state at a path, where there is one.
     pub fn new<R: Net + AllocGlobal>(
         rt: &R,
         path: &'e str,
@@ -92,7 +106,7 @@ impl<'e, E: Write> LineJournal<'e, E> {
                 notes: Outlet::new(rt, rt.alloc()),
                 audit: hearers.audit,
                 measures: hearers.measures,
-                due: Due::each(hearers.every),
+                due: Due::each(None),
             },
             dropped: 0,
         }
@@ -170,7 +184,7 @@ impl<'e, E: Write> LineJournal<'e, E> {
         // Nothing is written where a line is dropped, and that is counted.
         ensures dropped { 0 < self.new.dropped → self.new.lines ≡ self.old.lines }
         ensures counted { self.new.dropped ≡ 0 ⊎ (self.new.dropped ≡ min (self.old.dropped + 1) (2 ^ 64 - 1)) }
-        ensures audit { self.new.outlets.audit ≡ self.old.outlets.audit }
+        ensures kept { Notes self.old self.new }
     {
         let more = self.dropped.saturating_add(1);
         if !self.outlets.notes.is_free() {
@@ -192,63 +206,50 @@ impl<'e, E: Write> LineJournal<'e, E> {
 }
 
 impl<'e, E: Write> LineJournal<'e, E> {
-    /// A life begins at a moment, if that is known: room for what is told in it of each request. Where that is wanted and memory is
-    /// refused, it is said, and nothing is told.
-    pub fn begin(&mut self, moment: Option<Moment>) -> Tellings
-        ensures unwanted { self.old.outlets.audit ≡ None → result ≡ nobody }
-        ensures first { IfSome self.old.outlets.audit (λ log. IfSome log.room (λ room. result ≡ room)) }
+    /// A life begins at a moment, if that is known, in which a report is written each so many seconds, if at all. It gives room for what
+    /// is told in it of requests: of each where there is an audit log, and else of those that a hook denied, where that is measured.
+    /// Where that is wanted and memory is refused, it is said, and nothing is told.
+    pub fn begin(&mut self, moment: Option<Moment>, every: Option<u64>) -> Tellings
+        ensures due { self.new.outlets.due ≡ due_each every }
+        ensures told { IsTold self.old.outlets.audit self.old.outlets.measures result ⊎ MayBeUntold self.old.outlets.audit result }
     {
         self.end_report();
-        self.outlets.due = self.outlets.due.anew();
-        self.begin_audit(moment)
-    }
-
-    // Room for what is told of each request in a life that begins at a moment, if that is known.
-    fn begin_audit(&mut self, moment: Option<Moment>) -> Tellings
-        ensures unwanted { self.old.outlets.audit ≡ None → result ≡ nobody }
-        ensures first { IfSome self.old.outlets.audit (λ log. IfSome log.room (λ room. result ≡ room)) }
-    {
-        let Some(audit) = &mut self.outlets.audit else {
+        self.outlets.due = Due::each(every);
+        let Ok(room) = self.outlets.room(self.alloc, moment) else {
+            self.tell(b"oauthd: no memory; of requests nothing is told until the next reload\n");
             return Tellings::unwanted(self.alloc);
         };
-        if let Some(room) = audit.begin(moment) {
-            return room;
-        }
-        self.tell(b"oauthd: audit: no memory; nothing is told until the next reload\n");
-        Tellings::unwanted(self.alloc)
+        room
     }
 }
 
 impl<'e, E: Write> LineJournal<'e, E> {
     // Writes a notice as a line.
     fn write(&mut self, notice: &Notice)
-        ensures { self.new.outlets.audit ≡ self.old.outlets.audit }
+        ensures { Notes self.old self.new }
     {
         if let Ok(line) = notice_line(self.alloc, self.path, notice) {
             self.tell(&line);
         }
     }
 
-    // What the server has done: that is measured, and where a line of it is due, that is written.
-    fn note_report(&mut self, report: &Report) {
-        if let Some(measures) = &self.outlets.measures {
+    // What is told in a notice is measured.
+    fn measure(&self, notice: &Notice) {
+        if let (Notice::Reported(report), Some(measures)) = (notice, &self.outlets.measures) {
             measures.report(report);
-        }
-        if self.outlets.due.note(report) {
-            self.write(&Notice::Reported(*report));
         }
     }
 
-    // What was told of requests: that is measured.
-    fn note_told(&self, tellings: &Tellings) {
+    // What was told of requests is measured.
+    fn measure_told(&self, tellings: &Tellings) {
         if let Some(measures) = &self.outlets.measures {
-            measures.audit(tellings);
+            measures.hear(tellings);
         }
     }
 
     /// A life is over: its last report is written, where reports are wanted and it was not.
     pub fn end_report(&mut self)
-        ensures { self.new.outlets.audit ≡ self.old.outlets.audit }
+        ensures { Ends self.old self.new }
     {
         if let Some(report) = self.outlets.due.take() {
             self.write(&Notice::Reported(report));
@@ -258,11 +259,12 @@ impl<'e, E: Write> LineJournal<'e, E> {
 
 impl<'e, E: Write> Journal for LineJournal<'e, E> {
     ghost use Rattle.line_journal.specs.Auditing.{Audits};
+    ghost use Rattle.line_journal.specs.Reporting.{Notes, Reports};
 
     // It is not told whether a line was written.
-    ghost notes = { λ _ _ _. Unit {0} };
+    ghost notes = { λ old _ new. Notes old new };
 
-    ghost reports = { λ _ _ _. Unit {0} };
+    ghost reports = { Reports };
 
     ghost audits = { Audits };
 
@@ -274,15 +276,14 @@ impl<'e, E: Write> Journal for LineJournal<'e, E> {
     }
 
     fn report(&mut self, notice: &Notice) {
-        match notice {
-            Notice::Reported(report) => self.note_report(report),
-            Notice::StoreFull if !self.outlets.due.is_wanted() => {}
-            _ => self.write(notice),
+        self.measure(notice);
+        if self.outlets.due.note(notice) {
+            self.write(notice);
         }
     }
 
     fn audit(&mut self, rules: &Registry, tellings: &Tellings) {
-        self.note_told(tellings);
+        self.measure_told(tellings);
         if let Some(audit) = &mut self.outlets.audit {
             audit.tell_all(rules, tellings);
         }

@@ -44,11 +44,9 @@ impl Measures {
     }
 
     /// What was told of requests: which hooks denied.
-    pub(crate) fn audit(&self, tellings: &Tellings) {
+    pub(crate) fn hear(&self, tellings: &Tellings) {
         if let Ok(mut metrics) = self.shared.try_borrow_mut() {
-            for told in tellings.told() {
-                metrics.denials.note_verdicts(&told.verdicts);
-            }
+            metrics.denials.hear(tellings);
         }
     }
 
@@ -63,6 +61,13 @@ impl Measures {
     pub fn note_wait(&self, nanos: u64) {
         if let Ok(mut metrics) = self.shared.try_borrow_mut() {
             metrics.waits.note(nanos);
+        }
+    }
+
+    /// The disk was waited for, until the state file was on it.
+    pub fn note_sync(&self, nanos: u64) {
+        if let Ok(mut metrics) = self.shared.try_borrow_mut() {
+            metrics.syncs.note(nanos);
         }
     }
 

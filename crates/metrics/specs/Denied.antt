@@ -1,9 +1,12 @@
 -- Which hooks denied how often.
-use Rattle.std.specs.Prelude.{ℕ, ◌<◌, List, [], ◌∷◌, ◌++◌, Bool, true, false, Option, Some, None, bytes_eq, find, length, map, nat_lt, if◌then◌else◌}
+use Rattle.std.specs.Prelude.{ℕ, List, [], ◌∷◌, ◌++◌, Bool, Option, Some, None, bytes_eq, find, length, map, nat_lt, if◌then◌else◌}
 use Rattle.std.specs.List.{list_any}
 use Rattle.hook_host.specs.Verdicts.{Verdict, verdict_in}
-use Rattle.hook_record.specs.declared.Narrowed.{Narrowed}
-use Rattle.hook_record.specs.declared.Narrowed.TheVariants.{Allowed}
+use Rattle.telling.specs.Audience.{Audience}
+use Rattle.telling.specs.Interests.{denies}
+use Rattle.telling.specs.declared.interest.Interest.{Interest}
+use Rattle.telling.specs.declared.interest.Interest.TheVariants.{Denials}
+use Rattle.telling.specs.declared.told.Told.{Told}
 use Rattle.metrics.specs.Histograms.{plus}
 use Rattle.metrics.specs.declared.denials.DeniedBy.{DeniedBy}
 
@@ -49,19 +52,32 @@ abbrev pub denied_by : Denied → List ℕ → Denied
 denied_by denied hook =
     if has_hook hook denied.by then record denied { by = map (once_more hook) denied.by } else first_denied denied hook
 
--- a hook did not allow: it denied, or left no scope
-abbrev pub is_denial : Narrowed → Bool
-is_denial (Allowed scope life) = false
-is_denial left = true
+-- a hook denied
+abbrev pub is_denier : Verdict → Bool
+is_denier verdict = denies verdict.left
 
-abbrev pub denies : Verdict → Bool
-denies verdict = is_denial verdict.left
-
--- the first that did not allow denied, if there is one
+-- the first that denied, if one did
 abbrev pub denied_by_some : Denied → Option Verdict → Denied
 denied_by_some denied None = denied
 denied_by_some denied (Some verdict) = denied_by denied verdict.name
 
--- of what hooks left, in their order
+-- of what hooks left of one ask, in their order
 abbrev pub denials_after : Denied → List Verdict → Denied
-denials_after denied verdicts = denied_by_some denied (find denies verdicts)
+denials_after denied verdicts = denied_by_some denied (find is_denier verdicts)
+
+-- of each request that was told, in its order
+abbrev pub denials_told : Denied → List Told → Denied
+denials_told denied [] = denied
+denials_told denied (told ∷ later) = denials_told (denials_after denied told.verdicts) later
+
+-- so many more denied, by hooks that are not known
+abbrev pub denials_lost : Denied → ℕ → Denied
+denials_lost denied lost = record denied { others = plus denied.others lost }
+
+-- where it is told of denials alone, those that there was no room for are denials, too
+abbrev pub denials_beyond : Interest → ℕ → ℕ
+denials_beyond Denials dropped = dropped
+denials_beyond _ dropped = 0
+
+abbrev pub denials_heard : Denied → Audience → Denied
+denials_heard denied audience = denials_lost (denials_told denied audience.told) (denials_beyond audience.interest audience.dropped)

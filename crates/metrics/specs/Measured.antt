@@ -37,4 +37,5 @@ nothing_measured began = record {
   denials = no_denials;
   latencies = no_latencies;
   waits = record { sum = 0; count = 0 };
+  syncs = record { sum = 0; count = 0 };
 }

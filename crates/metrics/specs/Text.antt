@@ -168,12 +168,18 @@ waits_text waits =
     family_text (codes "oauthd_keep_seconds") (codes "summary") (codes "From the last read of a round to its first write, while changes are kept.")
     ++ nanos_line (codes "oauthd_keep_seconds_sum") waits.sum ++ plain_line (codes "oauthd_keep_seconds_count") waits.count
 
+-- until the state file was on the disk
+unfoldable pub syncs_text : Waits → List ℕ
+syncs_text syncs =
+    family_text (codes "oauthd_sync_seconds") (codes "summary") (codes "Syncs of the state file, each until it is on the disk.")
+    ++ nanos_line (codes "oauthd_sync_seconds_sum") syncs.sum ++ plain_line (codes "oauthd_sync_seconds_count") syncs.count
+
 -- ALL OF IT
 
 unfoldable pub metrics_text : Metrics → List ℕ
 metrics_text metrics =
     began_text metrics.began ++ reported_text metrics.report ++ denials_text metrics.denials ++ latencies_text metrics.latencies
-    ++ waits_text metrics.waits
+    ++ waits_text metrics.waits ++ syncs_text metrics.syncs
 
 -- something was measured, and this text tells all of it
 abbrev pub IsMetricsText : List ℕ → Type 0

@@ -1,12 +1,13 @@
 //! Which hooks denied how often.
 ghost use Rattle.std.specs.Prelude.{◌≡◌, IfOk, find, map, option_map};
 ghost use Rattle.hook_host.specs.Verdicts.{verdict_in};
-ghost use Rattle.metrics.specs.Denied.{counted_in, denials_after, denied_by, denied_once, denies, first_denied, has_hook, no_denials};
+ghost use Rattle.metrics.specs.Denied.{counted_in, denials_after, denials_beyond, denials_heard, denials_lost, denials_told, denied_by, denied_once, first_denied, has_hook, is_denier, no_denials};
 
 use hook_host::{Entry, Verdicts};
 use hook_record::Narrowed;
 use std::alloc::{AllocError, Global};
 use std::marker::Model;
+use telling::{Interest, Tellings, Told};
 
 /// Of so many hooks it is counted by name how often they denied, also of those that were removed.
 const MOST: usize = 64;
@@ -82,21 +83,31 @@ fn note_each(by: &mut [DeniedBy], hook: &[u8])
     }
 }
 
-// Whether a hook denied, or left no scope.
-fn denies(entry: &Entry) -> bool
-    ensures { result ≡ denies (verdict_in entry.now) }
+// Whether a hook denied.
+fn is_denier(entry: &Entry) -> bool
+    ensures { result ≡ is_denier (verdict_in entry.now) }
 {
-    !matches!(entry.left(), Narrowed::Allowed { .. })
+    matches!(entry.left(), Narrowed::Denied)
 }
 
-// The first verdict that does not allow.
+// The first verdict that denies.
 fn denier(entries: &[Entry]) -> Option<Entry>
-    ensures { option_map verdict_in result ≡ find denies (map verdict_in entries.now) }
+    ensures { option_map verdict_in result ≡ find is_denier (map verdict_in entries.now) }
 {
     match entries {
-        [entry, ..] if denies(entry) => Some(*entry),
+        [entry, ..] if is_denier(entry) => Some(*entry),
         [_, others @ ..] => denier(others),
         [] => None,
+    }
+}
+
+// How many of those that there was no room for are denials.
+fn beyond(interest: Interest, dropped: u64) -> u64
+    ensures { result ≡ denials_beyond interest dropped }
+{
+    match interest {
+        Interest::Denials => dropped,
+        Interest::Nothing | Interest::Everything => 0,
     }
 }
 
@@ -139,13 +150,37 @@ impl Denials {
         }
     }
 
-    /// Hooks were asked, and left this: where one of them did not allow, it denied.
-    pub fn note_verdicts(&mut self, verdicts: &Verdicts)
+    // Hooks were asked, and left this: one of them may have denied.
+    fn note_verdicts(&mut self, verdicts: &Verdicts)
         ensures { self.new ≡ denials_after self.old verdicts.now }
     {
         if let Some(entry) = denier(verdicts.entries()) {
             self.note(entry);
         }
+    }
+
+    // Requests were told.
+    fn note_told(&mut self, tolds: &[Told])
+        ensures { self.new ≡ denials_told self.old tolds.now }
+    {
+        for told in tolds {
+            self.note_verdicts(&told.verdicts);
+        }
+    }
+
+    // So many more denied, by hooks that are not known.
+    fn note_lost(&mut self, lost: u64)
+        ensures { self.new ≡ denials_lost self.old lost }
+    {
+        self.others = self.others.saturating_add(lost);
+    }
+
+    /// Requests were told, and there may have been no room for some.
+    pub fn hear(&mut self, tellings: &Tellings)
+        ensures { self.new ≡ denials_heard self.old tellings.now }
+    {
+        self.note_told(tellings.told());
+        self.note_lost(beyond(tellings.interest(), tellings.dropped()));
     }
 
     /// The hooks that denied.

@@ -12,7 +12,7 @@ use outside::Report;
 use std::alloc::{AllocError, Global};
 
 /// What is measured of a server: since when it runs, in seconds since 1970; what was reported last; which hooks denied how often; how
-/// long requests took; and how long the disk was waited for.
+/// long requests took; how long it took to keep what was decided; and how long the disk took for that.
 #[derive(Drop)]
 pub struct Metrics {
     pub began: u64,
@@ -20,6 +20,7 @@ pub struct Metrics {
     pub denials: Denials,
     pub latencies: Latencies,
     pub waits: Waits,
+    pub syncs: Waits,
 }
 
 impl Metrics {
@@ -33,6 +34,7 @@ impl Metrics {
             denials: Denials::new(alloc)?,
             latencies: Latencies::new(),
             waits: Waits::default(),
+            syncs: Waits::default(),
         })
     }
 
@@ -46,6 +48,7 @@ impl Metrics {
         page.denials(&self.denials)?;
         page.latencies(&self.latencies)?;
         page.waits(self.waits)?;
+        page.syncs(self.syncs)?;
         Ok(page.text)
     }
 }

@@ -3,7 +3,7 @@ ghost use Rattle.std.specs.Prelude.{◌≡◌, ◌++◌, OnOk, codes, map};
 ghost use Rattle.std.specs.List.{flat_map};
 ghost use Rattle.metrics.specs.Denied.{counted_in};
 ghost use Rattle.metrics.specs.Lines.{label_text};
-ghost use Rattle.metrics.specs.Text.{bucket_line, bucket_text, count_line, counted_line, denials_text, histogram_text, hook_line, latencies_text, latency_text, nanos_line, sum_line, waits_text};
+ghost use Rattle.metrics.specs.Text.{bucket_line, bucket_text, count_line, counted_line, denials_text, histogram_text, hook_line, latencies_text, latency_text, nanos_line, sum_line, syncs_text, waits_text};
 
 use crate::denials::{Denials, DeniedBy};
 use crate::histogram::{Bucket, Histogram};
@@ -177,6 +177,20 @@ impl Page {
         })?;
         self.nanos("oauthd_keep_seconds_sum", waits.sum)?;
         self.plain("oauthd_keep_seconds_count", waits.count)?;
+        Ok(())
+    }
+
+    /// How long it was waited until the state file was on the disk.
+    pub(crate) fn syncs(&mut self, syncs: Waits) -> Result<(), AllocError>
+        ensures { OnOk result (self.new.text.items ≡ self.old.text.items ++ syncs_text syncs) }
+    {
+        self.family(Family {
+            name: "oauthd_sync_seconds",
+            kind: "summary",
+            help: "Syncs of the state file, each until it is on the disk.",
+        })?;
+        self.nanos("oauthd_sync_seconds_sum", syncs.sum)?;
+        self.plain("oauthd_sync_seconds_count", syncs.count)?;
         Ok(())
     }
 }

@@ -2,8 +2,7 @@
 use Rattle.std.specs.Prelude.{ℕ, List, [], ◌∷◌, ◌++◌, ◌==◌, ◌&&◌, Bool, false, length, codes, decimal, Option, Some, None, option_map, option_and_then, if◌then◌else◌}
 use Rattle.std.specs.Str.Lossy.{utf8_valid_len}
 use Rattle.json.specs.Token.{Token, begin_object, end_object, begin_array, end_array, key, string, number, null}
-use Rattle.answers.specs.Paths.{name_at}
-use Rattle.answers.specs.declared.endpoint.Endpoint.{Endpoint}
+use Rattle.answers.specs.Paths.{path_at}
 use Rattle.clients.specs.Clients.{client_at}
 use Rattle.clients.specs.RegistryRecord.{RegistryRecord}
 use Rattle.clients.specs.declared.grant.GrantType.{GrantType}
@@ -88,25 +87,22 @@ grant_name AuthorizationCode = codes "authorization_code"
 grant_name RefreshToken = codes "refresh_token"
 grant_name ClientCredentials = codes "client_credentials"
 
-abbrev pub endpoint_name : Option Endpoint → List ℕ
-endpoint_name None = codes "nowhere"
-endpoint_name (Some endpoint) = name_at endpoint
-
--- who asked and where, and what came of it
+-- who asked, and what came of it
 abbrev pub answered_tokens : RegistryRecord → Told → List Token
 answered_tokens rules told =
     text_tokens (codes "client") (client_id rules told.client)
-    ++ text_tokens (codes "endpoint") (Some (endpoint_name told.endpoint))
     ++ text_tokens (codes "error") (option_map error_text told.error)
     ++ number_tokens (codes "family") told.family
     ++ text_tokens (codes "grant") (option_map grant_name told.grant)
 
--- what was given to whom and when, and the status of the reply
+-- what was given to whom, when and at which path (a path that no endpoint has is a text of the request, and is not told), and the status
+-- of the reply
 abbrev pub given_tokens : RegistryRecord → Told → List Token
 given_tokens rules told =
     number_tokens (codes "life") told.life
     ++ number_tokens (codes "moment") (Some told.moment)
     ++ number_tokens (codes "owner") told.owner
+    ++ text_tokens (codes "path") (option_map path_at told.endpoint)
     ++ scope_tokens rules told.scope
     ++ number_tokens (codes "status") (Some told.status)
 

@@ -1,11 +1,12 @@
 //! What is told of a request, as a line of JSON.
 ghost use Rattle.std.specs.Prelude.{◌≡◌, ◌++◌, ◌∷◌, [], IfOk, OnOk, map, option_map};
 ghost use Rattle.std.specs.Option.{option_copied};
+ghost use Rattle.answers.specs.Paths.{path_at};
 ghost use Rattle.hook_host.specs.Verdicts.{verdict_in};
 ghost use Rattle.json.specs.Print.{print};
 ghost use Rattle.json.specs.Token.{key, null};
 ghost use Rattle.messages.specs.Written.{error_text};
-ghost use Rattle.reports.specs.ToldTokens.{answered_tokens, ask_tokens, client_id, did_name, endpoint_name, given_tokens, grant_name, hooks_tokens, is_left, left_before, left_tokens, number_tokens, scope_tokens, text_in, text_tokens, told_tokens, verdict_tokens, verdicts_tokens};
+ghost use Rattle.reports.specs.ToldTokens.{answered_tokens, ask_tokens, client_id, did_name, given_tokens, grant_name, hooks_tokens, is_left, left_before, left_tokens, number_tokens, scope_tokens, text_in, text_tokens, told_tokens, verdict_tokens, verdicts_tokens};
 
 use answers::Endpoint;
 use clients::{GrantType, Registry};
@@ -216,12 +217,12 @@ fn grant_name(grant: GrantType) -> &'static str
     }
 }
 
-fn endpoint_name(endpoint: Option<Endpoint>) -> &'static str
-    ensures { result.now ≡ endpoint_name endpoint }
+fn path_name(endpoint: Option<Endpoint>) -> Option<&'static str>
+    ensures { option_copied result ≡ option_map path_at endpoint }
 {
     match endpoint {
-        Some(endpoint) => endpoint.name(),
-        None => "nowhere",
+        Some(endpoint) => Some(endpoint.path()),
+        None => None,
     }
 }
 
@@ -261,30 +262,30 @@ fn seconds(life: Option<u32>) -> Option<u64>
     }
 }
 
-// Who asked and where, and what came of it.
+// Who asked, and what came of it.
 fn answered(line: &mut Object, rules: &Registry, told: &Told) -> Result<(), AllocError>
     ensures { OnOk result (line.new.json.tokens ≡ line.old.json.tokens ++ answered_tokens rules.now told.now) }
 {
     text(line, "client", client_id(rules, told.client))?;
-    line.text("endpoint", endpoint_name(told.endpoint))?;
     text(line, "error", error_name(told.error))?;
     number(line, "family", told.family)?;
     text(line, "grant", grant_named(told.grant))
 }
 
-// What was given to whom and when, and the status of the reply.
+// What was given to whom, when and at which path, and the status of the reply.
 fn given(line: &mut Object, alloc: Global, rules: &Registry, told: &Told) -> Result<(), AllocError>
     ensures { OnOk result (line.new.json.tokens ≡ line.old.json.tokens ++ given_tokens rules.now told.now) }
 {
     number(line, "life", seconds(told.life))?;
     line.number("moment", told.moment.get())?;
     number(line, "owner", owner_number(told.owner))?;
+    text(line, "path", path_name(told.endpoint))?;
     scope(line, alloc, rules, told.scope)?;
     line.number("status", u64::from(told.status.as_u16()))
 }
 
 /// What is told of a request, as a line of JSON without its end. Each member is there, in the order of their names; what there is
-/// none of is null.
+/// none of is null, as a path that no endpoint has: that would be a text of the request.
 pub fn told_text(alloc: Global, rules: &Registry, told: &Told) -> Result<Vec<u8>, AllocError>
     ensures { IfOk result (λ text. text.items ≡ print (told_tokens rules.now told.now)) }
 {
