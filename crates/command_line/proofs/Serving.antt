@@ -2,12 +2,12 @@
 use Rattle.std.proofs.Common.{◌≡◌, ◌≢◌, inl, inr, ℕ, List, Option, None, Some, Result, Ok, Err, subst, sym}
 use Rattle.command_line.specs.Names.{HoldsRegistry, Announces, CannotWrite, ListenFault}
 use Rattle.command_line.proofs.Names.{RegistryRecord, IsUntouched, Output, Outputs, HookFact, FailsService, HasAll, HasEnded, HasFiles, IsMute, ServeEnded, ServiceFiles, handed, registry_bytes}
-use Rattle.command_line.proofs.Names.{address_of, limits_of, EndsAnew, EndsOn, EndsStart, Startings, CommandFault, ServeWords, Service, Serve, Start}
+use Rattle.command_line.proofs.Names.{address_of, pace_of, EndsAnew, EndsOn, EndsStart, Startings, CommandFault, ServeWords, Service, Serve, Start}
 use Rattle.std.specs.Prelude.{OnOk, IfErr}
 use Rattle.daemon.specs.ByCount.{handed_count}
 use Rattle.daemon.specs.Starts.{handed_anew, handed_on}
 use Rattle.daemon.specs.declared.fault.OpeningFault.{OpeningFault}
-use Rattle.event_loop.specs.declared.limits.Limits.{Limits}
+use Rattle.daemon.specs.declared.starting.Pace.{Pace}
 use Rattle.command_line.specs.Faults.{IsOfListening, IsOfOpening, IsOfService, IsOfServing, IsUnaudited}
 use Rattle.ports.specs.declared.fault.ListenFault.TheVariants.{Unwritten}
 
@@ -42,24 +42,24 @@ not_served (Err f) starts service files to registry given held is same deaf =
 
 -- it was started anew, by all that it has
 pub ended_anew : {W : Type 0} (starts : Startings) (service : Service) (files : ServiceFiles) (fault : CommandFault) (out : Output W) (all : HasAll service files)
-    (limits : Limits) → all.given.options.state ≡ None → limits ≡ limits_of all.given.options →
-    EndsAnew starts (handed_anew all.registry all.hooks limits) fault out → HasEnded starts service files fault out
-ended_anew starts service files fault out all limits none are ends = record {
+    (pace : Pace) → all.given.options.state ≡ None → pace ≡ pace_of all.given.options →
+    EndsAnew starts (handed_anew all.registry all.hooks pace) fault out → HasEnded starts service files fault out
+ended_anew starts service files fault out all pace none is ends = record {
   all = all;
   ends = subst (λ (o : Option (List ℕ)). EndsStart starts o (handed all) fault out) (sym none)
-      (subst (λ (l : Limits). EndsAnew starts (handed_anew all.registry all.hooks l) fault out) are ends);
+      (subst (λ (p : Pace). EndsAnew starts (handed_anew all.registry all.hooks p) fault out) is ends);
 }
 
 -- or on the file of its state
 pub ended_on : {W : Type 0} (starts : Startings) (service : Service) (files : ServiceFiles) (fault : CommandFault) (out : Output W) (all : HasAll service files)
-    (path : List ℕ) (codes : List HookFact) (limits : Limits) → all.given.options.state ≡ Some path → codes ≡ all.codes →
-    limits ≡ limits_of all.given.options →
-    EndsOn starts path (handed_on all.registry codes limits) fault out → HasEnded starts service files fault out
-ended_on starts service files fault out all path codes limits named codes_are limits_are ends = record {
+    (path : List ℕ) (codes : List HookFact) (pace : Pace) → all.given.options.state ≡ Some path → codes ≡ all.codes →
+    pace ≡ pace_of all.given.options →
+    EndsOn starts path (handed_on all.registry codes pace) fault out → HasEnded starts service files fault out
+ended_on starts service files fault out all path codes pace named codes_are pace_is ends = record {
   all = all;
   ends = subst (λ (o : Option (List ℕ)). EndsStart starts o (handed all) fault out) (sym named)
-      (subst (λ (l : Limits). EndsOn starts path (handed_on all.registry all.codes l) fault out) limits_are
-      (subst (λ (cs : List HookFact). EndsOn starts path (handed_on all.registry cs limits) fault out) codes_are ends));
+      (subst (λ (p : Pace). EndsOn starts path (handed_on all.registry all.codes p) fault out) pace_is
+      (subst (λ (cs : List HookFact). EndsOn starts path (handed_on all.registry cs pace) fault out) codes_are ends));
 }
 
 -- that file was not opened

@@ -4,6 +4,7 @@ use Rattle.command_line.specs.Names.{string_bytes, HookSaid, Said, clock_limit, 
 use Rattle.start_words.specs.Numbers.{number_said}
 use Rattle.start_words.specs.Options.{no_address, no_config}
 use Rattle.start_words.specs.Start.{given_by, start_in}
+use Rattle.daemon.specs.declared.starting.Pace.{Pace}
 use Rattle.event_loop.specs.declared.limits.Limits.{Limits}
 use Rattle.command_line.specs.declared.service.ServeWords.{ServeWords}
 use Rattle.command_line.specs.declared.service.Service.{Service}
@@ -61,6 +62,10 @@ hooks_installed (Start given) = given.options.hooks
 -- each second
 abbrev pub limits_of : Said → Limits
 limits_of said = record { idle = unwrap_or said.silence 60; crowded = unwrap_or said.full 5; report = Some 1; ahead = clock_limit said.clock }
+
+-- the pace at which it goes on: by these limits, and with a report each so many seconds of a life, if at all
+abbrev pub pace_of : Said → Pace
+pace_of said = record { limits = limits_of said; report = said.report }
 
 -- the path of the registry's file
 abbrev pub config_of : Service → List ℕ

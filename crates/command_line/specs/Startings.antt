@@ -19,7 +19,7 @@ use Rattle.outside.specs.declared.journal.Journal.{Ghosts as Journal}
 use Rattle.serving.specs.declared.clock.Clock.{Ghosts as Clock}
 use Rattle.serving.specs.declared.stream.Stream.{Ghosts as Stream}
 use Rattle.command_line.specs.Faults.{IsNotOpened, IsOfEnd, IsOfListening}
-use Rattle.command_line.specs.Services.{limits_of}
+use Rattle.command_line.specs.Services.{pace_of}
 
 -- what a server is started with: its registry, its hooks as they stand in their chain, the code of each, and its options
 pub record Handed : Type 0 where
@@ -68,10 +68,10 @@ NoState terms state old new fault = (new ≡ old) × IsNotOpened terms.address.n
 
 -- what a server is handed by a registry, by where and how it serves, and by the file of its state
 abbrev pub handed_by : Candidate → Terms → StateTerms → HandedOn
-handed_by candidate terms state = handed_on candidate.registry (map hook_fact state.hooks.now) terms.limits
+handed_by candidate terms state = handed_on candidate.registry (map hook_fact state.hooks.now) terms.pace
 
 -- the one or the other, by the path of that file
 abbrev pub EndsStart : {W : Type 0} → Startings → Option (List ℕ) → Handed → CommandFault → Output W → Type 0
-EndsStart starts None handed fault out = EndsAnew starts (handed_anew handed.registry handed.hooks (limits_of handed.options)) fault out
+EndsStart starts None handed fault out = EndsAnew starts (handed_anew handed.registry handed.hooks (pace_of handed.options)) fault out
 EndsStart starts (Some path) handed fault out =
-    EndsOn starts path (handed_on handed.registry handed.codes (limits_of handed.options)) fault out
+    EndsOn starts path (handed_on handed.registry handed.codes (pace_of handed.options)) fault out

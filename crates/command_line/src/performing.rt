@@ -9,7 +9,7 @@ ghost use Rattle.ports.specs.Listening.{Announces};
 ghost use Rattle.command_line.specs.Listening.{EndsService, FailsService, files_in, ServeEnded};
 ghost use Rattle.commands.specs.Outputs.{output, outputs};
 ghost use Rattle.commands.specs.Performed.{IsUnwritten};
-ghost use Rattle.command_line.specs.Services.{limits_of};
+ghost use Rattle.command_line.specs.Services.{limits_of, pace_of};
 ghost use Rattle.command_line.specs.Startings.{EndsAnew, EndsOn, IsNotHeard, NoState, handed_by, startings};
 
 use crate::call::Call;
@@ -22,7 +22,7 @@ use batch_file::device::Device;
 use clients::Registry;
 use commands::{CommandFault, Printer, Status, candidate_in, moment_now, perform_command, told};
 use daemon::{
-    AuditLog, LineJournal, ListenFault, MachineClock, OpeningFault, StateTerms, Terms, serve,
+    AuditLog, LineJournal, ListenFault, MachineClock, OpeningFault, Pace, StateTerms, Terms, serve,
     start, start_on,
 };
 use desk::Candidate;
@@ -52,6 +52,16 @@ fn limits_of(options: &Options<'_>) -> Limits
         crowded: u64::from(options.full()),
         report: Some(1),
         ahead: options.ahead(),
+    }
+}
+
+/// The pace at which they say that it goes on.
+fn pace_of(options: &Options<'_>) -> Pace
+    ensures { result ≡ pace_of options.now }
+{
+    Pace {
+        limits: limits_of(options),
+        report: options.report().map(u64::from),
     }
 }
 
@@ -93,7 +103,7 @@ fn start_anew<
 ) -> CommandFault<'w>
     ensures { ((err.new ≡ err.old) × IsNotHeard terms.entry out.old out.new result)
         ⊎ EndsAnew (startings ⟦<Disk<'r, R, B> as Device>⟧ ⟦<Lines<'e, E> as Journal>⟧ ⟦<R::Stream as Stream>⟧)
-        (handed_anew registry hooks terms.entry.limits) result (output W.contents W.writes out.old out.new) }
+        (handed_anew registry hooks terms.entry.pace) result (output W.contents W.writes out.old out.new) }
 {
     match start(rt, terms, registry, hooks, audit, out, err) {
         Ok(served) => CommandFault::Stopped(served.fault, None),
@@ -191,8 +201,7 @@ fn serve_as<
     let audit = audit_of(rt, options, stdout)?;
     let terms = Terms {
         address: given.address,
-        limits: limits_of(options),
-        report: options.report().map(u64::from),
+        pace: pace_of(options),
     };
     let Some(path) = options.state() else {
         let registry = registry_alone(candidate);

@@ -10,7 +10,7 @@ use Rattle.desk.specs.Judging.{IsJudged, bears_key, has_operator_key}
 use Rattle.desk.specs.declared.judging.Judged.{Judged}
 use Rattle.desk.specs.declared.judging.Judged.TheVariants.{Asks, AsksMetrics}
 use Rattle.daemon.specs.Reloading.{AreHeirs, IsAsked, IsSent, KeepsServing, KeepsWanted, Replies, begins, no_key, no_state, not_begun, not_now, untold_of}
-use Rattle.daemon.specs.Scraping.{IsScraped}
+use Rattle.daemon.specs.Scraping.{IsScraped, MayBeScraped}
 use Rattle.daemon.specs.declared.reloads.Reloads.{Reloads}
 
 -- what is told to be the operator's key was sent
@@ -73,8 +73,15 @@ module _ {R : Type 0} (old new : Reloads R) where
     heirs = subst (λ (r : Reloads R). IfSome r.wanted (λ wanted. AreHeirs old.text.items wanted.heirs)) (sym is.same) is.heirs;
   })
 
-  pub serving_told : (with_key : Bool) → IsScraped with_key old new → KeepsServing old new
-  serving_told with_key told = by_reply _ told.replied
+  serving_answered : (with_key : Bool) (page : Option (List ℕ)) → IsScraped with_key page old new → KeepsServing old new
+  serving_answered with_key page told =
+      record { config = ap (λ (r : Reloads R). r.config) told.same; key = ap (λ (r : Reloads R). r.key) told.same; text = ap (λ (r : Reloads R). r.text) told.same }
 
-  pub wanted_told : (with_key : Bool) → IsScraped with_key old new → KeepsWanted old new
-  wanted_told with_key told = unmoved _ told.replied
+  pub serving_told : (with_key : Bool) → MayBeScraped with_key old new → KeepsServing old new
+  serving_told with_key (inl same) =
+      record { config = ap (λ (r : Reloads R). r.config) same; key = ap (λ (r : Reloads R). r.key) same; text = ap (λ (r : Reloads R). r.text) same }
+  serving_told with_key (inr told) = serving_answered with_key told.0 told.2
+
+  pub wanted_told : (with_key : Bool) → MayBeScraped with_key old new → KeepsWanted old new
+  wanted_told with_key (inl same) = inl (ap (λ (r : Reloads R). option_map untold_of r.wanted) same)
+  wanted_told with_key (inr told) = inl (ap (λ (r : Reloads R). option_map untold_of r.wanted) told.2.same)

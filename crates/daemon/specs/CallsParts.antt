@@ -1,5 +1,5 @@
 -- Beside Calls: only the contracts of this crate's own parts and their proofs cite this, no public clause.
-use Rattle.std.specs.Prelude.{option_map}
+use Rattle.std.specs.Prelude.{Some, option_map}
 use Rattle.desk.specs.Candidates.{text_of}
 use Rattle.outside.specs.Calls.{Asked, Closed, Passed, Tried, read_call, wait_call, write_call}
 use Rattle.daemon.specs.Calls.{Logged, Did, Told, Gave, Replied}
@@ -18,3 +18,4 @@ call_made (made.Pass place) = Did (Passed place)
 call_made (made.Look times) = Told times.now
 call_made (made.Draw bytes) = Gave bytes.now
 call_made (made.Reply bytes) = Replied (option_map text_of bytes.now)
+call_made (made.Tell bytes) = Replied (Some bytes.now)

@@ -4,6 +4,7 @@ pub mod Noting
 pub mod Seeds
 pub mod Begun
 pub mod ByCount
+pub mod Timing
 pub mod Starts
 pub mod Reloading
 pub mod Scraping

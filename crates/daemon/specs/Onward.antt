@@ -6,7 +6,7 @@ use Rattle.batch_file.specs.declared.device.Device.{Ghosts as Device}
 use Rattle.disk_file.specs.declared.file.DiskFile.{DiskFile}
 use Rattle.outside.specs.declared.fault.LoopFault.TheVariants.{Reload}
 use Rattle.outside.specs.declared.journal.Journal.{Ghosts as Journal}
-use Rattle.event_loop.specs.declared.limits.Limits.{Limits}
+use Rattle.daemon.specs.declared.starting.Pace.{Pace}
 use Rattle.lifetime.specs.declared.life.LifeEnd.{LifeEnd}
 use Rattle.lifetime.specs.declared.life.LifeEnd.TheVariants.{Stopped}
 use Rattle.daemon.specs.Reliving.{AreOf, IsToldOf, Relives, estate_of}
@@ -23,27 +23,27 @@ EndsForReload end = (why : Option BatchFault) × (end ≡ Stopped Reload why)
 
 -- A life ended for a reload that was wanted, and another one is behind it, by the heirs of that reload. Who asked for it is told, behind
 -- those who asked before.
-pub record Follows {R E B : Type 0} (disk : Device (DiskFile R File B)) (journal : Journal (LineJournal E)) (limits : Limits) (one next : Relived R E B) : Type 0 where
+pub record Follows {R E B : Type 0} (disk : Device (DiskFile R File B)) (journal : Journal (LineJournal E)) (pace : Pace) (one next : Relived R E B) : Type 0 where
   pub ended : EndsForReload one.life.end
   pub wanted : Wanted R
   pub wanted_is : one.life.sockets.reloads.wanted ≡ Some wanted
-  pub relives : Relives disk journal limits wanted.heirs (estate_of one.life) (IsToldOf wanted.heirs.next.candidate.registry one.replies.calls next.replies.calls) next.life
+  pub relives : Relives disk journal pace wanted.heirs (estate_of one.life) (IsToldOf wanted.heirs.next.candidate.registry one.replies.calls next.replies.calls) next.life
 
 -- lives follow one another up to the last one, for so many reloads
-pub data LivesOnward {R E B : Type 0} (disk : Device (DiskFile R File B)) (journal : Journal (LineJournal E)) (limits : Limits) (last : Relived R E B) :
+pub data LivesOnward {R E B : Type 0} (disk : Device (DiskFile R File B)) (journal : Journal (LineJournal E)) (pace : Pace) (last : Relived R E B) :
     ℕ → Relived R E B → Type 0 where
-  is_last : LivesOnward disk journal limits last 0 last
-  follows : (count : ℕ) (one next : Relived R E B) → Follows disk journal limits one next → LivesOnward disk journal limits last count next →
-      LivesOnward disk journal limits last (count + 1) one
+  is_last : LivesOnward disk journal pace last 0 last
+  follows : (count : ℕ) (one next : Relived R E B) → Follows disk journal pace one next → LivesOnward disk journal pace last count next →
+      LivesOnward disk journal pace last (count + 1) one
 
 -- So they do behind a first life, before which nobody was replied to; and where the last one ended for a reload as well, none was wanted,
 -- or it was behind 2^64 - 1 of them.
-pub record LivesTo {R E B : Type 0} (disk : Device (DiskFile R File B)) (journal : Journal (LineJournal E)) (limits : Limits) (first : MachineLife R E B) (last : Relived R E B) :
+pub record LivesTo {R E B : Type 0} (disk : Device (DiskFile R File B)) (journal : Journal (LineJournal E)) (pace : Pace) (first : MachineLife R E B) (last : Relived R E B) :
     Type 0 where
   pub before : CallLog
   pub silent : before.calls ≡ []
   pub count : ℕ
-  pub onward : LivesOnward disk journal limits last count (record { life = first; replies = before })
+  pub onward : LivesOnward disk journal pace last count (record { life = first; replies = before })
   pub over : EndsForReload last.life.end → (last.life.sockets.reloads.wanted ≡ None) ⊎ (count ≡ 2 ^ 64 - 1)
 
 -- what is left of the last life, with its journal
@@ -62,4 +62,4 @@ pub record LivesInRow {R E B : Type 0} (disk : Device (DiskFile R File B)) (jour
   pub reloads : AreOf handed.registry lives.1.means.sockets.reloads
   pub told : Tells first.end
   pub lines : LineJournal E
-  pub onward : LivesTo disk journal handed.limits first (left_with lines served)
+  pub onward : LivesTo disk journal handed.pace first (left_with lines served)

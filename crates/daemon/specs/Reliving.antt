@@ -4,7 +4,7 @@ use Rattle.batch_file.specs.declared.device.Device.{Ghosts as Device}
 use Rattle.clients.specs.Registry.{registry_in}
 use Rattle.clients.specs.RegistryRecord.{RegistryRecord}
 use Rattle.outside.specs.declared.journal.Journal.{Ghosts as Journal}
-use Rattle.event_loop.specs.declared.limits.Limits.{Limits}
+use Rattle.daemon.specs.declared.starting.Pace.{Pace}
 use Rattle.lifetime.specs.declared.life.LifeEnd.{LifeEnd}
 use Rattle.lifetime.specs.declared.life.LifeEnd.TheVariants.{ClockAhead, Refused, Stopped, Unopened}
 use Rattle.state_file.specs.declared.fault.StateFault.{StateFault}
@@ -24,7 +24,7 @@ use Rattle.daemon.specs.declared.reloads.Reloads.{Reloads}
 
 -- what a life leaves to another one
 abbrev pub estate_of : {R E B : Type 0} → MachineLife R E B → Estate R E B
-estate_of life = record { device = life.device; ports = life.sockets.ports; config = life.sockets.reloads.config; journal = life.journal }
+estate_of life = record { device = life.device.device; ports = life.sockets.ports; config = life.sockets.reloads.config; journal = life.journal }
 
 -- A server is to be reloaded by the operator's key of its registry, beside a text that says that registry; and no reload is wanted yet.
 pub record AreOf {R : Type 0} (registry : RegistryRecord) (reloads : Reloads R) : Type 0 where
@@ -34,10 +34,10 @@ pub record AreOf {R : Type 0} (registry : RegistryRecord) (reloads : Reloads R) 
 
 -- A life goes by an heir's registry, which its text says, with no hooks but those of its state. All connections that were handed on
 -- wait to be accepted, and it is to be reloaded from the same file. That its state is the one that was left, this does not say.
-pub record LivesAs {R E B : Type 0} (disk : Device (DiskFile R File B)) (journal : Journal (LineJournal E)) (limits : Limits) (heir : Heir R) (estate : Estate R E B)
+pub record LivesAs {R E B : Type 0} (disk : Device (DiskFile R File B)) (journal : Journal (LineJournal E)) (pace : Pace) (heir : Heir R) (estate : Estate R E B)
     (life : MachineLife R E B) : Type 0 where
   pub random : MachineRandom R
-  pub lives : LivesOn disk journal (handed_on heir.candidate.registry [] limits) (lived_of life random)
+  pub lives : LivesOn disk journal (handed_on heir.candidate.registry [] pace) (lived_of life random)
   pub passed : KeepsWaiting estate.ports lives.means.sockets.ports
   pub reloads : AreOf heir.candidate.registry lives.means.sockets.reloads
   pub text : lives.means.sockets.reloads.text ≡ heir.candidate.text
@@ -53,8 +53,8 @@ IsToldOf registry old new Unopened = ⊥
 
 -- It goes on by the next heir's registry; or that life is refused, and it goes back, with the connections that it handed on, to the
 -- former one's. Who asked is told of the next one's end.
-pub data Relives {R E B : Type 0} (disk : Device (DiskFile R File B)) (journal : Journal (LineJournal E)) (limits : Limits) (heirs : Heirs R) (estate : Estate R E B)
+pub data Relives {R E B : Type 0} (disk : Device (DiskFile R File B)) (journal : Journal (LineJournal E)) (pace : Pace) (heirs : Heirs R) (estate : Estate R E B)
     (Tells : LifeEnd → Type 0) : MachineLife R E B → Type 0 where
-  by_next : (life : MachineLife R E B) → LivesAs disk journal limits heirs.next estate life → Tells life.end → Relives disk journal limits heirs estate Tells life
-  by_former : (tried life : MachineLife R E B) (fault : StateFault) → LivesAs disk journal limits heirs.next estate tried → tried.end ≡ Refused fault → Tells tried.end →
-      LivesAs disk journal limits heirs.former (estate_of tried) life → Relives disk journal limits heirs estate Tells life
+  by_next : (life : MachineLife R E B) → LivesAs disk journal pace heirs.next estate life → Tells life.end → Relives disk journal pace heirs estate Tells life
+  by_former : (tried life : MachineLife R E B) (fault : StateFault) → LivesAs disk journal pace heirs.next estate tried → tried.end ≡ Refused fault → Tells tried.end →
+      LivesAs disk journal pace heirs.former (estate_of tried) life → Relives disk journal pace heirs estate Tells life

@@ -10,7 +10,6 @@ use Rattle.endpoints.specs.Server.{outset_of}
 use Rattle.event_loop.specs.LoopStates.{promises}
 use Rattle.outside.specs.declared.clocks.Clocks.{Ghosts as Clocks}
 use Rattle.outside.specs.declared.journal.Journal.{Ghosts as Journal}
-use Rattle.event_loop.specs.declared.limits.Limits.{Limits}
 use Rattle.outside.specs.declared.sockets.Sockets.{Ghosts as Sockets}
 use Rattle.hook_chain.specs.Chains.{Named}
 use Rattle.hook_chain.specs.contracts.chain.ChainHookHost.TheImpl as chain
@@ -22,10 +21,14 @@ use Rattle.lifetime.specs.declared.life.Life.{Life}
 use Rattle.lifetime.specs.declared.means.Means.{Means}
 use Rattle.daemon.specs.Noting.{NotesCall, NotesTimes}
 use Rattle.daemon.specs.Seeds.{IsSeeded}
+use Rattle.daemon.specs.Timing.{timed}
+use Rattle.daemon.specs.declared.timed_disk.TimedDisk.{TimedDisk}
 use Rattle.line_journal.specs.declared.line_journal.LineJournal.{LineJournal}
 use Rattle.daemon.specs.declared.machine_clocks.MachineClocks.{MachineClocks}
 use Rattle.daemon.specs.declared.machine_random.MachineRandom.{MachineRandom}
 use Rattle.daemon.specs.declared.sockets.MachineSockets.{MachineSockets}
+use Rattle.line_journal.specs.Reporting.{due_each}
+use Rattle.daemon.specs.declared.starting.Pace.{Pace}
 use Rattle.daemon.specs.declared.starting.Served.{Served}
 
 -- the machine's sockets note all that they do, and its clocks all that they tell
@@ -35,27 +38,28 @@ noting_sockets = record { does = NotesCall }
 abbrev pub noting_clocks : {R : Type 0} → Clocks (MachineClocks R)
 noting_clocks = record { tells = NotesTimes }
 
--- at first they have noted nothing; and these are the limits
-pub record IsFresh {R J : Type 0} (means : Means (MachineSockets R) (MachineClocks R) J) (limits : Limits) : Type 0 where
+-- At first they have noted nothing. It is served by these limits, and a report is to be written each so many seconds, if at all.
+pub record IsFresh {R E : Type 0} (means : Means (MachineSockets R) (MachineClocks R) (LineJournal E)) (pace : Pace) : Type 0 where
   pub undone : means.sockets.log.calls ≡ []
   pub untold : means.clocks.log.calls ≡ []
-  pub limits_are : means.limits ≡ limits
+  pub limits_are : means.limits ≡ pace.limits
+  pub due_is : means.journal.outlets.due ≡ due_each pace.report
 
 -- ANEW
 
--- what a server is started with: its registry, its hooks as they stand in their chain, and its limits
+-- what a server is started with: its registry, its hooks as they stand in their chain, and its pace
 pub record HandedAnew : Type 0 where
   pub registry : RegistryRecord
   pub hooks : List Named
-  pub limits : Limits
+  pub pace : Pace
 
-abbrev pub handed_anew : RegistryRecord → List Named → Limits → HandedAnew
-handed_anew registry hooks limits = record { registry = registry; hooks = hooks; limits = limits }
+abbrev pub handed_anew : RegistryRecord → List Named → Pace → HandedAnew
+handed_anew registry hooks pace = record { registry = registry; hooks = hooks; pace = pace }
 
 -- over the machine's sockets and clocks, and with some journal, it lived until it could not go on
 pub record ServesAnew {R E : Type 0} (journal : Journal (LineJournal E)) (handed : HandedAnew) (served : Served R) : Type 0 where
   pub means : Means (MachineSockets R) (MachineClocks R) (LineJournal E)
-  pub fresh : IsFresh means handed.limits
+  pub fresh : IsFresh means handed.pace
   pub seeded : IsSeeded served.random means.generator
   pub lines : LineJournal E
   pub life : IsLifeAnew (promises noting_sockets noting_clocks journal keeping_nothing chain.ghosts) (outset_of handed.registry handed.hooks) means
@@ -63,26 +67,26 @@ pub record ServesAnew {R E : Type 0} (journal : Journal (LineJournal E)) (handed
 
 -- ON THE FILE OF ITS STATE
 
--- what a server is started with: its registry, the code of each hook, and its limits
+-- what a server is started with: its registry, the code of each hook, and its pace
 pub record HandedOn : Type 0 where
   pub registry : RegistryRecord
   pub hooks : List HookFact
-  pub limits : Limits
+  pub pace : Pace
 
-abbrev pub handed_on : RegistryRecord → List HookFact → Limits → HandedOn
-handed_on registry hooks limits = record { registry = registry; hooks = hooks; limits = limits }
+abbrev pub handed_on : RegistryRecord → List HookFact → Pace → HandedOn
+handed_on registry hooks pace = record { registry = registry; hooks = hooks; pace = pace }
 
 -- what is left of a life: how it ended, and what it was handed by the machine
 pub record Lived (R B : Type 0) : Type 0 where
   pub end : LifeEnd
-  pub device : DiskFile R File B
+  pub device : TimedDisk R (DiskFile R File B)
   pub sockets : MachineSockets R
   pub clocks : MachineClocks R
   pub random : MachineRandom R
 
 -- a life over the machine
 abbrev pub MachineLife : Type 0 → Type 0 → Type 0 → Type 0
-MachineLife R E B = Life (DiskFile R File B) (MachineSockets R) (MachineClocks R) (LineJournal E)
+MachineLife R E B = Life (TimedDisk R (DiskFile R File B)) (MachineSockets R) (MachineClocks R) (LineJournal E)
 
 abbrev pub lived_of : {R E B : Type 0} → MachineLife R E B → MachineRandom R → Lived R B
 lived_of life random = record { end = life.end; device = life.device; sockets = life.sockets; clocks = life.clocks; random = random }
@@ -90,14 +94,14 @@ lived_of life random = record { end = life.end; device = life.device; sockets = 
 -- the file was opened, and asked for nothing else: it had these bytes, or begins with them, where it was not read to its end. Over
 -- it, the machine's sockets and clocks, and with some journal, the server lived
 pub record LivesOn {R E B : Type 0} (disk : Device (DiskFile R File B)) (journal : Journal (LineJournal E)) (handed : HandedOn) (lived : Lived R B) : Type 0 where
-  pub file : DiskFile R File B
+  pub file : TimedDisk R (DiskFile R File B)
   pub bytes : List ℕ
-  pub is_opened : file.log.calls ≡ only_opened bytes
+  pub is_opened : file.device.log.calls ≡ only_opened bytes
   pub means : Means (MachineSockets R) (MachineClocks R) (LineJournal E)
-  pub fresh : IsFresh means handed.limits
+  pub fresh : IsFresh means handed.pace
   pub seeded : IsSeeded lived.random means.generator
   pub lines : LineJournal E
-  pub life : IsLife (life_promises disk noting_sockets noting_clocks journal) (given file bytes handed.registry handed.hooks means)
+  pub life : IsLife (life_promises (timed disk) noting_sockets noting_clocks journal) (given file bytes handed.registry handed.hooks means)
       (record { end = lived.end; device = lived.device; sockets = lived.sockets; clocks = lived.clocks; journal = lines })
 
 -- a life went so, on the file as it was found

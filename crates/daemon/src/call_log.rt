@@ -1,4 +1,4 @@
-//! The calls that were made of the system's sockets, clocks and random source, and replies to who asks for a reload, as a list that only clauses read and that takes no memory.
+//! The calls that were made of the system's sockets, clocks and random source, and replies to who asks for a reload or for metrics, as a list that only clauses read and that takes no memory.
 
 ghost use Rattle.std.specs.Prelude.{◌≡◌, List, [], ◌∷◌};
 ghost use Rattle.std.specs.Borrow.{ftrue};
@@ -50,6 +50,8 @@ pub(crate) enum SystemCall<'b> {
     Draw(&'b Option<[u8; 32]>),
     /// It was replied to who asked for a reload.
     Reply(&'b Option<Vec<u8>>),
+    /// These bytes were replied to who asked for metrics.
+    Tell(&'b [u8]),
 }
 
 /// The calls, the last one first.

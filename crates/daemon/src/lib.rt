@@ -14,6 +14,7 @@ mod reloads;
 mod resumption;
 mod sockets;
 mod starting;
+mod timed_disk;
 mod timing;
 
 pub use by_count::serve;
@@ -26,4 +27,5 @@ pub use machine_random::MachineRandom;
 pub use ports::{ListenFault, SocketFault};
 pub use reports::report_text;
 pub use sockets::MachineSockets;
-pub use starting::{Served, ServedOn, StateTerms, Terms, start, start_on};
+pub use starting::{Pace, Served, ServedOn, StateTerms, Terms, start, start_on};
+pub use timed_disk::TimedDisk;

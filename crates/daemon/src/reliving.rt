@@ -11,11 +11,12 @@ use crate::machine_clocks::MachineClocks;
 use crate::reloads::{Heir, Heirs, Reloads, Wanted};
 use crate::resumption::Resumption;
 use crate::sockets::{Left, MachineSockets};
-use crate::starting::{Begun, means_of};
+use crate::starting::{Begun, Pace, means_of};
+use crate::timed_disk::TimedDisk;
 use batch_file::device::Device;
 use desk::{Candidate, Reloaded};
 use disk_file::{Before, DiskFile, DiskSource};
-use event_loop::{Journal, Limits, LoopFault};
+use event_loop::{Journal, LoopFault};
 use lifetime::{Life, LifeEnd, Planned, live, plan_of};
 use line_journal::LineJournal;
 use ports::Ports;
@@ -25,9 +26,12 @@ use std::net::Net;
 use std::random::RandomSource;
 use std::rt::{Clock, Files};
 
+/// The file of a server's state, and how long its syncs take.
+type Disk<'r, R, B> = TimedDisk<'r, R, DiskFile<'r, R, File, B>>;
+
 /// A life over the machine.
 type MachineLife<'r, 'w, 'e, R, E, B> = Life<
-    DiskFile<'r, R, File, B>,
+    Disk<'r, R, B>,
     MachineSockets<'r, 'w, R>,
     MachineClocks<'r, R>,
     LineJournal<'e, E>,
@@ -77,7 +81,7 @@ fn estate_of<'r, 'w, 'e, R, E, B>(
     } = life;
     let Left { ports, reloads } = sockets.left();
     Estate {
-        device,
+        device: device.device,
         ports,
         config: reloads.config(),
         journal,
@@ -94,12 +98,12 @@ fn live_by<
     B: Before,
 >(
     rt: &'r R,
-    limits: Limits,
+    pace: Pace,
     heir: Heir<'r, R>,
     estate: Estate<'r, 'w, 'e, R, E, B>,
     opening: &mut Resumption,
 ) -> MachineLife<'r, 'w, 'e, R, E, B>
-    ensures lives { LivesAs ⟦<DiskFile<'r, R, File, B> as Device>⟧ ⟦<LineJournal<'e, E> as Journal>⟧ limits heir.entry estate.entry result }
+    ensures lives { LivesAs ⟦<DiskFile<'r, R, File, B> as Device>⟧ ⟦<LineJournal<'e, E> as Journal>⟧ pace heir.entry estate.entry result }
     ensures opened { IsOpenedBy IsGranted opening.old result.end opening.new }
 {
     let Heir { candidate, drawn } = heir;
@@ -113,8 +117,10 @@ fn live_by<
         ports,
         generator: drawn.generator(),
     };
-    let means = means_of(rt, begun, reloads, limits, estate.journal);
-    live(rt.alloc(), source.into_device(), plan, means, opening)
+    let measures = estate.journal.measures();
+    let disk = TimedDisk::new(rt, source.into_device(), measures);
+    let means = means_of(rt, begun, reloads, pace, estate.journal);
+    live(rt.alloc(), disk, plan, means, opening)
 }
 
 /// Another life, behind one that ended for a reload: by the registry's file as it was then, or by the registry as it was where that is
@@ -128,18 +134,18 @@ fn follow<
     B: Before,
 >(
     rt: &'r R,
-    limits: Limits,
+    pace: Pace,
     estate: Estate<'r, 'w, 'e, R, E, B>,
     wanted: Wanted<'r, R>,
     replies: CallLog,
 ) -> Relived<'r, 'w, 'e, R, E, B>
-    ensures { Relives ⟦<DiskFile<'r, R, File, B> as Device>⟧ ⟦<LineJournal<'e, E> as Journal>⟧ limits wanted.entry.heirs
+    ensures { Relives ⟦<DiskFile<'r, R, File, B> as Device>⟧ ⟦<LineJournal<'e, E> as Journal>⟧ pace wanted.entry.heirs
         estate.entry (IsToldOf wanted.entry.heirs.next.candidate.registry replies.calls result.replies.calls) result.life }
 {
     let Heirs { next, former } = wanted.heirs;
     let reloaded = Reloaded::of(&next.candidate.registry);
     let mut opening = Resumption::new(rt.alloc(), wanted.asker, reloaded, replies);
-    let tried = live_by::<R, E, B>(rt, limits, next, estate, &mut opening);
+    let tried = live_by::<R, E, B>(rt, pace, next, estate, &mut opening);
     let LifeEnd::Refused(fault) = &tried.end else {
         let replies = opening.into_log();
         return Relived {
@@ -148,7 +154,7 @@ fn follow<
         };
     };
     opening.refuse(fault);
-    let life = live_by::<R, E, B>(rt, limits, former, estate_of(tried), &mut opening);
+    let life = live_by::<R, E, B>(rt, pace, former, estate_of(tried), &mut opening);
     let replies = opening.into_log();
     Relived { life, replies }
 }
@@ -163,11 +169,11 @@ fn relive<
     B: Before,
 >(
     rt: &'r R,
-    limits: Limits,
+    pace: Pace,
     one: Relived<'r, 'w, 'e, R, E, B>,
 ) -> Result<Relived<'r, 'w, 'e, R, E, B>, Relived<'r, 'w, 'e, R, E, B>>
     ensures follows { IfOk result
-        (Follows ⟦<DiskFile<'r, R, File, B> as Device>⟧ ⟦<LineJournal<'e, E> as Journal>⟧ limits one.entry) }
+        (Follows ⟦<DiskFile<'r, R, File, B> as Device>⟧ ⟦<LineJournal<'e, E> as Journal>⟧ pace one.entry) }
     ensures same { IfErr result (λ last. last ≡ one.entry) }
     ensures over { IfErr result (λ last. EndsForReload last.life.end → last.life.sockets.reloads.wanted ≡ None) }
 {
@@ -178,7 +184,7 @@ fn relive<
     let Some(wanted) = life.sockets.take_wanted() else {
         return Err(Relived { life, replies });
     };
-    Ok(follow::<R, E, B>(rt, limits, estate_of(life), wanted, replies))
+    Ok(follow::<R, E, B>(rt, pace, estate_of(life), wanted, replies))
 }
 
 /// Lives on behind a first life, as long as reloads are wanted. It gives the last life.
@@ -189,19 +195,15 @@ pub(crate) fn live_on<
     R: Files<File = File> + Net + Clock + RandomSource + AllocGlobal,
     E: Write,
     B: Before,
->(
-    rt: &'r R,
-    limits: Limits,
-    first: MachineLife<'r, 'w, 'e, R, E, B>,
-) -> Relived<'r, 'w, 'e, R, E, B>
-    ensures { LivesTo ⟦<DiskFile<'r, R, File, B> as Device>⟧ ⟦<LineJournal<'e, E> as Journal>⟧ limits first.entry result }
+>(rt: &'r R, pace: Pace, first: MachineLife<'r, 'w, 'e, R, E, B>) -> Relived<'r, 'w, 'e, R, E, B>
+    ensures { LivesTo ⟦<DiskFile<'r, R, File, B> as Device>⟧ ⟦<LineJournal<'e, E> as Journal>⟧ pace first.entry result }
 {
     let mut one = Relived {
         life: first,
         replies: CallLog::new(),
     };
     for _nth in 0..u64::MAX {
-        one = match relive::<R, E, B>(rt, limits, one) {
+        one = match relive::<R, E, B>(rt, pace, one) {
             Ok(next) => next,
             Err(last) => return last,
         };

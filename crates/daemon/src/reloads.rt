@@ -1,13 +1,12 @@
 //! How a server is asked for a reload or for metrics, and what its next life is to go by.
 
-ghost use Rattle.std.specs.Prelude.{◌≡◌, ◌∷◌, Bool, true, None, IfOk, IfSome, option_map};
+ghost use Rattle.std.specs.Prelude.{◌≡◌, ◌∷◌, Bool, true, None, Some, IfOk, option_map};
 ghost use Rattle.desk.specs.Candidates.{text_of};
 ghost use Rattle.desk.specs.Judging.{IsJudged};
 ghost use Rattle.desk.specs.declared.judging.Judged.TheVariants as verdict;
 ghost use Rattle.daemon.specs.Calls.{Replied};
 ghost use Rattle.daemon.specs.Reloading.{AreHeirs, IsAsked, IsSent, KeepsServing, KeepsWanted};
 ghost use Rattle.daemon.specs.Scraping.{IsScraped};
-ghost use Rattle.metrics.specs.Text.{IsMetricsText};
 
 use crate::call_log::{CallLog, SystemCall};
 use crate::drawn::Drawn;
@@ -72,6 +71,15 @@ pub fn answer(log: &mut CallLog, mut asker: TcpStream, reply: Option<Vec<u8>>)
     }
     let_go(asker);
     log.note(&SystemCall::Reply(&reply));
+}
+
+/// Answers who asked for metrics, and lets go of him.
+fn tell(log: &mut CallLog, mut asker: TcpStream, reply: &[u8])
+    ensures { log.new.calls ≡ Replied (Some reply.now) ∷ log.old.calls }
+{
+    let _ = asker.write(reply);
+    let_go(asker);
+    log.note(&SystemCall::Tell(reply));
 }
 
 impl<'r, 'w, R> Reloads<'r, 'w, R> {
@@ -195,13 +203,11 @@ impl<'r, 'w, R: Files + RandomSource + AllocGlobal> Reloads<'r, 'w, R> {
         answer(&mut self.log, asker, reply);
     }
 
-    /// A connection asks for metrics, which are this text, and is answered at once. Where memory for the text was refused, there is none.
-    pub fn tell_metrics(&mut self, asker: TcpStream, with_key: bool, text: Option<Vec<u8>>)
-        requires { IfSome text (λ text. IsMetricsText text.items) }
-        ensures { IsScraped with_key self.old self.new }
+    /// A connection asks for metrics, which are this page, and is answered at once. Where memory for the page was refused, there is none.
+    pub fn tell_metrics(&mut self, asker: TcpStream, with_key: bool, page: &Option<Vec<u8>>)
+        ensures { IsScraped with_key (option_map text_of page.now) self.old self.new }
     {
-        let reply = scrape_reply(self.rt.alloc(), with_key, &text);
-        self.refuse(asker, reply);
+        tell(&mut self.log, asker, scrape_reply(with_key, page));
     }
 
     /// A connection asks for a reload. Where that is refused it is answered at once. Else the loop is to end, and who asked waits.

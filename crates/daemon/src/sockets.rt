@@ -1,9 +1,9 @@
 //! The machine's sockets, as the loop uses them.
 
-ghost use Rattle.std.specs.Prelude.{◌≡◌, ◌⊎◌, [], Bool, true, None, length};
+ghost use Rattle.std.specs.Prelude.{◌≡◌, [], Bool, true, None, length};
 ghost use Rattle.daemon.specs.Noting.{NotesCall};
 ghost use Rattle.daemon.specs.Reloading.{IsSent, KeepsServing, KeepsWanted};
-ghost use Rattle.daemon.specs.Scraping.{IsScraped};
+ghost use Rattle.daemon.specs.Scraping.{MayBeScraped};
 ghost use Rattle.desk.specs.declared.judging.Judged.TheVariants as verdict;
 ghost use Rattle.ports.specs.Passing.{KeepsWaiting};
 ghost use Rattle.outside.specs.Calls.{FindsWithin, ReadsWithin};
@@ -125,7 +125,7 @@ impl<'r, 'w, R: Files + RandomSource + Clock + AllocGlobal> MachineSockets<'r, '
 
     // A connection asks for metrics: it is taken out of its place, and answered.
     fn tell_metrics(&mut self, place: u32, with_key: bool)
-        ensures told { (self.new.reloads ≡ self.old.reloads) ⊎ IsScraped with_key self.old.reloads self.new.reloads }
+        ensures told { MayBeScraped with_key self.old.reloads self.new.reloads }
         ensures serving { KeepsServing self.old.reloads self.new.reloads }
         ensures wanted { KeepsWanted self.old.reloads self.new.reloads }
         ensures passed { KeepsWaiting self.old.ports self.new.ports }
@@ -134,8 +134,8 @@ impl<'r, 'w, R: Files + RandomSource + Clock + AllocGlobal> MachineSockets<'r, '
         let Some(asker) = self.ports.take(place) else {
             return;
         };
-        let text = self.timing.text(with_key);
-        self.reloads.tell_metrics(asker, with_key, text);
+        let page = self.timing.page(with_key);
+        self.reloads.tell_metrics(asker, with_key, &page);
     }
 
     // Reads a connection, unless it asks for a reload or for metrics.

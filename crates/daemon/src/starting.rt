@@ -1,6 +1,6 @@
 //! Connections until the program is stopped.
 
-ghost use Rattle.std.specs.Prelude.{◌≡◌, ◌≢◌, [], None, OnOk, OnErr, IfOk, IfErr, IfSome, map};
+ghost use Rattle.std.specs.Prelude.{◌≡◌, ◌≢◌, ◌⊎◌, [], OnOk, OnErr, IfOk, IfErr, map};
 ghost use Rattle.daemon.specs.Listening.{IsToldBy};
 ghost use Rattle.ports.specs.Listening.{Announces};
 ghost use Rattle.daemon.specs.Seeds.{IsSeeded};
@@ -12,7 +12,7 @@ ghost use Rattle.lifetime.specs.Given.{life_promises};
 ghost use Rattle.lifetime.specs.Lives.{LivesBy};
 ghost use Rattle.state_keeper.specs.Starting.{HasFront};
 ghost use Rattle.rules_codec.specs.Facts.{hook_fact};
-ghost use Rattle.telling.specs.Audience.{nobody};
+ghost use Rattle.line_journal.specs.Auditing.{IsTold, MayBeUntold};
 
 use crate::announcement::Announcement;
 use crate::call_log::CallLog;
@@ -23,6 +23,7 @@ use crate::machine_random::MachineRandom;
 use crate::reliving::{Relived, live_on};
 use crate::reloads::Reloads;
 use crate::sockets::MachineSockets;
+use crate::timed_disk::TimedDisk;
 use batch_file::device::Device;
 use clients::Registry;
 use desk::Candidate;
@@ -43,12 +44,18 @@ use std::net::{Net, SocketAddr};
 use std::random::RandomSource;
 use std::rt::{Clock, Files};
 
-/// How a server is started: where it listens, by which limits it serves, and after how many seconds it writes a report, if at all.
+/// How a server goes on: by which limits it serves, and each how many seconds of a life it writes a report, if at all.
+#[derive(Clone, Copy)]
+pub struct Pace {
+    pub limits: Limits,
+    pub report: Option<u64>,
+}
+
+/// How a server is started: where it listens, and at which pace it goes on.
 #[derive(Clone, Copy)]
 pub struct Terms<'w> {
     pub address: &'w str,
-    pub limits: Limits,
-    pub report: Option<u64>,
+    pub pace: Pace,
 }
 
 /// The file on which a server is started, by its path, and that of its registry; and the hooks that it is to have.
@@ -74,7 +81,7 @@ pub struct Served<'r, R> {
 #[derive(Drop)]
 pub struct ServedOn<'r, 'w, R, B> {
     pub end: LifeEnd,
-    pub device: DiskFile<'r, R, File, B>,
+    pub device: TimedDisk<'r, R, DiskFile<'r, R, File, B>>,
     pub sockets: MachineSockets<'r, 'w, R>,
     pub clocks: MachineClocks<'r, R>,
     /// What those were replied who asked for a reload that then began.
@@ -111,23 +118,23 @@ pub(crate) fn means_of<'r, 'w, 'e, R: Clock, E: Write>(
     rt: &'r R,
     begun: Begun,
     reloads: Reloads<'r, 'w, R>,
-    limits: Limits,
+    pace: Pace,
     mut journal: LineJournal<'e, E>,
 ) -> Means<MachineSockets<'r, 'w, R>, MachineClocks<'r, R>, LineJournal<'e, E>>
-    ensures fresh { IsFresh result limits }
+    ensures fresh { IsFresh result pace }
     ensures drawn { result.generator ≡ begun.generator }
     ensures ports { result.sockets.ports ≡ begun.ports }
     ensures reloads { result.sockets.reloads ≡ reloads.entry }
-    ensures unwanted { journal.entry.outlets.audit ≡ None → result.tellings ≡ nobody }
-    ensures heard { IfSome journal.entry.outlets.audit (λ log. IfSome log.room (λ room. result.tellings ≡ room)) }
+    ensures told { IsTold journal.entry.outlets.audit journal.entry.outlets.measures result.tellings
+        ⊎ MayBeUntold journal.entry.outlets.audit result.tellings }
 {
-    let tellings = journal.begin(moment_now(rt));
+    let tellings = journal.begin(moment_now(rt), pace.report);
     Means {
         sockets: MachineSockets::new(rt, begun.ports, reloads, journal.measures()),
         clocks: MachineClocks::new(rt),
         journal,
         generator: begun.generator,
-        limits,
+        limits: pace.limits,
         tellings,
     }
 }
@@ -152,7 +159,7 @@ pub fn start<
     err: &'e mut E,
 ) -> Result<Served<'r, R>, ListenFault>
     ensures done { OnOk result (Announces (W.contents out.old) (W.contents out.new)) }
-    ensures serves { IfOk result (ServesAnew ⟦<LineJournal<'e, E> as Journal>⟧ (handed_anew registry hooks terms.entry.limits)) }
+    ensures serves { IfOk result (ServesAnew ⟦<LineJournal<'e, E> as Journal>⟧ (handed_anew registry hooks terms.entry.pace)) }
     ensures unblamed { IfOk result (λ served. served.fault ≢ Keep) }
     ensures silent { IfErr result (λ fault. fault ≢ Unwritten → out.new ≡ out.old) }
     ensures quiet { OnErr result (err.new ≡ err.old) }
@@ -166,11 +173,11 @@ pub fn start<
     let Ok(()) = told.open() else {
         return Err(ListenFault::Unwritten);
     };
-    let hearers = Hearers::new(rt.alloc(), moment_now(rt), audit, terms.report);
+    let hearers = Hearers::new(rt.alloc(), moment_now(rt), audit);
     let journal = LineJournal::new(rt, "", err, hearers);
     let key = registry.operator_key();
     let reloads = Reloads::new(rt, None, key, Vec::new(rt.alloc()));
-    let means = means_of(rt, begun, reloads, terms.limits, journal);
+    let means = means_of(rt, begun, reloads, terms.pace, journal);
     let AnewEnd {
         fault,
         sockets,
@@ -229,7 +236,7 @@ pub fn start_on<
     err: &'e mut E,
 ) -> Result<ServedOn<'r, 'w, R, B>, OpeningFault>
     ensures lives { IfOk result (LivesInRow ⟦<DiskFile<'r, R, File, B> as Device>⟧ ⟦<LineJournal<'e, E> as Journal>⟧
-        (handed_on candidate.registry (map hook_fact state.entry.hooks.now) terms.entry.limits)
+        (handed_on candidate.registry (map hook_fact state.entry.hooks.now) terms.entry.pace)
         (λ first. IsToldBy W.contents out.old first out.new)) }
     ensures silent { OnErr result (out.new ≡ out.old) }
     ensures quiet { OnErr result (err.new ≡ err.old) }
@@ -241,11 +248,12 @@ pub fn start_on<
     let reloads = Reloads::new(rt, Some(state.config), registry.operator_key(), text);
     let Planned { source, plan } = plan_of(rt.alloc(), file, registry, state.hooks);
     let address = begun.ports.address();
-    let hearers = Hearers::new(rt.alloc(), moment_now(rt), audit, terms.report);
+    let hearers = Hearers::new(rt.alloc(), moment_now(rt), audit);
     let journal = LineJournal::new(rt, state.path, err, hearers);
-    let means = means_of(rt, begun, reloads, terms.limits, journal);
-    let first = live_told(rt.alloc(), source.into_device(), plan, means, address, out);
-    let Relived { life, replies } = live_on(rt, terms.limits, first);
+    let disk = TimedDisk::new(rt, source.into_device(), journal.measures());
+    let means = means_of(rt, begun, reloads, terms.pace, journal);
+    let first = live_told(rt.alloc(), disk, plan, means, address, out);
+    let Relived { life, replies } = live_on(rt, terms.pace, first);
     let Life {
         end,
         device,

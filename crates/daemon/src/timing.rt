@@ -1,8 +1,9 @@
 //! How long requests and what is kept take.
 
 ghost use Rattle.std.specs.Prelude.{IfSome};
-ghost use Rattle.metrics.specs.Text.{IsMetricsText};
+ghost use Rattle.daemon.specs.Scraping.{IsMetricsPage};
 
+use desk::metrics_reply;
 use event_loop::{Received, Sent};
 use line_journal::Measures;
 use metrics::Watches;
@@ -10,6 +11,13 @@ use std::rt;
 
 /// So many nanoseconds has a second.
 const NANOS: u64 = 1_000_000_000;
+
+/// What a clock that never goes back tells, in nanoseconds.
+pub(crate) fn nanos_now<R: rt::Clock>(rt: &R) -> Option<u64> {
+    let now = rt.monotonic().ok()?;
+    let seconds = now.as_secs().saturating_mul(NANOS);
+    Some(seconds.saturating_add(u64::from(now.subsec_nanos())))
+}
 
 /// By a clock that never goes back, how long requests take from being read to being answered, and a round from its last read to its
 /// first write.
@@ -41,36 +49,31 @@ impl<'r, R> Timing<'r, R> {
         self.read = None;
     }
 
-    /// All that is measured, for who has the operator's key; `None` where memory is refused, too.
-    pub(crate) fn text(&self, with_key: bool) -> Option<Vec<u8>>
-        ensures { IfSome result (λ text. IsMetricsText text.items) }
-    {
-        match &self.measures {
-            Some(measures) if with_key => measures.text(),
-            _ => None,
-        }
-    }
-
     /// A connection is over, or handed on.
     pub(crate) fn forget(&mut self, place: u32) {
         self.watches.forget(place);
     }
 }
 
-impl<'r, R: rt::Clock> Timing<'r, R> {
-    // What the clock tells, in nanoseconds.
-    fn now(&self) -> Option<u64> {
-        let now = self.rt.monotonic().ok()?;
-        let seconds = now.as_secs().saturating_mul(NANOS);
-        Some(seconds.saturating_add(u64::from(now.subsec_nanos())))
+impl<'r, R: AllocGlobal> Timing<'r, R> {
+    /// The reply that tells all that is measured, for who has the operator's key; `None` where memory is refused, too.
+    pub(crate) fn page(&self, with_key: bool) -> Option<Vec<u8>>
+        ensures { IfSome result (λ page. IsMetricsPage page.items) }
+    {
+        match &self.measures {
+            Some(measures) if with_key => { metrics_reply(self.rt.alloc(), &measures.text()?).ok() }
+            _ => None,
+        }
     }
+}
 
+impl<'r, R: rt::Clock> Timing<'r, R> {
     /// A connection was read.
     pub(crate) fn note_read(&mut self, place: u32, came: Received, buffer: &[u8]) {
         let Received::Bytes(count) = came else {
             return;
         };
-        let (Some(bytes), Some(now)) = (buffer.get(..count), self.now()) else {
+        let (Some(bytes), Some(now)) = (buffer.get(..count), nanos_now(self.rt)) else {
             return;
         };
         self.watches.read(place, bytes, now);
@@ -82,7 +85,7 @@ impl<'r, R: rt::Clock> Timing<'r, R> {
         let (Some(read), Some(measures)) = (self.read.take(), &self.measures) else {
             return;
         };
-        if let Some(now) = self.now() {
+        if let Some(now) = nanos_now(self.rt) {
             measures.note_wait(now.saturating_sub(read));
         }
     }
@@ -95,7 +98,7 @@ impl<'r, R: rt::Clock> Timing<'r, R> {
         if count < bytes.len() {
             return;
         }
-        let (Some(now), Some(measures)) = (self.now(), &self.measures) else {
+        let (Some(now), Some(measures)) = (nanos_now(self.rt), &self.measures) else {
             return;
         };
         if let Some(timed) = self.watches.timed(place, now) {

@@ -61,11 +61,21 @@ metrics_reply text =
     line (codes "HTTP/1.1 200 OK") ++ line (codes "Content-Type: text/plain; version=0.0.4") ++ line (codes "Cache-Control: no-store")
     ++ line (codes "Connection: close") ++ length_line (length text) ++ crlf ++ text
 
--- by whether the operator's key was sent, and by the text, where memory was had for it
-abbrev pub IsScrapeReply : Bool → Option (List ℕ) → List ℕ → Type 0
-IsScrapeReply false text bytes = IsRefusalReply refusal.NoKey bytes
-IsScrapeReply true (Some text) bytes = bytes ≡ metrics_reply text
-IsScrapeReply true None bytes = IsRefusalReply refusal.NotNow bytes
+-- they are not told without the operator's key
+abbrev pub no_key_bytes : List ℕ
+no_key_bytes =
+    line (codes "HTTP/1.1 403 Forbidden") ++ line (codes "Content-Type: application/json") ++ line (codes "Cache-Control: no-store")
+    ++ line (codes "Pragma: no-cache") ++ line (codes "Content-Length: 25") ++ crlf ++ codes "{\"error\":\"access_denied\"}"
+
+-- nor where memory for them is refused
+abbrev pub no_memory_bytes : List ℕ
+no_memory_bytes = line (codes "HTTP/1.1 503 Service Unavailable") ++ line (codes "Content-Length: 0") ++ crlf
+
+-- by whether that was sent, and by the page, where memory was had for it
+abbrev pub scrape_reply : Bool → Option (List ℕ) → List ℕ
+scrape_reply false page = no_key_bytes
+scrape_reply true (Some page) = page
+scrape_reply true None = no_memory_bytes
 
 -- WHY A RELOAD IS NOT BEGUN
 

@@ -16,4 +16,4 @@ pub use judging::{Judged, PEEK_LIMIT, judge};
 pub use not_begun::{NotBegun, keeps_names, refused, reply_of, state_reply};
 pub use reading::candidate_of;
 pub use reply::{Refusal, Reloaded, granted_reply, refusal_reply};
-pub use scraping::scrape_reply;
+pub use scraping::{metrics_reply, scrape_reply};

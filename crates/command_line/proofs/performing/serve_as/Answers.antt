@@ -47,7 +47,7 @@ returns-in_default-clause-fault g c =
       | inl not ↦ not_heard _ c.args.service.now (files_in c.args.files) c.start_anew.result
           (outputs (output g.W.Write.contents g.W.Printer.writes c.args.out.now c.start_anew.new.out) (output g.E.Write.contents g.E.Printer.writes c.args.err.now c.start_anew.new.err)) not.1.1
           (has_files c.args.service.now (files_in c.args.files) all) not.0 (rw c.in-Start.is not.1.0) (rw c.in-Start.is not.1.2)
-      | inr ends ↦ inr (ended_anew _ c.args.service.now (files_in c.args.files) c.start_anew.result (output g.W.Write.contents g.W.Printer.writes c.args.out.now c.start_anew.new.out) all c.limits_of.result none c.limits_of.ensures ends)
+      | inr ends ↦ inr (ended_anew _ c.args.service.now (files_in c.args.files) c.start_anew.result (output g.W.Write.contents g.W.Printer.writes c.args.out.now c.start_anew.new.out) all c.pace_of.result none c.pace_of.ensures ends)
     ]
 
 pub returns-clause-fault : goal.returns-clause-fault
@@ -69,6 +69,6 @@ returns-clause-fault g c =
       | inl not ↦ not_opened _ c.args.service.now (files_in c.args.files) c.start_on_state.result
           (outputs (output g.W.Write.contents g.W.Printer.writes c.args.out.now c.start_on_state.new.out) (output g.E.Write.contents g.E.Printer.writes c.args.err.now c.start_on_state.new.err)) all c.in-Start.given.address.now c.in-Some.path.now not.1.1.0
           (rw c.in-Start.is) named not.0 not.1.0 not.1.1.1
-      | inr ends ↦ inr (ended_on _ c.args.service.now (files_in c.args.files) c.start_on_state.result (output g.W.Write.contents g.W.Printer.writes c.args.out.now c.start_on_state.new.out) all c.in-Some.path.now _ c.limits_of.result named
-          (ap (map hook_fact) kept ∙ c.in_ok-hooks.ensures ∙ ap (map hook_fact_of) same) c.limits_of.ensures ends)
+      | inr ends ↦ inr (ended_on _ c.args.service.now (files_in c.args.files) c.start_on_state.result (output g.W.Write.contents g.W.Printer.writes c.args.out.now c.start_on_state.new.out) all c.in-Some.path.now _ c.pace_of.result named
+          (ap (map hook_fact) kept ∙ c.in_ok-hooks.ensures ∙ ap (map hook_fact_of) same) c.pace_of.ensures ends)
     ]

@@ -1,5 +1,6 @@
 use Rattle.std.proofs.Common.{◌≡◌, ◌∙◌, [], ap, subst, sym}
-use Rattle.disk_file.specs.Calls.{content}
+use Rattle.disk_file.specs.Calls.{content, failures}
+use Rattle.disk_file.specs.declared.file.DiskFile.{DiskFile}
 use Rattle.lifetime.specs.PlansLaws.{front_of, planned_of}
 use Rattle.ports.specs.Passing.{KeepsWaiting}
 use Rattle.ports.specs.declared.seats.Ports.{Ports}
@@ -7,10 +8,14 @@ use Rattle.daemon.specs.declared.reloads.Reloads.{Reloads}
 use Rattle.daemon.proofs.Relived.{are_of}
 use Rattle.daemon.proofs.reliving.live_by.Goals as goal
 
+pub live-requires-clause-faultless : goal.live-requires-clause-faultless
+live-requires-clause-faultless g c = ap (λ (d : DiskFile _ _ _). failures d.log.calls) c.new-disk.ensures ∙ c.into_device.ensures.faultless
+
 pub live-requires-clause-front : goal.live-requires-clause-front
 live-requires-clause-front g c =
     let opened = c.into_device.ensures.opened in
-    front_of _ _ _ (λ over. ap content opened.1 ∙ opened.2 over) c.plan_of-source.result.plan c.plan_of-source.ensures.over c.plan_of-source.ensures.front
+    let calls = ap (λ (d : DiskFile _ _ _). d.log.calls) c.new-disk.ensures in
+    front_of _ _ _ (λ over. ap content (calls ∙ opened.1) ∙ opened.2 over) c.plan_of-source.result.plan c.plan_of-source.ensures.over c.plan_of-source.ensures.front
 
 pub returns-clause-lives : goal.returns-clause-lives
 returns-clause-lives g c =
@@ -19,9 +24,9 @@ returns-clause-lives g c =
     let asks = c.means_of-means.ensures.reloads in record {
       random = seeded.0;
       lives = record {
-        file = c.into_device.result;
+        file = c.new-disk.result;
         bytes = opened.0;
-        is_opened = opened.1;
+        is_opened = ap (λ (d : DiskFile _ _ _). d.log.calls) c.new-disk.ensures ∙ opened.1;
         means = c.means_of-means.result;
         fresh = c.means_of-means.ensures.fresh;
         seeded = rw c.means_of-means.ensures.drawn seeded.1;

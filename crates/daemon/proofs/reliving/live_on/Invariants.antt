@@ -19,4 +19,4 @@ invariant-loop-nth g l =
     g.R.Files g.R.Files-dict seeks.ghosts seeks.dict g.R.Dir.Read g.R.Dir.Read-dict g.R.AllocGlobal g.R.AllocGlobal-dict g.R.Alloc g.R.Alloc-dict g.B.Before g.B.Before-dict
     (syntax.impl ("daemon::std++fs++File+Destruct::drop" ∷ []) syntax.tnil syntax.dnil) g.R.Dir.Destruct-dict in
     let journal = journals.ghosts g.row.E g.E.Write g.E.Write-dict in
-    LeadsTo disk journal l.limits l._nth l.initial.one l.one
+    LeadsTo disk journal l.pace l._nth l.initial.one l.one

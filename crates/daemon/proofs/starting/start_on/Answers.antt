@@ -1,14 +1,19 @@
 use Rattle.std.proofs.Common.{◌≡◌, ◌∙◌, ap, map}
-use Rattle.disk_file.specs.Calls.{content}
+use Rattle.disk_file.specs.Calls.{content, failures}
+use Rattle.disk_file.specs.declared.file.DiskFile.{DiskFile}
 use Rattle.rules_codec.specs.Facts.{hook_fact}
 use Rattle.lifetime.specs.PlansLaws.{front_of, planned_of}
 use Rattle.daemon.proofs.Relived.{are_of}
 use Rattle.daemon.proofs.starting.start_on.Goals as goal
 
+pub live_told-first-requires-clause-faultless : goal.live_told-first-requires-clause-faultless
+live_told-first-requires-clause-faultless g c = ap (λ (d : DiskFile _ _ _). failures d.log.calls) c.new-disk.ensures ∙ c.into_device.ensures.faultless
+
 pub live_told-first-requires-clause-front : goal.live_told-first-requires-clause-front
 live_told-first-requires-clause-front g c =
     let opened = c.into_device.ensures.opened in
-    front_of _ _ _ (λ over. ap content opened.1 ∙ opened.2 over) c.plan_of-source.result.plan c.plan_of-source.ensures.over c.plan_of-source.ensures.front
+    let calls = ap (λ (d : DiskFile _ _ _). d.log.calls) c.new-disk.ensures in
+    front_of _ _ _ (λ over. ap content (calls ∙ opened.1) ∙ opened.2 over) c.plan_of-source.result.plan c.plan_of-source.ensures.over c.plan_of-source.ensures.front
 
 pub returns-clause-lives : goal.returns-clause-lives
 returns-clause-lives g c =
@@ -17,9 +22,9 @@ returns-clause-lives g c =
       lives = (
         c.begin.new.random,
         record {
-          file = c.into_device.result;
+          file = c.new-disk.result;
           bytes = opened.0;
-          is_opened = opened.1;
+          is_opened = ap (λ (d : DiskFile _ _ _). d.log.calls) c.new-disk.ensures ∙ opened.1;
           means = c.means_of-means.result;
           fresh = c.means_of-means.ensures.fresh;
           seeded = rw c.means_of-means.ensures.drawn (c.in_ok-begun.ensures c.new-random.ensures);
