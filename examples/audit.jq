@@ -4,8 +4,8 @@
 #   jq -c -L examples 'include "audit"; denied' FILE            which hook denied what to whom
 #   jq -c -L examples 'include "audit"; grant(17)' FILE         one grant, from its code to the last of its tokens
 
-def tokens_of(number): select(.owner == number and .endpoint == "token" and .status == 200) | [.moment, .client, .scope];
+def tokens_of(number): select(.owner == number and .path == "/token" and .status == 200) | [.moment, .client, .scope];
 
 def denied: select(.hooks[-1:][]?.did == "denied") | [.moment, .hooks[-1].hook, .client, .owner, .asked.scope];
 
-def grant(number): select(.family == number) | [.moment, .endpoint, .grant, .status, .error, .scope];
+def grant(number): select(.family == number) | [.moment, .path, .grant, .status, .error, .scope];

@@ -706,7 +706,7 @@ def token_of(server):
 
 # The members of a line about a request.
 AUDITED = [
-    "asked", "client", "endpoint", "error", "family", "grant", "hooks", "life", "moment", "owner", "scope", "status",
+    "asked", "client", "error", "family", "grant", "hooks", "life", "moment", "owner", "path", "scope", "status",
 ]
 
 
@@ -728,12 +728,12 @@ def audited():
         want(begun["began"] <= lines[0]["moment"], f"it begins at {begun} before {lines[0]}")
         for line in lines:
             want(list(line) == AUDITED, f"the members are {list(line)}")
-        told = [(line["endpoint"], line["status"], line["client"], line["grant"]) for line in lines]
+        told = [(line["path"], line["status"], line["client"], line["grant"]) for line in lines]
         asking = next(each for each in rules["clients"] if "client_credentials" in each["grants"])
         wanted = [
-            ("introspect", 200, client["id"], None),
-            ("nowhere", 404, None, None),
-            ("token", 200, asking["id"], "client_credentials"),
+            ("/introspect", 200, client["id"], None),
+            (None, 404, None, None),
+            ("/token", 200, asking["id"], "client_credentials"),
         ]
         want(told == wanted, f"told is {told}")
         given = lines[2]

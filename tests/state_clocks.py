@@ -8,7 +8,7 @@ import time
 
 from crashes import consents
 from state_disks import LONG, SLICES, grows_to
-from state_format import MARK, batches_of
+from state_format import batches_of, without_mark
 from state_trials import LIFE, bytes_of, gone
 
 DAY = 86400
@@ -33,9 +33,9 @@ def tries_told_by_the_clock(trials):
     if not client.is_active(token):
         trials.wrong("a clock", "a token is inactive at once")
     begun.end()
-    marks = [it for it in batches_of(bytes_of(path)) if it[0] == MARK]
+    marks = [it for it in batches_of(bytes_of(path)) if not without_mark(it)]
     if len(marks) != 1:
-        trials.wrong("marks", f"{len(marks)} within a second")
+        trials.wrong("marks", f"{len(marks)} alone, though a change carries its own")
 
     begun, client = trials.served("a clock that is ahead", path, env=clock(trials, LIFE + 10))
     if client.is_active(token):

@@ -54,9 +54,14 @@ def next_frame(content, batch):
     return MARK_OF_FRAME + body(before, batch)[0]
 
 
+def without_mark(batch):
+    """What a batch tells behind the moment with which it may begin: nothing, where it is a mark alone."""
+    return batch[9:] if batch[0] == MARK else batch
+
+
 def first_kind_of(batches):
     """The file of these batches as the first version of the program wrote it: a latch of 1, a length and the batch for each."""
-    frames = (b"\1" + len(batch).to_bytes(4, "big") + batch for batch in batches if batch[0] != MARK)
+    frames = (b"\1" + len(batch).to_bytes(4, "big") + batch for batch in map(without_mark, batches) if batch)
     return b"".join(frames) + b"\0"
 
 

@@ -10,7 +10,7 @@ from concurrent.futures import ThreadPoolExecutor
 from dataclasses import dataclass
 
 from crashes import Client, Gone, Refused, Server
-from state_format import MARK, batches_of
+from state_format import batches_of, without_mark
 
 # Tokens live for so many seconds, so that none expires while a trial runs.
 LIFE = 3000
@@ -165,8 +165,8 @@ class Trials:
 
 
 def without_marks(batches):
-    """The batches but those of moments, since a server adds such."""
-    return [batch for batch in batches if batch[0] != MARK]
+    """What the batches tell but moments, since a server adds such."""
+    return [batch for batch in map(without_mark, batches) if batch]
 
 
 def is_named(lines, wanted, path=""):

@@ -83,6 +83,7 @@ is 'oauthd_request_seconds_count{path="revoke"}' 0
 holds 'no bytes of a state' test "$(told oauthd_state_bytes)" -gt 100 -a "$(told oauthd_state_bytes)" -le "$(stat -c %s "$room/state")"
 holds 'it began otherwise' test $(($(date +%s) - $(told oauthd_start_time_seconds))) -lt 60
 holds 'nothing was waited for' test "$(told oauthd_keep_seconds_count)" -gt 5
+holds 'the disk was not waited for' test "$(told oauthd_sync_seconds_count)" -gt 5
 promtool check metrics <"$room/text" >"$room/lint" 2>&1 || differs 'promtool ends with another status'
 holds "promtool: $(cat "$room/lint")" test ! -s "$room/lint"
 
@@ -133,6 +134,21 @@ read_text
 is 'oauthd_requests_total{path="introspect"}' 0
 is 'oauthd_request_seconds_count{path="introspect"}' $asked
 is 'oauthd_denied_by_hook_total{hook="night"}' 2
+
+stop
+
+# WITHOUT AN AUDIT LOG denials are counted by hook as well
+start 127.0.0.1:0 examples/registry.json --state "$room/state"
+url=http://$at
+printf '\267\0\0\0\0\0\0\0\225\0\0\0\0\0\0\0' | curl -s -H "X-Operator-Key: $key" --data-binary @- "$url/hooks?name=noon" >/dev/null
+for _ in 1 2 3; do
+    curl -s -u bot:b0t -d grant_type=client_credentials "$url/token" >/dev/null
+done
+read_text
+is oauthd_denied_total 3
+is 'oauthd_denied_by_hook_total{hook="noon"}' 3
+is 'oauthd_denied_by_hook_total{hook="night"}' ''
+is 'oauthd_denied_by_hook_total{hook="_others"}' 0
 
 stop
 end_with 'things that are told'

@@ -10,6 +10,7 @@ use hook_chain::Chain;
 use hook_host::{HookFault, HookHost, Verdicts, decided};
 use hook_record::{Ask, Narrowed};
 use insn::layout::Layout;
+use std::alloc::{AllocError, Global};
 use std::test::Fail;
 
 /// Hooks that are installed and removed as those of a chain, and are not asked: what is asked has one answer.
@@ -44,10 +45,10 @@ impl HookHost for Answering {
         self.answer
     }
 
-    fn explain(&self, _ask: &Ask) -> Verdicts {
-        let mut verdicts = Verdicts::none();
-        verdicts.push("any", self.answer);
-        verdicts
+    fn explain(&self, alloc: Global, _ask: &Ask) -> Result<Verdicts, AllocError> {
+        let mut verdicts = Verdicts::none(alloc);
+        verdicts.push("any", self.answer)?;
+        Ok(verdicts)
     }
 
     fn check(&self, name: &str, layout: Layout, code: &[u8]) -> Result<Answering, HookFault> {

@@ -156,7 +156,7 @@ impl Keeper for Patient<'_> {
         Ok(())
     }
 
-    fn keep(&mut self, batch: &Batch) -> Result<(), KeepFault> {
+    fn keep(&mut self, batch: &Batch, _now: Moment) -> Result<(), KeepFault> {
         self.has_failed = true;
         if self.changes.len() >= self.most {
             return Err(KeepFault::Failed);

@@ -7,6 +7,7 @@ use hook_chain::Chain;
 use messages::Request;
 use reports::told_text;
 use std::test::Fail;
+use telling::{Interest, Stepped};
 
 const NOTHING: Request<'static> = Request {
     method: b"POST",
@@ -53,23 +54,23 @@ const EXCHANGE: Request<'static> = Request {
 const TOLD: &[(Request<'static>, &str)] = &[
     (
         CONSENT,
-        r#"{"asked":null,"client":"app","endpoint":"consent","error":null,"family":null,"grant":null,"hooks":[],"life":null,"moment":1000,"owner":1,"scope":"read write","status":200}"#,
+        r#"{"asked":null,"client":"app","error":null,"family":null,"grant":null,"hooks":[],"life":null,"moment":1000,"owner":1,"path":"/consent","scope":"read write","status":200}"#,
     ),
     (
         AUTHORIZE,
-        r#"{"asked":null,"client":"app","endpoint":"authorize","error":null,"family":1,"grant":null,"hooks":[],"life":null,"moment":1000,"owner":1,"scope":"read","status":302}"#,
+        r#"{"asked":null,"client":"app","error":null,"family":1,"grant":null,"hooks":[],"life":null,"moment":1000,"owner":1,"path":"/authorize","scope":"read","status":302}"#,
     ),
     (
         INSTALL,
-        r#"{"asked":null,"client":null,"endpoint":"hooks","error":null,"family":null,"grant":null,"hooks":[],"life":null,"moment":1000,"owner":null,"scope":null,"status":200}"#,
+        r#"{"asked":null,"client":null,"error":null,"family":null,"grant":null,"hooks":[],"life":null,"moment":1000,"owner":null,"path":"/hooks","scope":null,"status":200}"#,
     ),
     (
         EXCHANGE,
-        r#"{"asked":{"life":300,"scope":"read"},"client":"app","endpoint":"token","error":"invalid_grant","family":1,"grant":"authorization_code","hooks":[{"did":"denied","hook":"h2"}],"life":null,"moment":1000,"owner":1,"scope":null,"status":400}"#,
+        r#"{"asked":{"life":300,"scope":"read"},"client":"app","error":"invalid_grant","family":1,"grant":"authorization_code","hooks":[{"did":"denied","hook":"h2"}],"life":null,"moment":1000,"owner":1,"path":"/token","scope":null,"status":400}"#,
     ),
     (
         NOTHING,
-        r#"{"asked":null,"client":null,"endpoint":"nowhere","error":null,"family":null,"grant":null,"hooks":[],"life":null,"moment":1000,"owner":null,"scope":null,"status":404}"#,
+        r#"{"asked":null,"client":null,"error":null,"family":null,"grant":null,"hooks":[],"life":null,"moment":1000,"owner":null,"path":null,"scope":null,"status":404}"#,
     ),
 ];
 
@@ -79,8 +80,14 @@ fn requests_are_told_of(rt: HostRuntime) -> Result<(), Fail> {
     let rules = registry(alloc)?;
     let mut server = Server::new(alloc, registry(alloc)?, Chain::new(alloc));
     for (i, (request, line)) in TOLD.iter().enumerate() {
-        let stepped = server.step(request, Moment::new(1000), &draws_of((1, 2)), true);
-        let Some(told) = stepped.told else {
+        let draws = draws_of((1, 2));
+        let Stepped { told, .. } = server.step(
+            request,
+            Moment::new(1000),
+            &draws,
+            Interest::Everything,
+        );
+        let Some(told) = told else {
             return Err(Fail::from("nothing is told"));
         };
         let text = told_text(alloc, &rules, &told)?;
