@@ -491,6 +491,47 @@ int hook(struct record *record)
     return grades[record->owner] ? ALLOW : DENY;
 }
 C
+taken 'an index of one byte, and a table of 16' <<'C'
+int hook(struct record *record)
+{
+    u8 lives[16];
+    __builtin_memset(lives, 3, sizeof lives);
+    lives[5] = record->client;
+    u8 at = record->owner;
+    if (at < 16)
+        record->life = lives[at];
+    return ALLOW;
+}
+C
+answers 1 9 5 'allowed 7 9'
+answers 1 9 6 'allowed 7 3'
+answers 1 9 16 'allowed 7 300'
+taken 'the same, tested at both ends' <<'C'
+int hook(struct record *record)
+{
+    u8 lives[16];
+    __builtin_memset(lives, 3, sizeof lives);
+    lives[5] = record->client;
+    u8 at = record->owner;
+    if (at >= 4 && at < 12)
+        record->life = lives[at];
+    return ALLOW;
+}
+C
+answers 1 9 5 'allowed 7 9'
+answers 1 9 3 'allowed 7 300'
+faulty 'the same, and a table of 10' 'Verify UnsetByte' <<'C'
+int hook(struct record *record)
+{
+    u8 lives[10];
+    __builtin_memset(lives, 3, sizeof lives);
+    lives[5] = record->client;
+    u8 at = record->owner;
+    if (at < 10)
+        record->life = lives[at];
+    return ALLOW;
+}
+C
 taken 'a flag that guards an index' <<'C'
 int hook(struct record *record)
 {

@@ -1,11 +1,12 @@
 -- Registers whose number is another's plus a constant or a constant less another's.
-use Rattle.std.proofs.Common.{◌≡◌, ◌≢◌, ℕ, ◌+◌, ◌-◌, ◌^◌, ◌<◌, ◌==◌, ◌||◌, if◌then◌else◌, Bool, true, false, ℤ, List, Option, Some, None, get_or, set, length, refl, sym, ap, ◌∙◌, subst, arith, inl, inr, ◌⊎◌}
+use Rattle.std.proofs.Common.{◌≡◌, ◌≢◌, ℕ, ◌+◌, ◌-◌, ◌^◌, ◌<◌, ◌==◌, ◌||◌, ◌%◌, bit_and, if◌then◌else◌, Bool, true, false, ℤ, List, Option, Some, None, get_or, set, length, refl, sym, ap, ◌∙◌, subst, arith, inl, inr, ◌⊎◌}
 use Rattle.links.proofs.Names.{Decides-eqb, set-get_or, cast_unsigned, cases_eq, get_or-set_other, get_or-set_same, BinOp, Add, Sub}
-use Rattle.links.proofs.Names.{Width, W32, W64, RegNo, Value, Number, Address, reg_number, Scalar, InScalar-words, shows_one, InScalar, word_holds, word_result, wrapped, Bits, Lowest}
+use Rattle.links.proofs.Names.{Width, W32, W64, RegNo, Value, Number, reg_number, Scalar, InScalar-words, shows_one, InScalar, word_holds, word_result, wrapped, Bits, Lowest}
 use Rattle.links.proofs.Names.{Link, Links, Sum, Difference, IsDerived, IsTraced, IsEqualKept, AreLeft, AreLinked, AreLinksJoined, AreMade, AreRelated, IsLinkJoin, LinkHolds, LinksHold}
-use Rattle.links.proofs.Names.{bits_after, lesser, link_at, link_left, plus_after, Cell, Kind, Block, Stack, IsKindJoin, IsBlockJoin, block_at, block_cells, cells_filled}
-use Rattle.links.specs.Links.{AreHomesLeft, HomeHolds, home_at, bits_moved, home_left, home_unless, links_in, made_at, moved_by, moved_from, plus_moved}
+use Rattle.links.proofs.Names.{bits_after, lesser, link_at, link_left, plus_after, Cell, Kind, Block, Stack, IsKindJoin, IsBlockJoin, block_at, block_cells}
+use Rattle.links.specs.Links.{AreAlike, AreHomesLeft, HomeHolds, bits_masked, is_equal, is_whole, link_moved, mask_of, traced, home_at, bits_moved, home_left, home_unless, made_at, moved_by, moved_from, plus_moved}
 use Rattle.links.proofs.Names.{Action, option_or}
+use Rattle.links.specs.Names.{◌>>=◌}
 use Rattle.reg_kind.specs.declared.reg.Reg.TheVariants as kind
 use Rattle.stack_state.specs.declared.block.Block.TheVariants as block
 use Rattle.stack_state.specs.Joins.{block_of}
@@ -16,10 +17,21 @@ use Rattle.range.specs.Sets.{IsWithin}
 use Rattle.scalar.specs.Narrowed.{AreNarrowed}
 use Rattle.stack_state.proofs.Written.{DoneTo, next_done}
 use Rattle.links.specs.declared.link.Relation.{Relation}
+use Rattle.links.specs.declared.link.Bits.TheVariants.{Masked, Shifted}
+use Rattle.insn.specs.declared.operation.BinOp.TheVariants.{And}
+use Rattle.links.specs.Narrowed.{IsMixed}
+use Rattle.scalar.specs.Members.{ShowsOne}
+use Rattle.std.proofs.lemmas.Nat.{and_assoc, and_comm, and_mask, and_mod, and-not}
+use Rattle.std.specs.Int.Bits.{and_self}
+use Rattle.std.specs.Int.{bit_not}
 use Rattle.links.proofs.Names.{AreNumbersRefined, AreValuesLinked, IsLinkRefined, RegFits}
 
 pub reg_below : (r : RegNo) → reg_number r < 11
 reg_below r = grind (arith)
+
+pub bind_some : {A B : Type 0} (o : Option A) (f : A → Option B) (y : B) → (o >>= f) ≡ Some y → (x : A) × (o ≡ Some x) × (f x ≡ Some y)
+bind_some None f y e = absurd cc
+bind_some (Some x) f y e = (x, refl, e)
 
 -- ---- numbers
 
@@ -27,8 +39,155 @@ reg_below r = grind (arith)
 added : (r : Relation) (w v : Width) (p c a b : ℕ) → AreRelated r (Lowest v) p a b → AreRelated r (Lowest (lesser w v)) (wrapped w64 (p + c)) a (word_result w Add b c)
 added r w v p c a b h1 = grind (arith)
 
-pub related_after : (r : Relation) (w : Width) (op : BinOp) (imm : ℤ) (bits after : Bits) (p a b : ℕ) → b < 2 ^ 64 → bits_after w op imm bits ≡ Some after → AreRelated r bits p a b
+-- ---- numbers that are alike inside a mask
+
+-- and so inside one of fewer bits
+fewer : (x y m d : ℕ) → AreAlike m x y → AreAlike (bit_and m d) x y
+fewer x y m d e = sym (and_assoc d (x % 2 ^ 16) m) ∙ ap (λ (z : ℕ). bit_and z d) e ∙ and_assoc d (y % 2 ^ 16) m
+
+same_alike : (x y m : ℕ) → x % 2 ^ 16 ≡ y % 2 ^ 16 → AreAlike m x y
+same_alike x y m e = ap (λ (z : ℕ). bit_and z m) e
+
+absorbed : (d m : ℕ) → bit_and d (bit_and m d) ≡ bit_and m d
+absorbed d m = ap (bit_and d) (and_comm m d) ∙ sym (and_assoc m d d) ∙ ap (λ (y : ℕ). bit_and y m) (and_self d) ∙ and_comm d m
+
+-- a number whose bits outside a constant's are cleared
+cleared_low : (w : Width) (x c : ℕ) → word_result w And x c % 2 ^ 16 ≡ bit_and (x % 2 ^ 16) (c % 2 ^ 16)
+cleared_low W64 x c = and_mod x c 16
+cleared_low W32 x c =
+    let left : x % 2 ^ 32 % 2 ^ 16 ≡ x % 2 ^ 16 = omega arith in
+    let right : c % 2 ^ 32 % 2 ^ 16 ≡ c % 2 ^ 16 = omega arith in
+    and_mod (x % 2 ^ 32) (c % 2 ^ 32) 16 ∙ ap (λ (y : ℕ). bit_and y (c % 2 ^ 32 % 2 ^ 16)) left ∙ ap (bit_and (x % 2 ^ 16)) right
+
+cleared_alike : (w : Width) (x c m : ℕ) → AreAlike (bit_and m (c % 2 ^ 16)) (word_result w And x c) x
+cleared_alike w x c m =
+    ap (λ (y : ℕ). bit_and y (bit_and m (c % 2 ^ 16))) (cleared_low w x c) ∙ and_assoc (bit_and m (c % 2 ^ 16)) (x % 2 ^ 16) (c % 2 ^ 16)
+    ∙ ap (bit_and (x % 2 ^ 16)) (absorbed (c % 2 ^ 16) m)
+
+-- numbers whose lowest bytes are the same are alike inside masks of one byte
+byte_alike : (x y m d : ℕ) → d ≡ 255 → x % 2 ^ 8 ≡ y % 2 ^ 8 → AreAlike (bit_and m d) x y
+byte_alike x y m d is e =
+    let left : x % 2 ^ 16 % 2 ^ 8 ≡ x % 2 ^ 8 = omega arith in
+    let right : y % 2 ^ 16 % 2 ^ 8 ≡ y % 2 ^ 8 = omega arith in
+    let x_is : bit_and (x % 2 ^ 16) d ≡ x % 2 ^ 8 = ap (bit_and (x % 2 ^ 16)) is ∙ and_mask (x % 2 ^ 16) 8 ∙ left in
+    let y_is : bit_and (y % 2 ^ 16) d ≡ y % 2 ^ 8 = ap (bit_and (y % 2 ^ 16)) is ∙ and_mask (y % 2 ^ 16) 8 ∙ right in
+    ap (bit_and (x % 2 ^ 16)) (and_comm m d) ∙ sym (and_assoc m (x % 2 ^ 16) d) ∙ ap (λ (z : ℕ). bit_and z m) (x_is ∙ e ∙ sym y_is) ∙ and_assoc m (y % 2 ^ 16) d
+    ∙ ap (bit_and (y % 2 ^ 16)) (and_comm d m)
+
+-- where a mask is a byte or two, the lowest bits are as they were
+cleared_byte : (w : Width) (x c : ℕ) → c % 2 ^ 16 ≡ 255 → word_result w And x c % 2 ^ 8 ≡ x % 2 ^ 8
+cleared_byte w x c is =
+    let low : word_result w And x c % 2 ^ 16 ≡ x % 2 ^ 16 % 2 ^ 8 = cleared_low w x c ∙ ap (bit_and (x % 2 ^ 16)) is ∙ and_mask (x % 2 ^ 16) 8 in
+    omega (arith, low)
+
+cleared_pair : (w : Width) (x c : ℕ) → c % 2 ^ 16 ≡ 65535 → word_result w And x c % 2 ^ 16 ≡ x % 2 ^ 16
+cleared_pair w x c is =
+    let low : word_result w And x c % 2 ^ 16 ≡ x % 2 ^ 16 % 2 ^ 16 = cleared_low w x c ∙ ap (bit_and (x % 2 ^ 16)) is ∙ and_mask (x % 2 ^ 16) 16 in
+    omega (arith, low)
+
+traced_byte : (r : Relation) (p x y : ℕ) → x % 2 ^ 8 ≡ y % 2 ^ 8 → traced r p x % 2 ^ 8 ≡ traced r p y % 2 ^ 8
+traced_byte Sum p x y e = omega (arith, e)
+traced_byte Difference p x y e = omega (arith, e)
+
+traced_pair : (r : Relation) (p x y : ℕ) → x % 2 ^ 16 ≡ y % 2 ^ 16 → traced r p x % 2 ^ 16 ≡ traced r p y % 2 ^ 16
+traced_pair Sum p x y e = omega (arith, e)
+traced_pair Difference p x y e = omega (arith, e)
+
+whole_cases : (m : ℕ) → is_whole m ≡ true → (m ≡ 255) ⊎ (m ≡ 65535)
+whole_cases m h = grind (arith)
+
+-- a number is traced to one that is alike, once its bits outside a mask are cleared: where that is whole, or it is traced to itself
+cleared_whole : (r : Relation) (w : Width) (p b c m : ℕ) → is_whole (c % 2 ^ 16) ≡ true → AreAlike (bit_and m (c % 2 ^ 16)) (traced r p (word_result w And b c)) (traced r p b)
+cleared_whole r w p b c m whole = elim (whole_cases (c % 2 ^ 16) whole) [
+  | inl is ↦ byte_alike (traced r p (word_result w And b c)) (traced r p b) m (c % 2 ^ 16) is (traced_byte r p (word_result w And b c) b (cleared_byte w b c is))
+  | inr is ↦ same_alike (traced r p (word_result w And b c)) (traced r p b) (bit_and m (c % 2 ^ 16)) (traced_pair r p (word_result w And b c) b (cleared_pair w b c is))
+]
+
+traced_equal : (p b : ℕ) → p ≡ 0 → traced Sum p b % 2 ^ 16 ≡ b % 2 ^ 16
+traced_equal p b zero = omega (arith, zero)
+
+is_zero : (p : ℕ) → is_equal Sum p ≡ true → p ≡ 0
+is_zero p h = grind (arith)
+
+cleared_equal : (r : Relation) (w : Width) (p b c m : ℕ) → is_equal r p ≡ true → AreAlike (bit_and m (c % 2 ^ 16)) (traced r p (word_result w And b c)) (traced r p b)
+cleared_equal Sum w p b c m equal =
+    let zero = is_zero p equal in
+    let n = bit_and m (c % 2 ^ 16) in
+    same_alike (traced Sum p (word_result w And b c)) (word_result w And b c) n (traced_equal p (word_result w And b c) zero) ∙ cleared_alike w b c m
+    ∙ same_alike b (traced Sum p b) n (sym (traced_equal p b zero))
+cleared_equal Difference w p b c m equal = absurd cc
+
+cleared_there : (r : Relation) (w : Width) (p b c m : ℕ) → (is_equal r p || is_whole (c % 2 ^ 16)) ≡ true → AreAlike (bit_and m (c % 2 ^ 16)) (traced r p (word_result w And b c)) (traced r p b)
+cleared_there r w p b c m which = by (is_equal r p) refl which where
+  by : (t : Bool) → is_equal r p ≡ t → (t || is_whole (c % 2 ^ 16)) ≡ true → AreAlike (bit_and m (c % 2 ^ 16)) (traced r p (word_result w And b c)) (traced r p b)
+  by true e h = cleared_equal r w p b c m e
+  by false e h = cleared_whole r w p b c m h
+
+-- a number of which a link tells the lowest bits is traced to one that has the two bytes of the other
+lowest_low : (r : Relation) (w : Width) (p a b : ℕ) → AreRelated r (Lowest w) p a b → traced r p b % 2 ^ 16 ≡ a % 2 ^ 16
+lowest_low Sum W64 p a b h = omega (arith, h)
+lowest_low Sum W32 p a b h = omega (arith, h)
+lowest_low Difference W64 p a b h = omega (arith, h)
+lowest_low Difference W32 p a b h = omega (arith, h)
+
+masked_by : (r : Relation) (m p a b : ℕ) → AreAlike m (traced r p b) a → AreRelated r (Masked m) p a b
+masked_by Sum m p a b h = h
+masked_by Difference m p a b h = h
+
+pub masked_is : (r : Relation) (m p a b : ℕ) → AreRelated r (Masked m) p a b → AreAlike m (traced r p b) a
+masked_is Sum m p a b h = h
+masked_is Difference m p a b h = h
+
+-- what a link tells of fewer bits: as much as is told once the others are cleared in a register
+record IsMasked (r : Relation) (d p a b : ℕ) (after : Bits) : Type 0 where
+  own : ℕ
+  is : after ≡ Masked (bit_and own d)
+  alike : AreAlike (bit_and own d) (traced r p b) a
+
+bits_are_masked : (r : Relation) (d p a b : ℕ) (bits after : Bits) → bits_masked d bits ≡ Some after → AreRelated r bits p a b → IsMasked r d p a b after
+bits_are_masked r d p a b (Lowest w) after e h =
+    let is : after ≡ Masked d = cc in
+    record { own = d; is = is ∙ sym (ap Masked (and_self d)); alike = same_alike (traced r p b) a (bit_and d d) (lowest_low r w p a b h) }
+bits_are_masked r d p a b (Masked m) after e h = record { own = m; is = cc; alike = fewer (traced r p b) a m d (masked_is r m p a b h) }
+bits_are_masked r d p a b Shifted after e h = absurd cc
+
+-- bits outside a constant's are cleared in the other number
+other_cleared : (r : Relation) (w : Width) (imm : ℤ) (bits after : Bits) (p a b : ℕ) → bits_masked (mask_of imm) bits ≡ Some after → AreRelated r bits p a b
+    → AreRelated r after p (word_result w And a (cast_unsigned w64 imm)) b
+other_cleared r w imm bits after p a b e h =
+    let m = bits_are_masked r (mask_of imm) p a b bits after e h in
+    rw m.is (masked_by r (bit_and m.own (mask_of imm)) p (word_result w And a (cast_unsigned w64 imm)) b (m.alike ∙ sym (cleared_alike w a (cast_unsigned w64 imm) m.own)))
+
+-- or in the link's own
+own_cleared : (r : Relation) (w : Width) (imm : ℤ) (bits after : Bits) (p a b : ℕ) → (is_equal r p || is_whole (mask_of imm)) ≡ true → bits_masked (mask_of imm) bits ≡ Some after → AreRelated r bits p a b
+    → AreRelated r after p a (word_result w And b (cast_unsigned w64 imm))
+own_cleared r w imm bits after p a b which e h =
+    let m = bits_are_masked r (mask_of imm) p a b bits after e h in
+    rw m.is (masked_by r (bit_and m.own (mask_of imm)) p a (word_result w And b (cast_unsigned w64 imm)) (cleared_there r w p b (cast_unsigned w64 imm) m.own which ∙ m.alike))
+
+after_and : (r : Relation) (w : Width) (imm : ℤ) (bits after : Bits) (p a b : ℕ) → bits_after w And imm (is_equal r p) bits ≡ Some after → AreRelated r bits p a b
+    → AreRelated r after p a (word_result w And b (cast_unsigned w64 imm))
+after_and r w imm bits after p a b e h = by (is_equal r p || is_whole (mask_of imm)) refl e where
+  by : (t : Bool) → (is_equal r p || is_whole (mask_of imm)) ≡ t → (if t then bits_masked (mask_of imm) bits else None) ≡ Some after → AreRelated r after p a (word_result w And b (cast_unsigned w64 imm))
+  by true q e = own_cleared r w imm bits after p a b q e h
+  by false q e = absurd cc
+
+-- ---- operations on a link's register
+
+sum_low : (r : Relation) (w : Width) (p b c : ℕ) → traced r (wrapped w64 (p + c)) (word_result w Add b c) % 2 ^ 16 ≡ traced r p b % 2 ^ 16
+sum_low Sum W64 p b c = omega arith
+sum_low Sum W32 p b c = omega arith
+sum_low Difference W64 p b c = omega arith
+sum_low Difference W32 p b c = omega arith
+
+pub related_after : (r : Relation) (w : Width) (op : BinOp) (imm : ℤ) (bits after : Bits) (p a b : ℕ) → b < 2 ^ 64 → bits_after w op imm (is_equal r p) bits ≡ Some after → AreRelated r bits p a b
     → AreRelated r after (plus_after op imm p) a (word_result w op b (cast_unsigned w64 imm))
+related_after r w And imm bits after p a b h1 h2 h3 = after_and r w imm bits after p a b h2 h3
+related_after r w Add imm (Masked m) after p a b h1 h2 h3 =
+    let c = cast_unsigned w64 imm in
+    let is : after ≡ Masked m = cc in
+    rw is (masked_by r m (wrapped w64 (p + c)) a (word_result w Add b c)
+    (same_alike (traced r (wrapped w64 (p + c)) (word_result w Add b c)) (traced r p b) m (sum_low r w p b c) ∙ masked_is r m p a b h3))
 related_after r w op imm bits after p a b h1 h2 h3 = grind (arith)
 
 -- a number is taken from a constant
@@ -36,18 +195,87 @@ pub is_less : (w : Width) (c a : ℕ) → a < 2 ^ 64 → AreRelated Difference (
 is_less w c a h1 = grind (arith)
 
 -- a constant is added to the other number
-pub related_moved : (r : Relation) (w : Width) (bits : Bits) (p c a b : ℕ) → c < 2 ^ 64 → AreRelated r bits p a b → AreRelated r (bits_moved w bits) (plus_moved r c p) (word_result w Add a c) b
-related_moved r w bits p c a b h1 h2 = grind (arith)
+added_other : (r : Relation) (w v : Width) (p c a b : ℕ) → c < 2 ^ 64 → AreRelated r (Lowest v) p a b → AreRelated r (Lowest (lesser w v)) (plus_moved r c p) (word_result w Add a c) b
+added_other r w v p c a b h1 h2 = grind (arith)
+
+added_shifted : (r : Relation) (w : Width) (p c a b : ℕ) → c < 2 ^ 64 → AreRelated r Shifted p a b → AreRelated r Shifted (plus_moved r c p) (word_result w Add a c) b
+added_shifted r w p c a b h1 h2 = grind (arith)
+
+moved_byte : (r : Relation) (w : Width) (p c a b : ℕ) → c < 2 ^ 64 → traced r p b % 2 ^ 8 ≡ a % 2 ^ 8 → traced r (plus_moved r c p) b % 2 ^ 8 ≡ word_result w Add a c % 2 ^ 8
+moved_byte Sum W64 p c a b lt h = omega (arith, lt, h)
+moved_byte Sum W32 p c a b lt h = omega (arith, lt, h)
+moved_byte Difference W64 p c a b lt h = omega (arith, lt, h)
+moved_byte Difference W32 p c a b lt h = omega (arith, lt, h)
+
+moved_pair : (r : Relation) (w : Width) (p c a b : ℕ) → c < 2 ^ 64 → traced r p b % 2 ^ 16 ≡ a % 2 ^ 16 → traced r (plus_moved r c p) b % 2 ^ 16 ≡ word_result w Add a c % 2 ^ 16
+moved_pair Sum W64 p c a b lt h = omega (arith, lt, h)
+moved_pair Sum W32 p c a b lt h = omega (arith, lt, h)
+moved_pair Difference W64 p c a b lt h = omega (arith, lt, h)
+moved_pair Difference W32 p c a b lt h = omega (arith, lt, h)
+
+-- those that are alike inside a byte, or two, have the same
+alike_byte : (x y : ℕ) → AreAlike 255 x y → x % 2 ^ 8 ≡ y % 2 ^ 8
+alike_byte x y e =
+    let same : x % 2 ^ 16 % 2 ^ 8 ≡ y % 2 ^ 16 % 2 ^ 8 = sym (and_mask (x % 2 ^ 16) 8) ∙ e ∙ and_mask (y % 2 ^ 16) 8 in
+    omega (arith, same)
+
+alike_pair : (x y : ℕ) → AreAlike 65535 x y → x % 2 ^ 16 ≡ y % 2 ^ 16
+alike_pair x y e =
+    let same : x % 2 ^ 16 % 2 ^ 16 ≡ y % 2 ^ 16 % 2 ^ 16 = sym (and_mask (x % 2 ^ 16) 16) ∙ e ∙ and_mask (y % 2 ^ 16) 16 in
+    omega (arith, same)
+
+whole_moved : (r : Relation) (w : Width) (m p c a b : ℕ) → c < 2 ^ 64 → is_whole m ≡ true → AreAlike m (traced r p b) a → AreAlike m (traced r (plus_moved r c p) b) (word_result w Add a c)
+whole_moved r w m p c a b lt whole h = elim (whole_cases m whole) [
+  | inl is ↦
+      let was : AreAlike 255 (traced r p b) a = subst (λ (d : ℕ). AreAlike d (traced r p b) a) is h in
+      let now = moved_byte r w p c a b lt (alike_byte (traced r p b) a was) in
+      rw is (subst (λ (d : ℕ). AreAlike d (traced r (plus_moved r c p) b) (word_result w Add a c)) (and_self 255) (byte_alike (traced r (plus_moved r c p) b) (word_result w Add a c) 255 255 refl now))
+  | inr is ↦
+      let was : AreAlike 65535 (traced r p b) a = subst (λ (d : ℕ). AreAlike d (traced r p b) a) is h in
+      same_alike (traced r (plus_moved r c p) b) (word_result w Add a c) m (moved_pair r w p c a b lt (alike_pair (traced r p b) a was))
+]
+
+moved_by_sum : (r : Relation) (w : Width) (bits after : Bits) (p c a b : ℕ) → c < 2 ^ 64 → bits_moved w bits ≡ Some after → AreRelated r bits p a b → AreRelated r after (plus_moved r c p) (word_result w Add a c) b
+moved_by_sum r w (Lowest v) after p c a b lt e h = let is : after ≡ Lowest (lesser w v) = cc in rw is (added_other r w v p c a b lt h)
+moved_by_sum r w Shifted after p c a b lt e h = let is : after ≡ Shifted = cc in rw is (added_shifted r w p c a b lt h)
+moved_by_sum r w (Masked m) after p c a b lt e h = by (is_whole m) refl e where
+  by : (t : Bool) → is_whole m ≡ t → (if t then Some (Masked m) else None) ≡ Some after → AreRelated r after (plus_moved r c p) (word_result w Add a c) b
+  by true q e = let is : after ≡ Masked m = cc in rw is (masked_by r m (plus_moved r c p) (word_result w Add a c) b (whole_moved r w m p c a b lt q (masked_is r m p a b h)))
+  by false q e = absurd cc
+
+-- a link that is moved is one with the same register
+pub moved_of : (w : Width) (op : BinOp) (imm : ℤ) (was now : Link) → link_moved w op imm was ≡ Some now → now.of ≡ was.of
+moved_of w Add imm was now e =
+    let made = bind_some (bits_moved w was.bits) (λ (bits : Bits). Some (record was { plus = plus_moved was.relation (cast_unsigned w64 imm) was.plus; bits = bits })) now e in
+    let is : now ≡ record was { plus = plus_moved was.relation (cast_unsigned w64 imm) was.plus; bits = made.0 } = (let s = made.2 in cc) in
+    ap (λ (l : Link). l.of) is
+moved_of w And imm was now e =
+    let made = bind_some (bits_masked (mask_of imm) was.bits) (λ (bits : Bits). Some (record was { bits = bits })) now e in
+    let is : now ≡ record was { bits = made.0 } = (let s = made.2 in cc) in
+    ap (λ (l : Link). l.of) is
+moved_of w op imm was now e = absurd cc
+
+-- the other number is changed by a constant
+pub related_moved : (w : Width) (op : BinOp) (imm : ℤ) (was now : Link) (a b : ℕ) → cast_unsigned w64 imm < 2 ^ 64 → link_moved w op imm was ≡ Some now → AreLinked was a b → AreLinked now (word_result w op a (cast_unsigned w64 imm)) b
+related_moved w Add imm was now a b lt e h =
+    let made = bind_some (bits_moved w was.bits) (λ (bits : Bits). Some (record was { plus = plus_moved was.relation (cast_unsigned w64 imm) was.plus; bits = bits })) now e in
+    let is : now ≡ record was { plus = plus_moved was.relation (cast_unsigned w64 imm) was.plus; bits = made.0 } = (let s = made.2 in cc) in
+    rw is (moved_by_sum was.relation w was.bits made.0 was.plus (cast_unsigned w64 imm) a b lt made.1 h)
+related_moved w And imm was now a b lt e h =
+    let made = bind_some (bits_masked (mask_of imm) was.bits) (λ (bits : Bits). Some (record was { bits = bits })) now e in
+    let is : now ≡ record was { bits = made.0 } = (let s = made.2 in cc) in
+    rw is (other_cleared was.relation w imm was.bits made.0 was.plus a b made.1 h)
+related_moved w op imm was now a b lt e h = absurd cc
 
 same_is : (a b : ℕ) → a ≡ b → (a == b) ≡ true
 same_is a b e = rw e (grind (arith))
 
 -- a number that is linked is what is derived from the other one, and that is what is traced from it
-abbrev derived_word : Relation → Width → ℕ → ℕ → ℕ
+abbrev pub derived_word : Relation → Width → ℕ → ℕ → ℕ
 derived_word Sum w a p = word_result w Add a p
 derived_word Difference w a p = word_result w Sub p a
 
-abbrev traced_word : Relation → Width → ℕ → ℕ → ℕ
+abbrev pub traced_word : Relation → Width → ℕ → ℕ → ℕ
 traced_word Sum w b p = word_result w Sub b p
 traced_word Difference w b p = word_result w Sub p b
 
@@ -212,35 +440,6 @@ module _ (a b c : Links) (x y z : Stack) (registers : List (Option Value)) (cell
         (inr (home_kept (home_at b k) k y z registers cells cells (λ d s few q there. ((number_meets (block_at x d) (block_at y d) (block_at z d) s (meet d few) there).1, refl)) (h k lt).1)),
   )
 
--- ---- a register that holds no number any more
-
-abbrev pub IsNoNumber : Option Value → Type 0
-IsNoNumber None = Unit {0}
-IsNoNumber (Some (Number n)) = ⊥
-IsNoNumber (Some (Address p)) = Unit {0}
-
-no_number : (o : Option Value) (n : ℕ) → IsNoNumber o → o ≡ Some (Number n) → ⊥
-no_number o n h1 h2 = grind (arith)
-
-module _ (links : Links) (stack : Stack) (registers : List (Option Value)) (old new : List Cell) (j : ℕ) (o : Option Value) (inside : j < length registers) (none : IsNoNumber o) (kept : (b : ℕ) (v : Kind) → b < 64 → block_at stack b ≡ block.Whole v → block_cells new b ≡ block_cells old b) where
-  unchanged : (k n : ℕ) → get_or (set registers j o) k None ≡ Some (Number n) → get_or registers k None ≡ Some (Number n)
-  unchanged k n e =
-      elim (cases_eq k j) [
-        | inl q ↦ absurd (no_number o n none (sym (get_or-set_same registers j o None inside) ∙ ap (λ (i : ℕ). get_or (set registers j o) i None) (sym q) ∙ e))
-        | inr ne ↦ sym (get_or-set_other registers j k o None ne) ∙ e
-      ]
-
-  link_unchanged : (l : Option Link) (k : ℕ) → LinkHolds l k registers → LinkHolds l k (set registers j o)
-  link_unchanged None k h = tt
-  link_unchanged (Some link) k h = λ a b p q. h a b (unchanged (reg_number link.of) a p) (unchanged k b q)
-
-  home_unchanged : (l : Option ℕ) (k : ℕ) → HomeHolds l k stack registers old → HomeHolds l k stack (set registers j o) new
-  home_unchanged None k h = tt
-  home_unchanged (Some b) k h = λ a n lt there is. kept b (kind.Number a) lt there ∙ h a n lt there (unchanged k n is)
-
-  pub changed_holds : LinksHold false links stack registers old → LinksHold false links stack (set registers j o) new
-  changed_holds h = λ k lt. (link_unchanged (link_at links k) k (h k lt).0, home_unchanged (home_at links k) k (h k lt).1)
-
 -- ---- a link that is made
 
 pub chosen : {A : Type 0} (k n : ℕ) (x y : A) → k ≡ n → (if k == n then x else y) ≡ x
@@ -340,7 +539,7 @@ abbrev pub IsJoinedWith : {A : Type 0} → List (Option A) → ℕ → Option A 
 IsJoinedWith other k old new = IsLinkJoin old (get_or other k None) new
 
 -- what those that are moved are, and what is set over others
-abbrev pub IsMovedFrom : RegNo → Width × ℤ → ℕ → Option Link → Option Link → Type 0
+abbrev pub IsMovedFrom : RegNo → Width × BinOp × ℤ → ℕ → Option Link → Option Link → Type 0
 IsMovedFrom dst by k old new = new ≡ moved_from dst by k old
 
 abbrev pub IsSetOver : Links → ℕ → Option Link → Option Link → Type 0
@@ -391,10 +590,86 @@ module _ (link : Link) (w : Width) (lowest : link.bits ≡ Lowest w) (plus : Sca
     pub traced_met : (r : Scalar) → IsEqualKept w a traced (Some r) → (x y : ℕ) → InScalar a x → InScalar b y → AreLinked link x y → InScalar r x
     traced_met r h x y at_a at_b l = h x (traced_word link.relation w y link.plus) at_a (traced_in link.relation w b plus traced given y link.plus at_b is_plus) (traces x y at_a at_b l)
 
--- ---- numbers that others cover
-
 pub same_holds : (w : Width) (x : ℕ) → word_holds w Eq x x ≡ true
 same_holds w x = grind (arith)
+
+-- ---- numbers that are linked in the bits of a mask
+
+low_and : (x m : ℕ) → m < 2 ^ 16 → bit_and x m ≡ bit_and (x % 2 ^ 16) m
+low_and x m lt =
+    let inside : bit_and 65535 m ≡ m = and_comm 65535 m ∙ and_mask m 16 ∙ omega (arith, lt) in
+    sym (ap (bit_and x) inside) ∙ sym (and_assoc m x 65535) ∙ ap (λ (y : ℕ). bit_and y m) (and_mask x 16)
+
+-- a number that has its own bits outside a mask, and such as are the same inside
+mixed_is : (m x y : ℕ) → m < 2 ^ 64 → y < 2 ^ 64 → bit_and x m ≡ bit_and y m → word_result W64 Add (word_result W64 And x m) (word_result W64 And y (bit_not w64 m)) ≡ y
+mixed_is m x y fits word same =
+    let split : bit_and (bit_not w64 m) y + bit_and m y ≡ y = and-not 64 m y fits word in
+    let left : bit_and x m ≡ bit_and m y = same ∙ and_comm y m in
+    let right : bit_and y (bit_not w64 m) ≡ bit_and (bit_not w64 m) y = and_comm y (bit_not w64 m) in
+    omega (arith, split, left, right, word)
+
+shown : (a : Scalar) (n : ℕ) → ShowsOne a n → InScalar a n
+shown a n h = (shows_one a n h n).1 refl
+
+mixed_in : (m : ℕ) (inside outside mixed : Scalar) → IsMixed m inside outside mixed → (x y : ℕ) → m < 2 ^ 64 → y < 2 ^ 64 → InScalar inside x → InScalar outside y → bit_and x m ≡ bit_and y m → InScalar mixed y
+mixed_in m inside outside mixed h x y fits word at_in at_out same =
+    let low = h.is_low.sound x m at_in (shown h.mask m h.is_mask) in
+    let high = h.is_high.sound y (bit_not w64 m) at_out (shown h.rest (bit_not w64 m) h.is_rest) in
+    subst (InScalar mixed) (mixed_is m x y fits word same) (h.is_sum.sound (word_result W64 And x m) (word_result W64 And y (bit_not w64 m)) low high)
+
+traced_so : (r : Relation) (p y : ℕ) → p < 2 ^ 64 → y < 2 ^ 64 → traced r p y ≡ traced_word r W64 y p
+traced_so Sum p y h1 h2 = omega (arith, h1, h2)
+traced_so Difference p y h1 h2 = omega (arith, h1, h2)
+
+traced_fits : (r : Relation) (p y : ℕ) → traced_word r W64 y p < 2 ^ 64
+traced_fits Sum p y = omega arith
+traced_fits Difference p y = omega arith
+
+traced_back : (r : Relation) (p y : ℕ) → p < 2 ^ 64 → y < 2 ^ 64 → derived_word r W64 (traced_word r W64 y p) p ≡ y
+traced_back Sum p y h1 h2 = omega (arith, h1, h2)
+traced_back Difference p y h1 h2 = omega (arith, h1, h2)
+
+module _ (link : Link) (m : ℕ) (masked : link.bits ≡ Masked m) (few : m < 2 ^ 16) (plus : Scalar) (is_plus : InScalar plus link.plus) (a b from : Scalar) (given : IsTraced link.relation W64 b plus from) where
+  wide : m < 2 ^ 64
+  wide = omega (arith, few)
+
+  module _ (x y : ℕ) (at_b : InScalar b y) (l : AreLinked link x y) where
+    abbrev back_word : ℕ
+    back_word = traced_word link.relation W64 y link.plus
+
+    from_at : InScalar from back_word
+    from_at = traced_in link.relation W64 b plus from given y link.plus at_b is_plus
+
+    same_bits : bit_and back_word m ≡ bit_and x m
+    same_bits =
+        let alike : AreAlike m (traced link.relation link.plus y) x = masked_is link.relation m link.plus x y (subst (λ (bits : Bits). AreRelated link.relation bits link.plus x y) masked l) in
+        let is = traced_so link.relation link.plus y (InScalar-words plus link.plus is_plus) (InScalar-words b y at_b) in
+        ap (λ (t : ℕ). bit_and t m) (sym is) ∙ low_and (traced link.relation link.plus y) m few ∙ alike ∙ sym (low_and x m few)
+
+  module _ (among : Scalar) (mixes : IsMixed m from a among) where
+    among_at : (x y : ℕ) → InScalar a x → InScalar b y → AreLinked link x y → InScalar among x
+    among_at x y at_a at_b l = mixed_in m from a among mixes (back_word x y at_b l) x wide (InScalar-words a x at_a) (from_at x y at_b l) at_a (same_bits x y at_b l)
+
+    pub none_among : IsEqualKept W64 a among None → (x y : ℕ) → InScalar a x → InScalar b y → AreLinked link x y → ⊥
+    none_among h x y at_a at_b l = h x x at_a (among_at x y at_a at_b l) (same_holds W64 x)
+
+    pub among_met : (r : Scalar) → IsEqualKept W64 a among (Some r) → (x y : ℕ) → InScalar a x → InScalar b y → AreLinked link x y → InScalar r x
+    among_met r h x y at_a at_b l = h x x at_a (among_at x y at_a at_b l) (same_holds W64 x)
+
+  module _ (c back derived : Scalar) (mixes : IsMixed m c from back) (gives : IsDerived link.relation W64 back plus derived) where
+    derived_at : (x y : ℕ) → InScalar c x → InScalar b y → AreLinked link x y → InScalar derived y
+    derived_at x y at_c at_b l =
+        let t = back_word x y at_b l in
+        let there = mixed_in m c from back mixes x t wide (traced_fits link.relation link.plus y) at_c (from_at x y at_b l) (sym (same_bits x y at_b l)) in
+        subst (InScalar derived) (traced_back link.relation link.plus y (InScalar-words plus link.plus is_plus) (InScalar-words b y at_b)) (derived_in link.relation W64 back plus derived gives t link.plus there is_plus)
+
+    pub none_back : IsEqualKept W64 b derived None → (x y : ℕ) → InScalar c x → InScalar b y → AreLinked link x y → ⊥
+    none_back h x y at_c at_b l = h y y at_b (derived_at x y at_c at_b l) (same_holds W64 y)
+
+    pub back_met : (r : Scalar) → IsEqualKept W64 b derived (Some r) → (x y : ℕ) → InScalar c x → InScalar b y → AreLinked link x y → InScalar r y
+    back_met r h x y at_c at_b l = h y y at_b (derived_at x y at_c at_b l) (same_holds W64 y)
+
+-- ---- numbers that others cover
 
 -- a set in which there is a number is left as it is by one that it is within
 pub within_narrowed : (w : Width) (a b : Scalar) (n : ℕ) → InScalar a n → IsWithin InScalar a b → AreNarrowed (record { cond = Eq; width = w; taken = true }) a b (a, a)

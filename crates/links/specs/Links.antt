@@ -1,8 +1,8 @@
 -- Registers whose number is another's plus a constant or a constant less another's, or stands in a block of the stack, too; and what
 -- instructions leave of that.
-use Rattle.std.specs.Prelude.{◌≡◌, ◌⊎◌, ℕ, ◌+◌, ◌-◌, ◌*◌, ◌^◌, ◌<◌, ◌==◌, ◌||◌, ◌&&◌, not, ℤ, pos, List, slice_index_or, Bool, true, false, if◌then◌else◌, Option, Some, None}
-use Rattle.links.specs.Names.{RegNo, BinOp, Add, Sub, Lsh, Rsh, Mov, Arsh, Width, W32, W64, Operand, Reg, Imm, Action, Operate, Value, Number, reg_number, ◌>>=◌, value_of, int_width, wrapped, Kind, Bits}
-use Rattle.links.specs.Names.{Lowest, Shifted, Relation, Sum, Difference, Cell, Scalar, block_at}
+use Rattle.std.specs.Prelude.{◌≡◌, ◌⊎◌, ℕ, ◌+◌, ◌-◌, ◌*◌, ◌^◌, ◌<◌, ◌==◌, ◌||◌, ◌&&◌, not, bit_and, ◌%◌, ℤ, pos, List, slice_index_or, Bool, true, false, if◌then◌else◌, Option, Some, None}
+use Rattle.links.specs.Names.{RegNo, BinOp, Add, Sub, And, Lsh, Rsh, Mov, Arsh, Width, W32, W64, Operand, Reg, Imm, Action, Operate, Value, Number, reg_number, ◌>>=◌, value_of, int_width, wrapped, Kind, Bits}
+use Rattle.links.specs.Names.{Lowest, Shifted, Masked, Relation, Sum, Difference, Cell, Scalar, block_at}
 use Rattle.std.specs.Int.{w64, cast_unsigned}
 use Rattle.std.specs.Option.{option_or}
 use Rattle.std.specs.Ordering.{int_eq}
@@ -16,12 +16,23 @@ use Rattle.links.specs.declared.link.Links.{Links}
 use Rattle.links.specs.declared.link.Turn.{Turn}
 use Rattle.links.specs.declared.link.Turn.TheVariants.{Left, Right, Others}
 
+-- the number to which another one is traced by a relation and a constant
+abbrev pub traced : Relation → ℕ → ℕ → ℕ
+traced Sum plus b = wrapped w64 (b + (2 ^ 64 - wrapped w64 plus))
+traced Difference plus b = wrapped w64 (plus + (2 ^ 64 - wrapped w64 b))
+
+-- two numbers have the same bits inside a mask of two bytes
+abbrev pub AreAlike : ℕ → ℕ → ℕ → Type 0
+AreAlike m x y = bit_and (x % 2 ^ 16) m ≡ bit_and (y % 2 ^ 16) m
+
 -- In the bits of a width b is a plus the constant, or with a it comes to the constant; or it is so of b and of the other two
--- shifted by half a word.
+-- shifted by half a word; or a is in the bits of a mask what b is traced to.
 abbrev pub AreRelated : Relation → Bits → ℕ → ℕ → ℕ → Type 0
 AreRelated Sum (Lowest w) plus a b = wrapped (int_width w) b ≡ wrapped (int_width w) (a + plus)
+AreRelated Sum (Masked m) plus a b = AreAlike m (traced Sum plus b) a
 AreRelated Sum Shifted plus a b = wrapped w64 b ≡ wrapped w64 (2 ^ 32 * (a + plus))
 AreRelated Difference (Lowest w) plus a b = wrapped (int_width w) (a + b) ≡ wrapped (int_width w) plus
+AreRelated Difference (Masked m) plus a b = AreAlike m (traced Difference plus b) a
 AreRelated Difference Shifted plus a b = wrapped w64 (2 ^ 32 * a + b) ≡ wrapped w64 (2 ^ 32 * plus)
 
 abbrev pub AreLinked : Link → ℕ → ℕ → Type 0
@@ -106,18 +117,39 @@ copied of width = record { of = of; relation = Sum; plus = 0; bits = Lowest widt
 abbrev pub less : ℕ → RegNo → Width → Link
 less plus of width = record { of = of; relation = Difference; plus = plus; bits = Lowest width }
 
--- the bits that a link tells after an operation on its register and a constant: a sum's in both widths, those shifted up by half a
--- word, and their low half when they are shifted back
+-- the bits of a byte, or of two: those of a sum are told by the same ones of its terms
+abbrev pub is_whole : ℕ → Bool
+is_whole m = m == 255 || m == 65535
+
+-- the two lowest bytes of a constant
+abbrev pub mask_of : ℤ → ℕ
+mask_of imm = cast_unsigned w64 imm % 2 ^ 16
+
+-- two numbers that are equal in the bits that a link tells
+abbrev pub is_equal : Relation → ℕ → Bool
+is_equal Sum plus = plus == 0
+is_equal Difference plus = false
+
+-- the bits that a link tells once all but those of a mask are cleared in one of its registers
+abbrev pub bits_masked : ℕ → Bits → Option Bits
+bits_masked m (Lowest v) = Some (Masked m)
+bits_masked m (Masked own) = Some (Masked (bit_and own m))
+bits_masked m Shifted = None
+
+-- the bits that a link tells after an operation on its register and a constant: a sum's in both widths, those of a mask, those
+-- shifted up by half a word, and their low half when they are shifted back
 abbrev pub lesser : Width → Width → Width
 lesser W32 width = W32
 lesser W64 width = width
 
-abbrev pub bits_after : Width → BinOp → ℤ → Bits → Option Bits
-bits_after w Add imm (Lowest v) = Some (Lowest (lesser w v))
-bits_after W64 Lsh imm (Lowest v) = if int_eq imm (pos 32) then Some Shifted else None
-bits_after W64 Rsh imm Shifted = if int_eq imm (pos 32) then Some (Lowest W32) else None
-bits_after W64 Arsh imm Shifted = if int_eq imm (pos 32) then Some (Lowest W32) else None
-bits_after w op imm bits = None
+abbrev pub bits_after : Width → BinOp → ℤ → Bool → Bits → Option Bits
+bits_after w Add imm equal (Lowest v) = Some (Lowest (lesser w v))
+bits_after w Add imm equal (Masked m) = Some (Masked m)
+bits_after w And imm equal bits = if equal || is_whole (mask_of imm) then bits_masked (mask_of imm) bits else None
+bits_after W64 Lsh imm equal (Lowest v) = if int_eq imm (pos 32) then Some Shifted else None
+bits_after W64 Rsh imm equal Shifted = if int_eq imm (pos 32) then Some (Lowest W32) else None
+bits_after W64 Arsh imm equal Shifted = if int_eq imm (pos 32) then Some (Lowest W32) else None
+bits_after w op imm equal bits = None
 
 -- its constant
 abbrev pub plus_after : BinOp → ℤ → ℕ → ℕ
@@ -126,7 +158,7 @@ plus_after op imm plus = plus
 
 abbrev pub link_after : Width → BinOp → ℤ → Link → Option Link
 link_after w op imm link = do
-  bits ← bits_after w op imm link.bits
+  bits ← bits_after w op imm (is_equal link.relation link.plus) link.bits
   Some (record link { plus = plus_after op imm link.plus; bits = bits })
 
 -- a link of a register, unless it is one with itself
@@ -156,33 +188,43 @@ link_made registers links (Operate w Sub dst (Reg src)) = difference_made w dst 
 link_made registers links (Operate w op dst (Imm imm)) = link_kept dst (w, op, imm) (link_at links (reg_number dst))
 link_made registers links action = None
 
--- ---- a constant is added to the other register of a link
+-- ---- a constant is added to the other register of a link, or masks it
 
-abbrev pub bits_moved : Width → Bits → Bits
-bits_moved w (Lowest v) = Lowest (lesser w v)
-bits_moved w Shifted = Shifted
+abbrev pub bits_moved : Width → Bits → Option Bits
+bits_moved w (Lowest v) = Some (Lowest (lesser w v))
+bits_moved w Shifted = Some Shifted
+bits_moved w (Masked m) = if is_whole m then Some (Masked m) else None
 
 abbrev pub plus_moved : Relation → ℕ → ℕ → ℕ
 plus_moved Sum c plus = wrapped w64 (plus + (2 ^ 64 - c))
 plus_moved Difference c plus = wrapped w64 (plus + c)
 
--- that register was what it is less the constant, and so the link is moved against it
-abbrev pub link_moved : Width → ℤ → Link → Link
-link_moved w imm link = record link { plus = plus_moved link.relation (cast_unsigned w64 imm) link.plus; bits = bits_moved w link.bits }
+-- that register was what it is less the constant, and so the link is moved against it; or it had the bits of the mask already
+abbrev pub link_moved : Width → BinOp → ℤ → Link → Option Link
+link_moved w Add imm link = do
+  bits ← bits_moved w link.bits
+  Some (record link { plus = plus_moved link.relation (cast_unsigned w64 imm) link.plus; bits = bits })
+link_moved w And imm link = do
+  bits ← bits_masked (mask_of imm) link.bits
+  Some (record link { bits = bits })
+link_moved w op imm link = None
 
--- what becomes of a link of register k where a constant is added to a register; None where it is none with that
-abbrev pub moved_from : RegNo → Width × ℤ → ℕ → Option Link → Option Link
+-- what becomes of a link of register k where a register is changed by a constant; None where it is none with that
+abbrev pub moved_from : RegNo → Width × BinOp × ℤ → ℕ → Option Link → Option Link
 moved_from dst by k None = None
-moved_from dst by k (Some link) = if reg_number dst == k then None else if reg_number dst == reg_number link.of then Some (link_moved by.0 by.1 link) else None
+moved_from dst by k (Some link) =
+    if reg_number dst == k then None else if reg_number dst == reg_number link.of then link_moved by.0 by.1 by.2 link else None
 
 abbrev pub moved_by : Action → ℕ → Option Link → Option Link
-moved_by (Operate w Add dst (Imm imm)) k link = moved_from dst (w, imm) k link
+moved_by (Operate w Add dst (Imm imm)) k link = moved_from dst (w, Add, imm) k link
+moved_by (Operate w And dst (Imm imm)) k link = moved_from dst (w, And, imm) k link
 moved_by action k link = None
 
--- an instruction adds a constant to a register; no other one moves links
-abbrev pub AddsConstant : Action → Type 0
-AddsConstant (Operate w Add dst (Imm imm)) = Unit {0}
-AddsConstant action = ⊥
+-- an instruction adds a constant to a register, or masks it; no other one moves links
+abbrev pub AddsOrMasks : Action → Type 0
+AddsOrMasks (Operate w Add dst (Imm imm)) = Unit {0}
+AddsOrMasks (Operate w And dst (Imm imm)) = Unit {0}
+AddsOrMasks action = ⊥
 
 -- the link of register k among those that are moved, if any are
 abbrev pub links_in : Option Links → ℕ → Option Link

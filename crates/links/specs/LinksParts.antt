@@ -1,5 +1,5 @@
 -- Beside Links: only the contracts of this crate's own parts and their proofs cite this, and those of what is known, no public clause.
-use Rattle.std.specs.Prelude.{◌≡◌, ℕ, true, false, Option, Some, None}
+use Rattle.std.specs.Prelude.{ℕ, true, false, Option, Some, None}
 use Rattle.links.specs.Names.{Eq, Width, Value, Scalar, InScalar, Kind, RegFits, Link}
 use Rattle.range.specs.Conditions.{HasAnswer}
 use Rattle.links.specs.Links.{AreLinked, AreValuesLinked}

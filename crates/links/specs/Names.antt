@@ -7,7 +7,7 @@ pub use Rattle.insn.specs.declared.action.Action.TheVariants.{Operate}
 pub use Rattle.insn.specs.declared.instruction.Operand.{Operand}
 pub use Rattle.insn.specs.declared.instruction.Operand.TheVariants.{Reg, Imm}
 pub use Rattle.insn.specs.declared.operation.BinOp.{BinOp}
-pub use Rattle.insn.specs.declared.operation.BinOp.TheVariants.{Add, Sub, Lsh, Rsh, Mov, Arsh}
+pub use Rattle.insn.specs.declared.operation.BinOp.TheVariants.{Add, Sub, And, Lsh, Rsh, Mov, Arsh}
 pub use Rattle.insn.specs.declared.operation.Cond.TheVariants.{Eq}
 pub use Rattle.insn.specs.declared.operation.Width.{Width}
 pub use Rattle.insn.specs.declared.operation.Width.TheVariants.{W64, W32}
@@ -21,7 +21,7 @@ pub use Rattle.scalar.specs.Members.{InScalar, ShowsOne}
 pub use Rattle.scalar.specs.declared.scalar.Scalar.{Scalar}
 pub use Rattle.stack_state.specs.Fits.{block_at}
 pub use Rattle.links.specs.declared.link.Bits.{Bits}
-pub use Rattle.links.specs.declared.link.Bits.TheVariants.{Lowest, Shifted}
+pub use Rattle.links.specs.declared.link.Bits.TheVariants.{Lowest, Shifted, Masked}
 pub use Rattle.links.specs.declared.link.Relation.{Relation}
 pub use Rattle.links.specs.declared.link.Relation.TheVariants.{Sum, Difference}
 pub use Rattle.links.specs.declared.link.Link.{Link}

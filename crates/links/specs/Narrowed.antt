@@ -1,6 +1,7 @@
 -- What a link leaves of what is known of its two registers, and a home and its register of each other.
-use Rattle.std.specs.Prelude.{◌≡◌, true}
-use Rattle.links.specs.Names.{BinOp, Add, Sub, Eq, Width, W64, Scalar, InScalar, ShowsOne, Kind, Bits, Lowest, Shifted, Relation, Sum, Difference, Link}
+use Rattle.std.specs.Prelude.{◌≡◌, ◌⊎◌, ℕ, true}
+use Rattle.std.specs.Int.{w64, bit_not}
+use Rattle.links.specs.Names.{BinOp, Add, Sub, And, Eq, Width, W64, Scalar, InScalar, ShowsOne, Kind, Bits, Lowest, Shifted, Masked, Relation, Sum, Difference, Link}
 use Rattle.range.specs.Domain.{IsSingleResult, IsSoundResult}
 use Rattle.scalar.specs.Narrowed.{AreNarrowed, LiesInLeastSum}
 use Rattle.reg_kind.specs.declared.reg.Reg.TheVariants as kind
@@ -37,8 +38,48 @@ pub record AreLowestNarrowed (link : Link) (w : Width) (a b : Scalar) (r : Scala
   pub is_traced : IsTraced link.relation w r.1 plus traced
   pub first : IsNarrowedTo w a traced r.0
 
+-- the numbers that have some numbers' bits inside a mask, and others' outside
+pub record IsMixed (m : ℕ) (inside outside mixed : Scalar) : Type 0 where
+  pub mask : Scalar
+  pub is_mask : ShowsOne mask m
+  pub rest : Scalar
+  pub is_rest : ShowsOne rest (bit_not w64 m)
+  pub low : Scalar
+  pub is_low : IsGivenBy And W64 inside mask low
+  pub high : Scalar
+  pub is_high : IsGivenBy And W64 outside rest high
+  pub is_sum : IsGivenBy Add W64 low high mixed
+
+-- of the first is left what has inside a mask the bits of a number that is traced from the second
+pub record IsOtherNarrowed (m : ℕ) (traced a b : Scalar) (r : Scalar × Scalar) : Type 0 where
+  pub mixed : Scalar
+  pub is_mixed : IsMixed m traced a mixed
+  pub other : IsNarrowedTo W64 a mixed r.0
+  pub own : r.1 ≡ b
+
+-- where such numbers may have none of these bits, or all: of the second is left what may equal one that is derived from such as have
+-- inside the mask the bits of the first
+pub record IsOwnNarrowed (link : Link) (m : ℕ) (plus traced a b : Scalar) (r : Scalar × Scalar) : Type 0 where
+  pub none : InScalar traced 0
+  pub all : InScalar traced m
+  pub back : Scalar
+  pub is_back : IsMixed m a traced back
+  pub derived : Scalar
+  pub is_derived : IsDerived link.relation W64 back plus derived
+  pub own : IsNarrowedTo W64 b derived r.1
+  pub other : r.0 ≡ a
+
+-- what a link leaves that tells the bits of a mask
+pub record AreMaskNarrowed (link : Link) (m : ℕ) (a b : Scalar) (r : Scalar × Scalar) : Type 0 where
+  pub plus : Scalar
+  pub is_plus : ShowsOne plus link.plus
+  pub traced : Scalar
+  pub is_traced : IsTraced link.relation W64 b plus traced
+  pub one : IsOtherNarrowed m traced a b r ⊎ IsOwnNarrowed link m plus traced a b r
+
 -- what a link leaves: both as they are, while its bits are shifted
 abbrev pub AreNarrowedIn : Bits → Link → Scalar → Scalar → Scalar × Scalar → Type 0
+AreNarrowedIn (Masked m) link a b r = AreMaskNarrowed link m a b r
 AreNarrowedIn (Lowest w) link a b r = AreLowestNarrowed link w a b r
 AreNarrowedIn Shifted link a b r = r ≡ (a, b)
 

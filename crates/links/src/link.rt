@@ -1,11 +1,11 @@
 //! Registers whose number is another's plus a constant, or a constant less another's, or stands in a block of the stack, too.
 
 ghost use Rattle.std.specs.Option.{option_or};
-ghost use Rattle.std.specs.Prelude.{◌≡◌, ◌<◌, ℕ, None, Some, if◌then◌else◌, IfSome, length, slice_index_or, false, true};
+ghost use Rattle.std.specs.Prelude.{◌≡◌, ◌↔◌, ◌<◌, ℕ, None, Some, if◌then◌else◌, IfSome, length, slice_index_or, false, true};
 ghost use Rattle.insn.specs.Instruction.{reg_number};
-ghost use Rattle.links.specs.Links.{AddsConstant, AreHomeless, AreHomesLeft, AreLeft, AreLinksJoined, AreMade, IsLinkJoin, bits_moved, home_at, home_unless as spec_home_unless, link_moved, links_in, moved_by, moved_from as spec_moved_from, plus_moved as spec_plus_moved, bits_after, copied, difference_made, has_turn as spec_has_turn, joins as spec_joins, less, lesser, link_after, link_at, link_kept, link_left, link_made, link_of as spec_link_of, with_turn as spec_with_turn};
+ghost use Rattle.links.specs.Links.{AddsOrMasks, AreHomeless, AreHomesLeft, AreLeft, AreLinksJoined, AreMade, IsLinkJoin, bits_masked, bits_moved, is_equal as spec_is_equal, is_whole as spec_is_whole, mask_of as spec_mask_of, home_at, home_unless as spec_home_unless, link_moved, links_in, moved_by, moved_from as spec_moved_from, plus_moved as spec_plus_moved, bits_after, copied, difference_made, has_turn as spec_has_turn, joins as spec_joins, less, lesser, link_after, link_at, link_kept, link_left, link_made, link_of as spec_link_of, with_turn as spec_with_turn};
 ghost use Rattle.links.specs.LinksParts.{AreNumbersRefined, AreSameKept, IsEqualKept, IsLinkRefined};
-ghost use Rattle.links.specs.Narrowed.{AreLinkNarrowed, AreSameNarrowed, IsDerived, IsLinkNarrowed, IsNarrowedTo, IsTraced};
+ghost use Rattle.links.specs.Narrowed.{AreLinkNarrowed, AreLowestNarrowed, AreMaskNarrowed, IsMixed, AreSameNarrowed, IsDerived, IsLinkNarrowed, IsNarrowedTo, IsTraced};
 
 use insn::action::Action;
 use insn::instruction::Operand;
@@ -63,15 +63,27 @@ pub enum Bits {
     Lowest(Width),
     /// All: those of the low half have been shifted to the upper one, and below them are zeros.
     Shifted,
+    /// Those of a mask, of the other one's number and of the one that this one's is traced to.
+    Masked(u16),
 }
 
 impl Bits {
+    /// Whether they are others.
+    fn are(self, others: Bits) -> bool
+        ensures { result ≡ true ↔ self ≡ others }
+    {
+        self == others
+    }
+
     /// Which it tells after an operation on the register and a constant; `None` where it is lost.
-    fn after_operation(self, width: Width, op: BinOp, imm: i32) -> Option<Bits>
-        ensures { result ≡ bits_after width op imm self }
+    /// The two numbers may be equal in them.
+    fn after_operation(self, width: Width, op: BinOp, imm: i32, equal: bool) -> Option<Bits>
+        ensures { result ≡ bits_after width op imm equal self }
     {
         match (width, op, self) {
             (_, BinOp::Add, Bits::Lowest(own)) => Some(Bits::Lowest(lesser_width(width, own))),
+            (_, BinOp::Add, Bits::Masked(_)) => Some(self),
+            (_, BinOp::And, _) if equal || is_whole(mask_of(imm)) => self.masked(mask_of(imm)),
             (Width::W64, BinOp::Lsh, Bits::Lowest(_)) if imm == 32 => Some(Bits::Shifted),
             (Width::W64, BinOp::Rsh | BinOp::Arsh, Bits::Shifted) if imm == 32 => {
                 Some(Bits::Lowest(Width::W32))
@@ -80,15 +92,41 @@ impl Bits {
         }
     }
 
-    /// Which it tells once a constant is added to the other register.
-    fn moved(self, width: Width) -> Bits
+    /// Which it tells once a constant is added to the other register; `None` where it is lost.
+    fn moved(self, width: Width) -> Option<Bits>
         ensures { result ≡ bits_moved width self }
     {
         match self {
-            Bits::Lowest(own) => Bits::Lowest(lesser_width(width, own)),
-            Bits::Shifted => Bits::Shifted,
+            Bits::Lowest(own) => Some(Bits::Lowest(lesser_width(width, own))),
+            Bits::Masked(mask) if !is_whole(mask) => None,
+            _ => Some(self),
         }
     }
+
+    /// Which it tells once all but those of a mask are cleared in either register; `None` where it is lost.
+    fn masked(self, mask: u16) -> Option<Bits>
+        ensures { result ≡ bits_masked mask self }
+    {
+        match self {
+            Bits::Lowest(_) => Some(Bits::Masked(mask)),
+            Bits::Masked(own) => Some(Bits::Masked(own & mask)),
+            Bits::Shifted => None,
+        }
+    }
+}
+
+/// Whether a mask has the bits of a byte, or of two: what is left in them of a sum, its terms' bits tell that.
+fn is_whole(mask: u16) -> bool
+    ensures { result ≡ spec_is_whole mask }
+{
+    mask == 0xff || mask == 0xffff
+}
+
+/// The two lowest bytes of a constant.
+fn mask_of(imm: i32) -> u16
+    ensures { result ≡ spec_mask_of imm }
+{
+    (i64::from(imm).cast_unsigned() % 0x1_0000) as u16
 }
 
 /// The lesser one of two widths.
@@ -113,7 +151,7 @@ pub enum Turn {
 }
 
 /// In some bits a register's number is another's plus a constant, or a constant less another's.
-#[derive(Clone, Copy, PartialEq, Eq)]
+#[derive(Clone, Copy)]
 pub struct Link {
     pub of: RegNo,
     relation: Relation,
@@ -146,11 +184,21 @@ impl Link {
         }
     }
 
+    /// Whether the numbers are equal in the bits that it tells.
+    fn is_equal(self) -> bool
+        ensures { result ≡ spec_is_equal self.relation self.plus }
+    {
+        match self.relation {
+            Relation::Sum => self.plus == 0,
+            Relation::Difference => false,
+        }
+    }
+
     /// The link after an operation on its register and a constant; `None` where it is lost.
     fn after_operation(self, width: Width, op: BinOp, imm: i32) -> Option<Link>
         ensures { result ≡ link_after width op imm self }
     {
-        let bits = self.bits.after_operation(width, op, imm)?;
+        let bits = self.bits.after_operation(width, op, imm, self.is_equal())?;
         let plus = match op {
             BinOp::Add => self.plus.wrapping_add(i64::from(imm).cast_unsigned()),
             _ => self.plus,
@@ -158,26 +206,38 @@ impl Link {
         Some(Link { plus, bits, ..self })
     }
 
-    /// The link once a constant is added to the other register.
-    fn moved(self, width: Width, imm: i32) -> Link
-        ensures { result ≡ link_moved width imm self }
+    /// The link once a constant is added to the other register, or masks it; `None` where it is lost.
+    fn moved(self, width: Width, op: BinOp, imm: i32) -> Option<Link>
+        ensures { result ≡ link_moved width op imm self }
     {
-        let added = i64::from(imm).cast_unsigned();
-        Link {
-            plus: self.relation.plus_moved(self.plus, added),
-            bits: self.bits.moved(width),
-            ..self
+        match op {
+            BinOp::Add => {
+                let bits = self.bits.moved(width)?;
+                let added = i64::from(imm).cast_unsigned();
+                let plus = self.relation.plus_moved(self.plus, added);
+                Some(Link { plus, bits, ..self })
+            }
+            BinOp::And => {
+                let bits = self.bits.masked(mask_of(imm))?;
+                Some(Link { bits, ..self })
+            }
+            _ => None,
         }
     }
 
-    /// A register's link once a constant is added to another register; `None` where it is none with that.
-    fn moved_from(link: Option<Link>, dst: RegNo, by: (Width, i32), number: usize) -> Option<Link>
+    /// A register's link once a constant is added to another register, or masks it; `None` where it is none with that.
+    fn moved_from(
+        link: Option<Link>,
+        dst: RegNo,
+        by: (Width, BinOp, i32),
+        number: usize,
+    ) -> Option<Link>
         ensures { result ≡ spec_moved_from dst by number link }
     {
         let link = link?;
         let dst = dst.number();
         if dst != number && dst == link.of.number() {
-            Some(link.moved(by.0, by.1))
+            link.moved(by.0, by.1, by.2)
         } else {
             None
         }
@@ -199,9 +259,19 @@ impl Link {
         ensures { IsLinkJoin a b result }
     {
         match (a, b) {
-            (Some(one), Some(other)) if one == other => a,
+            (Some(one), Some(other)) if one.is(other) => a,
             _ => None,
         }
+    }
+
+    /// Whether it is another one.
+    fn is(self, other: Link) -> bool
+        ensures { result ≡ true ↔ self ≡ other }
+    {
+        self.bits.are(other.bits)
+            && self.of == other.of
+            && self.relation == other.relation
+            && self.plus == other.plus
     }
 
     /// Whether a link of a register joins another one, or this is its own: then it is lost when that is written.
@@ -235,9 +305,38 @@ impl Link {
         ensures right { AreNumbersRefined self a b result }
         ensures narrowed { IfSome result (AreLinkNarrowed self a b) }
     {
-        let Bits::Lowest(width) = self.bits else {
+        match self.bits {
+            Bits::Lowest(width) => self.refine_lowest(width, a, b),
+            Bits::Masked(mask) => self.refine_masked(mask, a, b),
+            Bits::Shifted => Some((a, b)),
+        }
+    }
+
+    /// The same, by the bits of a mask: of the other number, where the register's tells something of them, and else of that.
+    fn refine_masked(self, mask: u16, a: Scalar, b: Scalar) -> Option<(Scalar, Scalar)>
+        requires { self.bits ≡ Bits.Masked mask }
+        ensures right { AreNumbersRefined self a b result }
+        ensures narrowed { IfSome result (AreMaskNarrowed self mask a b) }
+    {
+        let plus = Scalar::exact(self.plus);
+        let traced = self.relation.trace(Width::W64, b, plus);
+        if traced.has(0) && traced.has(u64::from(mask)) {
+            let back = mixed(mask, a, traced);
+            let derived = self.relation.derive(Width::W64, back, plus);
+            let b = narrowed_to(Width::W64, b, derived)?;
             return Some((a, b));
-        };
+        }
+        let among = mixed(mask, traced, a);
+        let a = narrowed_to(Width::W64, a, among)?;
+        Some((a, b))
+    }
+
+    /// The same, by the lowest bits.
+    fn refine_lowest(self, width: Width, a: Scalar, b: Scalar) -> Option<(Scalar, Scalar)>
+        requires { self.bits ≡ Bits.Lowest width }
+        ensures right { AreNumbersRefined self a b result }
+        ensures narrowed { IfSome result (AreLowestNarrowed self width a b) }
+    {
         let plus = Scalar::exact(self.plus);
         let derived = self.relation.derive(width, a, plus);
         let b = narrowed_to(width, b, derived)?;
@@ -258,6 +357,18 @@ impl Link {
         let (a, b) = self.refine_numbers(a, b)?;
         Some((Reg::Number(a), Reg::Number(b)))
     }
+}
+
+/// The numbers that have some numbers' bits inside a mask, and others' outside.
+fn mixed(mask: u16, inside: Scalar, outside: Scalar) -> Scalar
+    ensures { IsMixed mask inside outside result }
+{
+    let bits = u64::from(mask);
+    let own = Scalar::exact(bits);
+    let rest = Scalar::exact(!bits);
+    let low = Scalar::apply(BinOp::And, Width::W64, inside, own);
+    let high = Scalar::apply(BinOp::And, Width::W64, outside, rest);
+    Scalar::apply_by_parts(BinOp::Add, Width::W64, low, high)
 }
 
 /// What numbers can still be that equal one of others in a width; `None` where there are none. They stay as they are
@@ -514,33 +625,47 @@ impl Links {
             .of_register(register)
     }
 
-    /// Whether an instruction may move links: it adds a constant to a register.
+    /// Whether an instruction may move links: it adds a constant to a register, or masks it.
     pub fn moves(&self, action: Action) -> bool
-        ensures sum { result ≡ true → AddsConstant action }
+        ensures sum { result ≡ true → AddsOrMasks action }
         ensures none { result ≡ false → (k : ℕ) → k < 11 → moved_by action k (link_at self.now k) ≡ None }
     {
         match action {
-            Action::Operate(_, BinOp::Add, _, Operand::Imm(_)) => self.any,
+            Action::Operate(_, BinOp::Add | BinOp::And, _, Operand::Imm(_)) => self.any,
             _ => false,
         }
     }
 
-    /// What becomes of the links with a register to which an instruction adds a constant; `None` where there are none.
+    /// What becomes of the links with a register that an instruction changes by a constant; `None` where there are none.
     pub fn moved(&self, action: Action) -> Option<Links>
         ensures { (k : ℕ) → k < 11 → links_in result k ≡ moved_by action k (link_at self.now k) }
     {
         match action {
-            Action::Operate(width, BinOp::Add, dst, Operand::Imm(imm)) if self.any => {
-                let mut moved = *self;
-                moved.move_each(dst, (width, imm));
-                Some(moved)
+            Action::Operate(width, BinOp::Add, dst, Operand::Imm(imm)) => {
+                self.all_moved(dst, (width, BinOp::Add, imm))
+            }
+            Action::Operate(width, BinOp::And, dst, Operand::Imm(imm)) => {
+                self.all_moved(dst, (width, BinOp::And, imm))
             }
             _ => None,
         }
     }
 
+    /// The same, of the register and the constant.
+    fn all_moved(&self, dst: RegNo, by: (Width, BinOp, i32)) -> Option<Links>
+        ensures { (k : ℕ) → k < 11 → links_in result k ≡ spec_moved_from dst by k (link_at self.now k) }
+    {
+        if self.any {
+            let mut moved = *self;
+            moved.move_each(dst, by);
+            Some(moved)
+        } else {
+            None
+        }
+    }
+
     /// The same in place, where there may be some.
-    fn move_each(&mut self, dst: RegNo, by: (Width, i32))
+    fn move_each(&mut self, dst: RegNo, by: (Width, BinOp, i32))
         ensures same { self.new.any ≡ self.old.any }
         ensures each { (k : ℕ) → k < 11 → slice_index_or self.new.each k None ≡ spec_moved_from dst by k (slice_index_or self.old.each k None) }
     {

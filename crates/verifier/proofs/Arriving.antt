@@ -1,6 +1,6 @@
 -- One instruction, passed in the cases that wait at its slot; and what is known at the slot that a walk has come to.
 use Rattle.std.proofs.Common.{Fits, w64, Bool, true, false, is_some, FitsSigned, w32, ◌≡◌, ◌≢◌, ℕ, ℤ, pos, suc, ◌+◌, ◌<◌, ◌≤◌, ◌++◌, List, [], ◌∷◌, Option, Some, None, Ok, refl, sym, ap, ◌∙◌, arith, get_or, length, inl, inr, ◌⊎◌, zero, ◌-◌, take, drop, set, subst}
-use Rattle.verifier.proofs.Names.{InStates, option_to_list, ints, append-nil, append_assoc, get_or-set_other, get_or-set_same, length-set, cases_eq, cases_lt, All, All-push, SLOT_LIMIT}
+use Rattle.verifier.proofs.Names.{InStates, option_to_list, ints, append-nil, append_assoc, get_or-set_other, get_or-set_same, length-set, cases_lt, All, All-push, SLOT_LIMIT}
 use Rattle.verifier.proofs.Names.{slot_count, Insn, Layout, WalkFault, slots_of, walk_fault_at, look_verdict, Known, Test, LeavesKnown, AreBothTold, IsTestTold, IsWayPushed, IsWayTold, onward_of, onward_of_each, onward_from}
 use Rattle.verifier.proofs.Names.{IsPassed, IsPushed, IsRefusedAt, IsRefusedHere, IsTaken, IsVisited, PassesEach, either, nowhere, IsBegun, IsCopy, IsFar, IsLastPassage, IsPassage}
 use Rattle.verifier.proofs.Names.{IsVisit, IsToldOnward, ahead_alone, behind_alone, slot_unless, slots_of_bounds, unreached_by, exit_ends, Reaches, step, steps, Config, IsRecord, start, StateFits, IsAcceptance, IsExplained, IsKnownAt, NoneComesTo}
@@ -16,7 +16,7 @@ use Rattle.std.specs.Prelude.{Contains, IfOk, Result, Err}
 use Rattle.verifier.specs.declared.known.Flow.TheVariants.{Branch, Exit, Jump, Next}
 use Rattle.verifier.specs.declared.explain.Refusal.{Refusal}
 use Rattle.verifier.specs.declared.walk.Upshot.TheVariants.{Passed, Refused}
-use Rattle.verifier.proofs.ShapeLaws.{bind_some}
+use Rattle.links.proofs.Linked.{bind_some}
 use Rattle.verifier.specs.Waits.{passed_by}
 use Rattle.verifier.specs.WaitsParts.{all_beside}
 use Rattle.verifier.proofs.Waits.{has_first, has_later, has_middle, has_none, middle_or_around}

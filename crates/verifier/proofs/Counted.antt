@@ -1,10 +1,9 @@
 -- How many cases come to stand beside others.
-use Rattle.std.proofs.Common.{◌≡◌, ◌≢◌, ℕ, zero, suc, ◌+◌, ◌-◌, ◌<◌, ◌≤◌, Bool, true, false, List, [], ◌∷◌, ◌++◌, Option, Some, None, refl, sym, ap, ◌∙◌, arith, get_or, set, length, replicate, inl, inr, ◌⊎◌, subst, Box, Global}
+use Rattle.std.proofs.Common.{◌≡◌, ℕ, zero, suc, ◌+◌, ◌-◌, ◌<◌, ◌≤◌, List, [], ◌∷◌, ◌++◌, Option, Some, None, refl, ap, ◌∙◌, arith, get_or, set, length, replicate, inl, inr, Box, Global}
 use Rattle.std.proofs.lemmas.List.Sums.{sum_by-cons, sum_by-set}
-use Rattle.std.specs.Prelude.{sum_by}
 use Rattle.verifier.proofs.Names.{length-append, length-replicate, IfSome, IsSome, Known, IsAdded, IsMerged, IsRoomFor}
 use Rattle.verifier.proofs.Waits.{cases_of, same_joined, count_beside}
-use Rattle.verifier.specs.WaitsParts.{AtSlots, IsCounted, Spends, SpendsBehind, all_beside, beside}
+use Rattle.verifier.specs.WaitsParts.{AtSlots, Spends, SpendsBehind, all_beside, beside}
 
 -- ---- one case
 

@@ -57,7 +57,7 @@ pub use Rattle.verifier.specs.Findings.{IsAcceptance, IsExplained, IsKnownAt, No
 pub use Rattle.verifier.specs.Fits.{InStates, AsShape, IsWholePointer, Reading, RegIs, WhereSet, StackIs, StackShows, StateFits, is_exact}
 pub use Rattle.verifier.specs.Follows.{FlowFits, FlowIs, Follows, WritesNoR10, reg_of, FlowOf, comparison_of, FlowTo, IsOperand, IsEntry, IsJoined, test_answer, IsFaulty, goes_behind}
 pub use Rattle.verifier.specs.Kinds.{LeavesKnown, IsLinked, LeavesRow, IsSoundRow, Receives, flow_where, test_of, Extends, GivenAt, StoredAt, StoredOf, StoredWhere, kept_in_record, put_at}
-pub use Rattle.verifier.specs.Kinds.{CanFail, GivenIn, Put, StoredIn, IsWide, Loads, OfOperand}
+pub use Rattle.verifier.specs.Kinds.{GivenIn, Put, StoredIn, IsWide, Loads, OfOperand}
 pub use Rattle.verifier.specs.Learnt.{operand_set, IsSpreadToAll, IsCompared, IsSpreadBelow, IsSpread, IsTested, KeepsAnswered, MaySpread, SpreadOne, IsLearnt, answer_of}
 pub use Rattle.links.specs.Links.{AreLeft, AreLinked, AreLinksJoined, AreMade, AreRelated, IsLinkJoin, LinkHolds, LinksHold, bits_after, lesser, link_at, link_left, plus_after, AreValuesLinked}
 pub use Rattle.links.specs.Links.{copied, difference_from, less, link_kept, link_made, link_of, with_turn}

@@ -6,25 +6,23 @@ use Rattle.verifier.proofs.Names.{State, at, value_of, Kind, RegFits, ValueFits,
 use Rattle.verifier.proofs.Names.{Effect, Exits, Falls, Jumps, word_of, register_written_by, distance_in, action_of, Fails, Tested, action_outcome, and_then, effect, operation_result}
 use Rattle.verifier.proofs.Names.{passed, put, Passes, outcome, int_width, word_result, wrapped, effects, shape_of, NoMovedPointer, both_ways, branch_in, Flow, Jump, Next, Known, Bits}
 use Rattle.verifier.proofs.Names.{Link, StateFits, FlowFits, FlowIs, Follows, WritesNoR10, reg_of, FlowOf, comparison_of, FlowTo, IsLinked, LeavesRow}
-use Rattle.verifier.proofs.Names.{IsSoundRow, LeavesKnown, Receives, flow_where, test_of, AreMade, AreValuesLinked, LinkHolds, Links, LinksHold, bits_after, copied, difference_from, less}
+use Rattle.verifier.proofs.Names.{IsSoundRow, LeavesKnown, Receives, flow_where, test_of, AreValuesLinked, LinkHolds, Links, LinksHold, bits_after, copied, difference_from, less}
 use Rattle.verifier.proofs.Names.{link_at, link_kept, link_made, link_of, plus_after, WalkFault}
 use Rattle.std.specs.Int.{w64}
 use Rattle.insn.specs.Outcomes.{WritesR10}
 use Rattle.links.specs.Links.{link_after}
-use Rattle.verifier.proofs.ShapeLaws.{bind_some}
 use Rattle.verifier.specs.declared.known.Flow.TheVariants.{Branch, Exit}
 use Rattle.scalar.specs.Bounds.{least_word, greatest_word}
-use Rattle.links.proofs.Linked.{are_same, is_less, links_same, made_too, not_same, related_after}
+use Rattle.links.proofs.Linked.{are_same, bind_some, is_less, made_too, not_same, related_after}
 use Rattle.verifier.proofs.States.{reg_fits, set_to, blank_fits, set_fits}
 use Rattle.links.proofs.Linked.{reg_below}
 use Rattle.verifier.proofs.Steps.{store_right, branch_right, exit_right, Gives, IsRightAt, IsRowRight, converts_put, given_by, in_reading, loads_put, right_then, wrong_then, given_right}
-use Rattle.verifier.proofs.Seen.{row_seen}
 use Rattle.reg_kind.specs.declared.reg.Reg.TheVariants as kind
 use Rattle.verifier.proofs.Names.{W64, Pointer, Place, Region, Span, Stack, Cell, Eight, accessed, access_place, stored_state, held, value_at, with_value, written, place_behind, IsAt, BlockFits, block_at, block_cells, cells_filled, read, extended}
 use Rattle.verifier.specs.Kinds.{block_in, block_of_place, home_made, home_of}
-use Rattle.links.specs.Links.{HomeHolds, home_at, lesser, link_moved, moved_by, moved_from}
+use Rattle.links.specs.Links.{HomeHolds, home_at, is_equal, lesser, link_moved, mask_of, moved_by, moved_from}
 use Rattle.verifier.proofs.Names.{Add, IsKnownNumber, Lowest, shows_one}
-use Rattle.links.proofs.Linked.{related_moved}
+use Rattle.links.proofs.Linked.{moved_of, related_moved}
 use Rattle.insn.specs.declared.state.Region.TheVariants as region
 use Rattle.stack_state.specs.declared.block.Block.TheVariants as block
 use Rattle.stack_state.proofs.Spelled.{number_read}
@@ -32,6 +30,8 @@ use Rattle.stack_state.proofs.Stores.{length-filled}
 use Rattle.stack_state.proofs.Written.{part_written}
 use Rattle.verifier.proofs.Steps.{access_right, RightIn}
 use Rattle.insn.specs.declared.action.Action.TheVariants as action
+use Rattle.insn.specs.declared.operation.BinOp.TheVariants.{And}
+use Rattle.links.specs.declared.link.Bits.TheVariants.{Masked}
 
 -- ---- what a link is made of
 
@@ -47,14 +47,14 @@ record IsKept (register : RegNo) (w : Width) (op : BinOp) (imm : ℤ) (o : Optio
   link : Link
   was : o ≡ Some link
   bits : Bits
-  told : bits_after w op imm link.bits ≡ Some bits
+  told : bits_after w op imm (is_equal link.relation link.plus) link.bits ≡ Some bits
   is : IsLinkOf register (record link { plus = plus_after op imm link.plus; bits = bits }) made
 
 kept_is : (register : RegNo) (w : Width) (op : BinOp) (imm : ℤ) (o : Option Link) (made : RegNo × Link) → link_kept register (w, op, imm) o ≡ Some made → IsKept register w op imm o made
 kept_is register w op imm None made e = absurd cc
 kept_is register w op imm (Some link) made e =
     let after = bind_some (link_after w op imm link) (link_of register) made e in
-    let bits = bind_some (bits_after w op imm link.bits) (λ bits. Some (record link { plus = plus_after op imm link.plus; bits = bits })) after.0 after.1 in
+    let bits = bind_some (bits_after w op imm (is_equal link.relation link.plus) link.bits) (λ bits. Some (record link { plus = plus_after op imm link.plus; bits = bits })) after.0 after.1 in
     let some : Some (record link { plus = plus_after op imm link.plus; bits = bits.0 }) ≡ Some after.0 = bits.2 in
     let same : record link { plus = plus_after op imm link.plus; bits = bits.0 } ≡ after.0 = cc in
     record { link = link; was = refl; bits = bits.0; told = bits.1; is = link_is register (record link { plus = plus_after op imm link.plus; bits = bits.0 }) made (ap (link_of register) same ∙ after.2) }
@@ -99,22 +99,22 @@ copied_word : (layout : Layout) (w : Width) (m n : ℕ) → operation_result lay
 copied_word layout w m n h1 = grind (arith)
 
 -- a number that an operation on a link's register and a constant gives
-number_given : (layout : Layout) (w : Width) (op : BinOp) (imm : ℤ) (bits after : Bits) (o : Option Value) (c n : ℕ) → bits_after w op imm bits ≡ Some after → operation_result layout w op o (Some (Number c)) ≡ Passes (Number n)
+number_given : (layout : Layout) (w : Width) (op : BinOp) (imm : ℤ) (equal : Bool) (bits after : Bits) (o : Option Value) (c n : ℕ) → bits_after w op imm equal bits ≡ Some after → operation_result layout w op o (Some (Number c)) ≡ Passes (Number n)
     → (m : ℕ) × (o ≡ Some (Number m)) × (n ≡ word_result w op m c)
-number_given layout w op imm bits after None c n told e = absurd (grind arith)
-number_given layout w op imm bits after (Some (Number m)) c n told e = (m, refl, grind (arith))
-number_given layout w op imm bits after (Some (Address p)) c n told e = absurd (grind arith)
+number_given layout w op imm equal bits after None c n told e = absurd (grind arith)
+number_given layout w op imm equal bits after (Some (Number m)) c n told e = (m, refl, grind (arith))
+number_given layout w op imm equal bits after (Some (Address p)) c n told e = absurd (grind arith)
 
-left_of : (w : Width) (op : BinOp) (imm : ℤ) (bits after : Bits) (s : State) (dst : RegNo) → bits_after w op imm bits ≡ Some after → left_operand op s dst ≡ value_of s.registers dst
-left_of w op imm bits after s dst told = grind arith
+left_of : (w : Width) (op : BinOp) (imm : ℤ) (equal : Bool) (bits after : Bits) (s : State) (dst : RegNo) → bits_after w op imm equal bits ≡ Some after → left_operand op s dst ≡ value_of s.registers dst
+left_of w op imm equal bits after s dst told = grind arith
 
 -- a number that a register holds of which something is known is a word
 word_held : (k : Kind) (m : ℕ) → (k ≡ kind.Unset → ⊥) → RegFits false k (Some (Number m)) → m < 2 ^ 64
 word_held k m h1 h2 = grind (arith)
 
 -- an operation whose left operand is unset gives nothing
-left_known : (layout : Layout) (w : Width) (op : BinOp) (imm : ℤ) (bits after : Bits) (right value : Kind) → bits_after w op imm bits ≡ Some after → IsKindResult layout w op kind.Unset right (Ok value) → ⊥
-left_known layout w op imm bits after right value told h = grind arith
+left_known : (layout : Layout) (w : Width) (op : BinOp) (imm : ℤ) (equal : Bool) (bits after : Bits) (right value : Kind) → bits_after w op imm equal bits ≡ Some after → IsKindResult layout w op kind.Unset right (Ok value) → ⊥
+left_known layout w op imm equal bits after right value told h = grind arith
 
 -- a constant is a word
 constant_word : (k : Kind) (n : ℕ) → IsKnownNumber k (Some (Number n)) → n < 2 ^ 64
@@ -122,28 +122,28 @@ constant_word (kind.Number a) n h = InScalar-words a n ((shows_one a n h n).1 re
 constant_word k n h = absurd h
 
 -- what a link that is moved was
-record WasMoved (dst : RegNo) (w : Width) (imm : ℤ) (k : ℕ) (o : Option Link) (link : Link) : Type 0 where
+record WasMoved (dst : RegNo) (w : Width) (op : BinOp) (imm : ℤ) (k : ℕ) (o : Option Link) (link : Link) : Type 0 where
   was : Link
   there : o ≡ Some was
   apart : k ≢ reg_number dst
   of : reg_number was.of ≡ reg_number dst
-  is : link ≡ link_moved w imm was
+  same : link.of ≡ was.of
+  is : link_moved w op imm was ≡ Some link
 
-was_moved : (dst : RegNo) (w : Width) (imm : ℤ) (k : ℕ) (o : Option Link) (link : Link) → moved_from dst (w, imm) k o ≡ Some link → WasMoved dst w imm k o link
-was_moved dst w imm k None link e = absurd cc
-was_moved dst w imm k (Some was) link e = by (reg_number dst == k) (reg_number dst == reg_number was.of) refl refl e where
-  one : (u : Link) → Some u ≡ Some link → link ≡ u
-  one u q = cc
-
-  by : (t u : Bool) → (reg_number dst == k) ≡ t → (reg_number dst == reg_number was.of) ≡ u → (if t then None else if u then Some (link_moved w imm was) else None) ≡ Some link → WasMoved dst w imm k (Some was) link
+was_moved : (dst : RegNo) (w : Width) (op : BinOp) (imm : ℤ) (k : ℕ) (o : Option Link) (link : Link) → moved_from dst (w, op, imm) k o ≡ Some link → WasMoved dst w op imm k o link
+was_moved dst w op imm k None link e = absurd cc
+was_moved dst w op imm k (Some was) link e = by (reg_number dst == k) (reg_number dst == reg_number was.of) refl refl e where
+  by : (t u : Bool) → (reg_number dst == k) ≡ t → (reg_number dst == reg_number was.of) ≡ u → (if t then None else if u then link_moved w op imm was else None) ≡ Some link → WasMoved dst w op imm k (Some was) link
   by true u p q e = absurd cc
-  by false true p q e = record { was = was; there = refl; apart = not_same (reg_number dst) k p; of = are_same (reg_number dst) (reg_number was.of) q; is = one (link_moved w imm was) e }
+  by false true p q e = record { was = was; there = refl; apart = not_same (reg_number dst) k p; of = are_same (reg_number dst) (reg_number was.of) q; same = moved_of w op imm was link e; is = e }
   by false false p q e = absurd cc
 
 -- the link that an instruction makes is none that it moves
 never_moved : (registers : List Kind) (links : Links) (action : Action) (m : RegNo × Link) (l : Option Link) (link : Link) → link_made registers links action ≡ Some m → moved_by action (reg_number m.0) l ≡ Some link → ⊥
 never_moved registers links (Operate w Add dst (Imm imm)) m l link e q =
-    (was_moved dst w imm (reg_number m.0) l link q).apart (ap (λ (x : RegNo × Link). reg_number x.0) (kept_is dst w Add imm (link_at links (reg_number dst)) m e).is.is)
+    (was_moved dst w Add imm (reg_number m.0) l link q).apart (ap (λ (x : RegNo × Link). reg_number x.0) (kept_is dst w Add imm (link_at links (reg_number dst)) m e).is.is)
+never_moved registers links (Operate w And dst (Imm imm)) m l link e q =
+    (was_moved dst w And imm (reg_number m.0) l link q).apart (ap (λ (x : RegNo × Link). reg_number x.0) (kept_is dst w And imm (link_at links (reg_number dst)) m e).is.is)
 never_moved registers links action m l link e q = absurd cc
 
 pub made_unmoved : (registers : List Kind) (links : Links) (action : Action) (m : RegNo × Link) (l : Option Link) → link_made registers links action ≡ Some m → moved_by action (reg_number m.0) l ≡ None
@@ -178,31 +178,33 @@ module _ (layout : Layout) (old : Known) (s t : State) (f : StateFits InStates l
       let was : AreValuesLinked r.link (value_of s.registers r.link.of) (value_of s.registers dst) = rw r.was at (f.links (reg_number dst) (reg_below dst)).0 in
       let link : Link = record r.link { plus = plus_after op imm r.link.plus; bits = r.bits } in
       link_holds s t dst (operation_result layout w op (left_operand op s dst) (Some (word_of imm))) link made f.long (λ q. other (ap Some q)) done r.is (λ n m gave at.
-      let k = number_given layout w op imm r.link.bits r.bits (left_operand op s dst) (cast_unsigned w64 imm) n r.told gave in
-      let there : value_of s.registers dst ≡ Some (Number k.0) = sym (left_of w op imm r.link.bits r.bits s dst r.told) ∙ k.1 in
-      let word = word_held (reg_of old dst) k.0 (λ unset. left_known layout w op imm r.link.bits r.bits row.1.0 row.0 r.told (rw unset at row.1.2)) (fits_as dst (reg_of old dst) (Some (Number k.0)) refl there) in
+      let k = number_given layout w op imm (is_equal r.link.relation r.link.plus) r.link.bits r.bits (left_operand op s dst) (cast_unsigned w64 imm) n r.told gave in
+      let there : value_of s.registers dst ≡ Some (Number k.0) = sym (left_of w op imm (is_equal r.link.relation r.link.plus) r.link.bits r.bits s dst r.told) ∙ k.1 in
+      let word = word_held (reg_of old dst) k.0 (λ unset. left_known layout w op imm (is_equal r.link.relation r.link.plus) r.link.bits r.bits row.1.0 row.0 r.told (rw unset at row.1.2)) (fits_as dst (reg_of old dst) (Some (Number k.0)) refl there) in
       rw k.2 (related_after r.link.relation w op imm r.link.bits r.bits r.link.plus m k.0 word r.told (was m k.0 at there)))
   made_holds action made between other e row done = absurd cc
 
   -- and so does a link of another register with the one that is written that is moved
-  moved_holds : (w : Width) (dst : RegNo) (imm : ℤ) (k : ℕ) (link : Link) (between : Known) → k < 11 → dst ≢ R10 → WasMoved dst w imm k (link_at old.links k) link → LeavesRow layout (Operate w Add dst (Imm imm)) old between (Ok Next)
-      → passed (action_outcome layout (Operate w Add dst (Imm imm)) s) ≡ Some (Falls t) → LinkHolds (Some link) k t.registers
-  moved_holds w dst imm k link between lt other r row done =
-      let g = given_after s t dst (operation_result layout w Add (value_of s.registers dst) (Some (word_of imm))) other done in
+  moved_holds : (w : Width) (op : BinOp) (dst : RegNo) (imm : ℤ) (k : ℕ) (link : Link) (after : Bits) (between : Known) → k < 11 → dst ≢ R10 → bits_after w op imm true (Lowest w) ≡ Some after → WasMoved dst w op imm k (link_at old.links k) link
+      → LeavesRow layout (Operate w op dst (Imm imm)) old between (Ok Next) → passed (action_outcome layout (Operate w op dst (Imm imm)) s) ≡ Some (Falls t) → LinkHolds (Some link) k t.registers
+  moved_holds w op dst imm k link after between lt other told r row done =
+      let g = given_after s t dst (operation_result layout w op (left_operand op s dst) (Some (word_of imm))) other done in
       let here : value_of t.registers dst ≡ Some g.0 = ap (λ (xs : List (Option Value)). get_or xs (reg_number dst) None) g.2 ∙ get_or-set_same s.registers (reg_number dst) (Some g.0) None (let b = reg_below dst in let l = f.long in omega arith) in
       let stays : get_or t.registers k None ≡ get_or s.registers k None = ap (λ (xs : List (Option Value)). get_or xs k None) g.2 ∙ get_or-set_other s.registers (reg_number dst) k (Some g.0) None r.apart in
       let was : AreValuesLinked r.was (value_of s.registers r.was.of) (get_or s.registers k None) = rw r.there at (f.links k lt).0 in
-      rw r.is (λ a b p q.
-      let there : value_of t.registers r.was.of ≡ value_of t.registers dst = ap (λ (n : ℕ). get_or t.registers n None) r.of in
+      λ a b p q.
+      let there : value_of t.registers link.of ≡ value_of t.registers dst = ap (λ (n : ℕ). get_or t.registers n None) (ap reg_number r.same ∙ r.of) in
       let same : Some g.0 ≡ Some (Number a) = sym here ∙ sym there ∙ p in
       let v_is : g.0 ≡ Number a = cc in
-      let m = number_given layout w Add imm (Lowest w) (Lowest (lesser w w)) (value_of s.registers dst) (cast_unsigned w64 imm) a refl (g.1 ∙ ap Passes v_is) in
-      let at : value_of s.registers r.was.of ≡ Some (Number m.0) = ap (λ (n : ℕ). get_or s.registers n None) r.of ∙ m.1 in
-      rw m.2 (related_moved r.was.relation w r.was.bits r.was.plus (cast_unsigned w64 imm) m.0 b (constant_word row.1.0 (cast_unsigned w64 imm) row.1.1) (was m.0 b at (sym stays ∙ q))))
+      let m = number_given layout w op imm true (Lowest w) after (left_operand op s dst) (cast_unsigned w64 imm) a told (g.1 ∙ ap Passes v_is) in
+      let own : value_of s.registers dst ≡ Some (Number m.0) = sym (left_of w op imm true (Lowest w) after s dst told) ∙ m.1 in
+      let at : value_of s.registers r.was.of ≡ Some (Number m.0) = ap (λ (n : ℕ). get_or s.registers n None) r.of ∙ own in
+      rw m.2 (related_moved w op imm r.was link m.0 b (constant_word row.1.0 (cast_unsigned w64 imm) row.1.1) r.is (was m.0 b at (sym stays ∙ q)))
 
   pub moved_hold : (action : Action) (k : ℕ) (link : Link) (between : Known) → k < 11 → register_written_by action ≢ Some R10 → moved_by action k (link_at old.links k) ≡ Some link → LeavesRow layout action old between (Ok Next)
       → passed (action_outcome layout action s) ≡ Some (Falls t) → LinkHolds (Some link) k t.registers
-  moved_hold (Operate w Add dst (Imm imm)) k link between lt other e row done = moved_holds w dst imm k link between lt (λ q. other (ap Some q)) (was_moved dst w imm k (link_at old.links k) link e) row done
+  moved_hold (Operate w Add dst (Imm imm)) k link between lt other e row done = moved_holds w Add dst imm k link (Lowest (lesser w w)) between lt (λ q. other (ap Some q)) refl (was_moved dst w Add imm k (link_at old.links k) link e) row done
+  moved_hold (Operate w And dst (Imm imm)) k link between lt other e row done = moved_holds w And dst imm k link (Masked (mask_of imm)) between lt (λ q. other (ap Some q)) refl (was_moved dst w And imm k (link_at old.links k) link e) row done
   moved_hold action k link between lt other e row done = absurd cc
 
 -- ---- the homes that instructions make
@@ -506,7 +508,7 @@ rows_sound layout i old new (Ok flow) other h = with_link layout i old h.0 new f
   own = row_flow layout (action_of i) old h.0 flow h.1
 rows_sound layout i old new (Err fault) other h =
     let row = row_right layout old new (action_of i) (Err fault) other h in
-    (record { stays = row.stays; named = λ s plain f. row.right AsShape s f plain }, row_seen layout i old new fault h)
+    record { stays = row.stays; named = λ s plain f. row.right AsShape s f plain }
 
 -- a jump that follows is the instruction's own
 pub row_own : (layout : Layout) (i : Insn) (old new : Known) (flow : Flow) → LeavesRow layout (action_of i) old new (Ok flow) → FlowOf i flow

@@ -1,7 +1,7 @@
 -- Laws of shapes: what comes of an instruction in a state and in its shape is the same, but for amounts.
 use Rattle.std.proofs.Common.{◌≡◌, ℕ, zero, suc, ◌+◌, ◌/◌, Bool, ℤ, List, [], ◌∷◌, map, set, Option, Some, None, refl, sym, ap, ◌∙◌, arith}
 use Rattle.verifier.specs.Names.{option_map, RegNo, R0, Width, W64, BinOp, Add, Sub, Mov, Operand, Reg, Imm, Insn, Layout, Pointer, Value, Number, Address, Cell, Byte, Part, WalkFault, PointerMisuse}
-use Rattle.verifier.specs.Names.{ExitsWithPointer, reg_number, size_bytes, ◌>>=◌, State, value_of, Effect, Falls, Jumps, Exits, operand_value, Action, Operate, Convert, LoadWord, LoadFrom, StoreAt}
+use Rattle.verifier.specs.Names.{ExitsWithPointer, reg_number, size_bytes, State, value_of, Effect, Falls, Jumps, Exits, operand_value, Action, Operate, Convert, LoadWord, LoadFrom, StoreAt}
 use Rattle.verifier.specs.Names.{Go, End, action_of, comparison, fault_at, passed}
 use Rattle.std.specs.Prelude.{◌&&◌, ◌==◌}
 use Rattle.std.specs.List.{list_any}
@@ -19,12 +19,6 @@ use Rattle.insn.specs.declared.action.Action.TheVariants.{Branch}
 use Rattle.insn.specs.Outcomes.{Tested, Passes, Fails, WritesR10, access_place, action_outcome, all_set, and_then, failed, held, loaded, number, number_held, operation_result, or_fault, outcome, put}
 use Rattle.insn.specs.Outcomes.{stored_state, value_at}
 use Rattle.verifier.specs.Shapes.{MovesNone, NoMovedPointer, blank_cell, blank_value, shape_of}
-
--- ---- what comes of what may be none
-
-pub bind_some : {A B : Type 0} (o : Option A) (f : A → Option B) (y : B) → (o >>= f) ≡ Some y → (x : A) × (o ≡ Some x) × (f x ≡ Some y)
-bind_some None f y e = absurd cc
-bind_some (Some x) f y e = (x, refl, e)
 
 -- ---- what comes of a test, seen through a function
 

@@ -3,10 +3,11 @@ use Rattle.std.proofs.Common.{◌≡◌, ℕ, ◌<◌, ◌∙◌, ap, refl, subs
 use Rattle.verifier.proofs.Names.{Insn, Layout, RegNo, WalkFault, Known, Flow, Next, Action, Operate, Add, Imm, LeavesKnown, action_of, reg_number, Link, Links, link_at, link_made}
 use Rattle.links.proofs.Names.{cases_eq, option_or}
 use Rattle.links.proofs.Linked.{moved_so, not_chosen}
-use Rattle.links.specs.Links.{AddsConstant, home_at, links_in, made_at, moved_by}
+use Rattle.links.specs.Links.{AddsOrMasks, home_at, links_in, made_at, moved_by}
 use Rattle.verifier.proofs.Rows.{made_unmoved}
 use Rattle.verifier.specs.Kinds.{LeavesRow, home_made}
 use Rattle.verifier.specs.LearntParts.{LeavesStill}
+use Rattle.insn.specs.declared.operation.BinOp.TheVariants.{And}
 
 -- where it moves none
 pub still_known : (layout : Layout) (i : Insn) (old new : Known) (r : Result Flow WalkFault) → ((k : ℕ) → k < 11 → moved_by (action_of i) k (link_at old.links k) ≡ None) → LeavesStill layout i old new r → LeavesKnown layout i old new r
@@ -52,17 +53,19 @@ moving_known layout i old mid flow moved links (between, row, still) are set = (
   },
 )
 
--- behind the sum of a register and a constant the walk goes on
-sum_next : (layout : Layout) (action : Action) (old new : Known) (flow : Flow) → AddsConstant action → LeavesRow layout action old new (Ok flow) → flow ≡ Next
+-- behind an instruction that changes a register by a constant the walk goes on
+sum_next : (layout : Layout) (action : Action) (old new : Known) (flow : Flow) → AddsOrMasks action → LeavesRow layout action old new (Ok flow) → flow ≡ Next
 sum_next layout (Operate w Add dst (Imm imm)) old new Next sum row = refl
+sum_next layout (Operate w And dst (Imm imm)) old new Next sum row = refl
 sum_next layout (Operate w Add dst (Imm imm)) old new flow sum row = absurd row
+sum_next layout (Operate w And dst (Imm imm)) old new flow sum row = absurd row
 sum_next layout action old new flow sum row = absurd sum
 
-still_next : (layout : Layout) (i : Insn) (old new : Known) (flow : Flow) → AddsConstant (action_of i) → LeavesStill layout i old new (Ok flow) → flow ≡ Next
+still_next : (layout : Layout) (i : Insn) (old new : Known) (flow : Flow) → AddsOrMasks (action_of i) → LeavesStill layout i old new (Ok flow) → flow ≡ Next
 still_next layout i old new flow sum (between, row, still) = sum_next layout (action_of i) old between flow sum row
 
--- a sum that moves links
-pub moving_next : (layout : Layout) (i : Insn) (old mid : Known) (flow : Flow) (moved : Option Links) (links : Links) → AddsConstant (action_of i) → LeavesStill layout i old mid (Ok flow)
+-- one that moves links
+pub moving_next : (layout : Layout) (i : Insn) (old mid : Known) (flow : Flow) (moved : Option Links) (links : Links) → AddsOrMasks (action_of i) → LeavesStill layout i old mid (Ok flow)
     → ((k : ℕ) → k < 11 → links_in moved k ≡ moved_by (action_of i) k (link_at old.links k))
     → ((k : ℕ) → k < 11 → (link_at links k ≡ option_or (links_in moved k) (link_at mid.links k)) × (home_at links k ≡ home_at mid.links k))
     → LeavesKnown layout i old (record { registers = mid.registers; stack = mid.stack; links = links }) (Ok Next)

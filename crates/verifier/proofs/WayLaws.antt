@@ -13,7 +13,8 @@ use Rattle.insn.specs.Step.{step, steps}
 use Rattle.verifier.specs.Shapes.{HasNoBranch, MovesNone, MovesNoPointer, NoMovedPointer, IsPointer, IsRunShape, OnWay, blank_cell, both_ways, branch_in, branch_of, shape_config, shape_of, ways}
 use Rattle.verifier.specs.Shapes.{ways_from}
 use Rattle.verifier.proofs.Waits.{has_first}
-use Rattle.verifier.proofs.ShapeLaws.{bind_some, blank, blank_effect, no_amount, outcome-shape, passed-seen, seen, shape_twice, shape_value, shown_of, state_with}
+use Rattle.links.proofs.Linked.{bind_some}
+use Rattle.verifier.proofs.ShapeLaws.{blank, blank_effect, no_amount, outcome-shape, passed-seen, seen, shape_twice, shape_value, shown_of, state_with}
 
 -- ---- effects
 

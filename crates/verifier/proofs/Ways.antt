@@ -13,7 +13,7 @@ use Rattle.std.specs.List.{Contains}
 use Rattle.insn.specs.declared.verify_fault.LookFault.{LookFault}
 use Rattle.insn.specs.declared.verify_fault.LookFault.TheVariants.{JumpIntoWide, JumpOut}
 use Rattle.verifier.proofs.Waits.{of_added, first_or_later, has_first, has_later, has_none}
-use Rattle.verifier.proofs.ShapeLaws.{bind_some}
+use Rattle.links.proofs.Linked.{bind_some}
 use Rattle.verifier.proofs.Rows.{outcome_shown, rows_sound}
 use Rattle.verifier.proofs.States.{shows_less}
 use Rattle.insn.specs.Program.{joined}

@@ -1,8 +1,8 @@
 -- What an instruction leaves of what is known, and why it is refused: a table by the kinds of what is known before it.
 -- Nothing is changed but what is said here.
-use Rattle.std.specs.Prelude.{◌≡◌, ◌≢◌, ℕ, ◌/◌, ◌%◌, ◌==◌, ◌&&◌, if◌then◌else◌, Bool, true, false, length, slice_set, Option, Some, None, Result, Ok, Err}
+use Rattle.std.specs.Prelude.{◌≡◌, ℕ, ◌/◌, ◌%◌, ◌==◌, ◌&&◌, if◌then◌else◌, Bool, true, false, length, slice_set, Option, Some, None, Result, Ok, Err}
 use Rattle.verifier.specs.Names.{RegNo, R0, Insn, Operand, Reg, Mov, ◌>>=◌, Action, Operate, Convert, LoadWord, LoadFrom, StoreAt, Go, End, Layout, Width, W64, Number, WalkFault, ExitsWithPointer, PointerMisuse}
-use Rattle.verifier.specs.Names.{PointerRange, ReadOnlyField, UnsetRegister, reg_number, size_bytes, action_of, State, fault_at, Kind, IsKindImage, IsKindResult, IsKnownNumber, number_in_reg, Flow}
+use Rattle.verifier.specs.Names.{ReadOnlyField, UnsetRegister, reg_number, size_bytes, action_of, Kind, IsKindImage, IsKindResult, IsKnownNumber, number_in_reg, Flow}
 use Rattle.insn.specs.declared.action.Action.TheVariants.{Branch}
 use Rattle.insn.specs.declared.operation.Cond.{Cond}
 use Rattle.insn.specs.declared.operation.ExtendBits.{ExtendBits}
@@ -19,7 +19,6 @@ use Rattle.stack_state.specs.Accesses.{IsGiven, IsNumberReg, IsStored}
 use Rattle.verifier.specs.declared.known.Known.{Known}
 use Rattle.verifier.specs.declared.known.Test.{Test}
 use Rattle.verifier.specs.declared.known.Flow.TheVariants as flow
-use Rattle.verifier.specs.Fits.{InStates, StateFits}
 use Rattle.verifier.specs.Follows.{Follows, IsFaulty, IsOperand, comparison_of, reg_of}
 use Rattle.links.specs.Links.{AreHomesLeft, AreLeft, AreMade, home_at, link_at, link_made, moved_by}
 use Rattle.links.specs.declared.link.Links.{Links}
@@ -175,23 +174,9 @@ abbrev pub LeavesKnown : Layout → Insn → Known → Known → Result Flow Wal
 LeavesKnown layout i old new (Ok flow) = (between : Known) × LeavesRow layout (action_of i) old between (Ok flow) × IsLinked layout (action_of i) old between new
 LeavesKnown layout i old new (Err fault) = LeavesRow layout (action_of i) old new (Err fault)
 
--- ---- refusals
-
--- a fault is the first test that fails in some state that is what is known
-pub record IsSeen (layout : Layout) (i : Insn) (known : Known) (fault : WalkFault) : Type 0 where
-  pub state : State
-  pub fits : StateFits InStates layout known state
-  pub fails : fault_at layout i state ≡ Some fault
-
--- It is so where any state is what is known. It is not said of a pointer that is moved:
--- numbers between which all members of a set lie need not be members.
-abbrev pub CanFail : Layout → Insn → Known → WalkFault → Type 0
-CanFail layout i known fault = fault ≢ PointerRange → (s : State) → StateFits InStates layout known s → IsSeen layout i known fault
-
 -- ---- what rows come to
 
--- a row is sound: a flow is what follows the instruction, and a fault is the first test that fails, in the one shape that is known
--- and, but for a pointer that is moved, in some state
+-- a row is sound: a flow is what follows the instruction, and a fault is the first test that fails in the one shape that is known
 abbrev pub IsSoundRow : Layout → Insn → Known → Known → Result Flow WalkFault → Type 0
 IsSoundRow layout i old new (Ok flow) = Follows layout i old new flow
-IsSoundRow layout i old new (Err fault) = IsFaulty layout i old fault × CanFail layout i old fault
+IsSoundRow layout i old new (Err fault) = IsFaulty layout i old fault

@@ -45,7 +45,7 @@ pub fn uniform_programs_have_typings()
 {}
 
 /// What the table of instructions says is sound: what follows by it follows in every state that is what is known, and
-/// in the one shape; what it refuses fails there.
+/// in the one shape; what it refuses fails in that.
 pub fn rows_are_sound()
     ensures { (layout : Layout) (i : Insn) (old new : Known) (r : Result Flow WalkFault) →
         WritesNoR10 i → LeavesKnown layout i old new r → IsSoundRow layout i old new r }
