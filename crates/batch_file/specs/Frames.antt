@@ -49,6 +49,11 @@ AreFrames before [] last bytes = (last ≡ before) × (bytes ≡ [])
 AreFrames before (batch ∷ later) last bytes =
     (rest : List ℕ) × IsFrame before batch rest bytes × AreFrames (digest before batch) later last rest
 
+-- the digest of the last of these batches, where this one stands before them
+abbrev pub last_of : List ℕ → List (List ℕ) → List ℕ
+last_of before [] = before
+last_of before (batch ∷ later) = last_of (digest before batch) later
+
 -- behind the frame with this digest there is no other
 abbrev pub IsNoFrame : List ℕ → List ℕ → Type 0
 IsNoFrame last rest = (batch more : List ℕ) → IsFrame last batch more rest → ⊥

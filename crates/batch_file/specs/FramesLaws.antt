@@ -11,7 +11,7 @@ use Rattle.batch_file.specs.declared.appending.BatchFile.{BatchFile}
 use Rattle.batch_file.specs.declared.next.Next.{Next}
 use Rattle.batch_file.specs.declared.framing.ReadFault.{ReadFault}
 use Rattle.batch_file.specs.declared.framing.ReadFault.TheVariants.{Memory, NotState, Version, Damaged, Unread}
-use Rattle.batch_file.specs.Frames.{header, body, seal, digest, sealed, size_at, first_at, is_frame, batches_in, recovered, frames_size, IsFrame, AreFrames, IsTorn, Spells, IsFileOf, IsReadable, IsVersion, IsNoFrame, IsRightFront, IsDamaged, RefusesFile, AreNext}
+use Rattle.batch_file.specs.Frames.{last_of, header, body, seal, digest, sealed, size_at, first_at, is_frame, batches_in, recovered, frames_size, IsFrame, AreFrames, IsTorn, Spells, IsFileOf, IsReadable, IsVersion, IsNoFrame, IsRightFront, IsDamaged, RefusesFile, AreNext}
 
 pub length-seal : (bytes : List ℕ) → length (seal bytes) ≡ 16
 unfolding seal
@@ -321,3 +321,8 @@ last_digest_vouches xs ys last file other a b long =
 pub next_stays : {D : Type 0} (next_of : D → Option (List ℕ)) (old new : BatchFile D) (next : Next) (batches : List (List ℕ))
     → next_of new.device ≡ next_of old.device → AreNext next_of old next batches → AreNext next_of new next batches
 next_stays next_of old new next batches same was = record { frames = was.frames; is = same ∙ was.is; are = was.are; end = was.end }
+
+-- the digest of the last frame is that of the last batch
+pub last_is : (before : List ℕ) (batches : List (List ℕ)) (last bytes : List ℕ) → AreFrames before batches last bytes → last ≡ last_of before batches
+last_is before [] last bytes are = are.0
+last_is before (batch ∷ later) last bytes are = last_is (digest before batch) later last are.0 are.2

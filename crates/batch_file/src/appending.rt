@@ -1,18 +1,18 @@
 //! A file of batches: they are added one by one, or another file is put in the place of all.
 
-ghost use Rattle.std.specs.Prelude.{◌≡◌, ◌<◌, ◌≤◌, ◌^◌, ◌+◌, ◌++◌, [], ◌∷◌, true, false, length, IfOk, IfErr, IfNone, IfSome, OnOk, IsErrOf, IsTrue, IsFalse};
+ghost use Rattle.std.specs.Prelude.{◌≡◌, ◌<◌, ◌≤◌, ◌^◌, ◌+◌, ◌++◌, [], ◌∷◌, true, false, length, IfOk, IfErr, IfNone, IfSome, OnOk, IsErrOf, IsTrue, IsFalse, ℕ};
 ghost use Rattle.batch_file.specs.Crashes.{HasCause, IsFailure, IsReplaceFailure, IsUnplaced, IsWrittenAt, LeavesOnly, Only};
 ghost use Rattle.batch_file.specs.declared.device.DeviceFault.TheVariants.{Memory};
 ghost use Rattle.batch_file.specs.Faults.{of_device, of_replacement, IsOfRoom, TellsNoRoom};
-ghost use Rattle.batch_file.specs.Frames.{file_size, limit, most_room, recovered, IsAsBefore, IsBeforeOrAfter, IsFileOf, IsOldOrNew, IsBatchFailure, IsOnDisk, IsReadable, IsRenewFailure, IsUnrenewed};
+ghost use Rattle.batch_file.specs.Frames.{file_size, limit, most_room, recovered, IsAsBefore, IsBeforeOrAfter, IsFileOf, IsOldOrNew, IsBatchFailure, IsOnDisk, IsUndisturbed, IsReadable, IsRenewFailure, IsUnrenewed};
 ghost use Rattle.batch_file.specs.Tears.{Torn};
 
 use crate::device::{Device, DeviceFault, ReplaceFault};
 use crate::frames::Frames;
 use crate::framing::head_of;
-use crate::system::SystemFault;
 use std::alloc::Global;
 use std::fmt::{self, Display, Formatter, Write};
+use system_faults::SystemFault;
 
 /// Behind this many bytes nothing is added.
 pub const MAX_END: usize = 1 << 60;
@@ -49,6 +49,8 @@ pub enum BatchFault {
 impl Display for BatchFault {
     fn fmt<W: Write>(&self, f: &mut Formatter<W>) -> fmt::Result {
         match self {
+            BatchFault::Failed(SystemFault::Overtaken) => write!(f, "Overtaken"),
+            BatchFault::Failed(SystemFault::Unclear) => write!(f, "Unclear"),
             BatchFault::Failed(reason) => write!(f, "Failed: {reason}"),
             BatchFault::NoRoom(reason) => write!(f, "NoRoom: {reason}"),
             _ => write!(f, "{self:?}"),
@@ -127,16 +129,12 @@ impl<D: Device> BatchFile<D> {
         ensures placed { IfOk result (λ file. recovered (D.seen file.device) ≡ frames) }
         ensures end { IfOk result (λ file. file.end + 1 ≡ file_size frames) }
         // A crash at any moment leaves what one before would have left, or the new file.
-        ensures any_moment { IfOk result (λ file. LeavesOnly D.moment D.left_since device file.device
-            (IsAsBefore (D.may_leave device) frames)) }
-        ensures any_moment_lost { IfErr result (λ lost. LeavesOnly D.moment D.left_since device lost.device
-            (IsAsBefore (D.may_leave device) frames)) }
+        ensures any_moment { IfOk result (λ file. LeavesOnly D.moment D.left_since device file.device (IsAsBefore (D.may_leave device) frames)) }
+        ensures any_moment_lost { IfErr result (λ lost. LeavesOnly D.moment D.left_since device lost.device (IsAsBefore (D.may_leave device) frames)) }
         ensures truth { IfOk result (λ file. D.reads_true file.device → D.reads_true device) }
         ensures truth_lost { IfErr result (λ lost. D.reads_true lost.device → D.reads_true device) }
-        ensures true_before { IfOk result (λ file. LeavesOnly D.moment D.left_since device file.device
-            (λ _. D.reads_true device)) }
-        ensures true_before_lost { IfErr result (λ lost. LeavesOnly D.moment D.left_since device lost.device
-            (λ _. D.reads_true device)) }
+        ensures true_before { IfOk result (λ file. LeavesOnly D.moment D.left_since device file.device (λ _. D.reads_true device)) }
+        ensures true_before_lost { IfErr result (λ lost. LeavesOnly D.moment D.left_since device lost.device (λ _. D.reads_true device)) }
         ensures untouched { IfErr result (λ lost. IsUnplaced lost.fault → lost.device ≡ device) }
         ensures failed { IfErr result (λ lost. IsReplaceFailure lost.fault → D.faults device < D.faults lost.device) }
     {
@@ -176,6 +174,8 @@ impl<D: Device> BatchFile<D> {
         // It is added only where the file stands where it was opened.
         ensures in_place { OnOk result (D.tells_place self.old.device true) }
         ensures displaced { IsErrOf result BatchFault.Displaced → D.tells_place self.old.device false }
+        // Where it is acknowledged, nobody else had begun when it was asked for.
+        ensures sole { OnOk result ((t : ℕ) → t ≤ D.moment self.old.device → D.is_sole self.new.device t) }
         ensures next { D.next self.new.device ≡ D.next self.old.device }
     {
         if batch.len() >= LIMIT {
@@ -207,8 +207,7 @@ impl<D: Device> BatchFile<D> {
         ensures room { OnOk result (need ≤ self.new.room) }
         ensures same { (self.new.end ≡ self.old.end) × (self.new.last ≡ self.old.last) }
         ensures batches { OnOk result (recovered (D.seen self.new.device) ≡ recovered (D.seen self.old.device)) }
-        ensures any_moment { LeavesOnly D.moment D.left_since self.old.device self.new.device
-            (IsFileOf (recovered (D.seen self.old.device))) }
+        ensures any_moment { LeavesOnly D.moment D.left_since self.old.device self.new.device (IsFileOf (recovered (D.seen self.old.device))) }
         ensures truth { D.reads_true self.new.device → D.reads_true self.old.device }
         ensures true_before { LeavesOnly D.moment D.left_since self.old.device self.new.device (λ _. D.reads_true self.old.device) }
         ensures failed { IfErr result (λ fault. IsBatchFailure fault → D.faults self.old.device < D.faults self.new.device) }
@@ -241,8 +240,7 @@ impl<D: Device> BatchFile<D> {
         ensures room { OnOk result (need ≤ self.new.room) }
         ensures same { (self.new.end ≡ self.old.end) × (self.new.last ≡ self.old.last) }
         ensures batches { OnOk result (recovered (D.seen self.new.device) ≡ recovered (D.seen self.old.device)) }
-        ensures any_moment { LeavesOnly D.moment D.left_since self.old.device self.new.device
-            (IsFileOf (recovered (D.seen self.old.device))) }
+        ensures any_moment { LeavesOnly D.moment D.left_since self.old.device self.new.device (IsFileOf (recovered (D.seen self.old.device))) }
         ensures truth { D.reads_true self.new.device → D.reads_true self.old.device }
         ensures true_before { LeavesOnly D.moment D.left_since self.old.device self.new.device (λ _. D.reads_true self.old.device) }
         ensures failed { IfErr result (λ fault. IsBatchFailure fault → D.faults self.old.device < D.faults self.new.device) }
@@ -273,8 +271,7 @@ impl<D: Device> BatchFile<D> {
         ensures told { IfOk result (λ refused. IfSome refused (D.tells_full self.old.device more)) }
         ensures same { (self.new.end ≡ self.old.end) × (self.new.last ≡ self.old.last) }
         ensures batches { OnOk result (recovered (D.seen self.new.device) ≡ recovered (D.seen self.old.device)) }
-        ensures any_moment { LeavesOnly D.moment D.left_since self.old.device self.new.device
-            (IsFileOf (recovered (D.seen self.old.device))) }
+        ensures any_moment { LeavesOnly D.moment D.left_since self.old.device self.new.device (IsFileOf (recovered (D.seen self.old.device))) }
         ensures truth { D.reads_true self.new.device → D.reads_true self.old.device }
         ensures true_before { LeavesOnly D.moment D.left_since self.old.device self.new.device (λ _. D.reads_true self.old.device) }
         ensures cause { HasCause IsFailure (D.faults self.old.device) (D.faults self.new.device) result }
@@ -289,6 +286,37 @@ impl<D: Device> BatchFile<D> {
         Ok(Some(reason))
     }
 
+    /// Asks whether nobody else has begun to write since. At an error the file is of no use any more.
+    pub fn confirm(&mut self) -> Result<(), BatchFault>
+        requires { IsOnDisk D.seen D.may_leave D.faults self.old }
+        ensures settled { OnOk result (IsOnDisk D.seen D.may_leave D.faults self.new) }
+        ensures sole { OnOk result ((t : ℕ) → t ≤ D.moment self.old.device → D.is_sole self.new.device t) }
+        ensures same { OnOk result (IsUndisturbed D.seen D.moment D.left_since self.old self.new) }
+        ensures any_moment { LeavesOnly D.moment D.left_since self.old.device self.new.device (λ file. file ≡ D.seen self.old.device) }
+        ensures truth { D.reads_true self.new.device → D.reads_true self.old.device }
+        ensures true_before { LeavesOnly D.moment D.left_since self.old.device self.new.device (λ _. D.reads_true self.old.device) }
+        ensures failed { IfErr result (λ fault. IsBatchFailure fault → D.faults self.old.device < D.faults self.new.device) }
+        ensures next { D.next self.new.device ≡ D.next self.old.device }
+    {
+        Ok(self.device.confirm()?)
+    }
+
+    /// Keeps the place of whoever writes, by a steady clock in milliseconds: the batches stay as they are. It says by when it wants to be
+    /// called again, if it does. At an error the file is of no use any more.
+    pub fn tend(&mut self, now: u64) -> Result<Option<u64>, BatchFault>
+        requires { IsOnDisk D.seen D.may_leave D.faults self.old }
+        ensures settled { OnOk result (IsOnDisk D.seen D.may_leave D.faults self.new) }
+        ensures tended { IfOk result (λ due. D.tends self.old.device now due self.new.device) }
+        ensures same { OnOk result (IsUndisturbed D.seen D.moment D.left_since self.old self.new) }
+        ensures any_moment { LeavesOnly D.moment D.left_since self.old.device self.new.device (λ file. file ≡ D.seen self.old.device) }
+        ensures truth { D.reads_true self.new.device → D.reads_true self.old.device }
+        ensures true_before { LeavesOnly D.moment D.left_since self.old.device self.new.device (λ _. D.reads_true self.old.device) }
+        ensures failed { IfErr result (λ fault. IsBatchFailure fault → D.faults self.old.device < D.faults self.new.device) }
+        ensures next { D.next self.new.device ≡ D.next self.old.device }
+    {
+        Ok(self.device.tend(now)?)
+    }
+
     /// Puts another file in the place of all that there is. At `Ok` each crash leaves it and nothing else. At `Memory`,
     /// `Unplaced` and `Displaced` it goes on as it was; at `Failed`, open the file again.
     pub fn replace(&mut self, frames: Frames) -> Result<(), RenewFault>
@@ -297,8 +325,7 @@ impl<D: Device> BatchFile<D> {
         ensures replaced { OnOk result (recovered (D.seen self.new.device) ≡ frames) }
         ensures end { OnOk result (self.new.end + 1 ≡ file_size frames) }
         // A crash at any moment of the call leaves the batches from before it, or the new ones in their place.
-        ensures any_moment { LeavesOnly D.moment D.left_since self.old.device self.new.device
-            (IsOldOrNew (recovered (D.seen self.old.device)) frames) }
+        ensures any_moment { LeavesOnly D.moment D.left_since self.old.device self.new.device (IsOldOrNew (recovered (D.seen self.old.device)) frames) }
         ensures readable { LeavesOnly D.moment D.left_since self.old.device self.new.device IsReadable }
         ensures untouched { IfErr result (λ fault. IsUnrenewed fault → self.new ≡ self.old) }
         ensures truth { D.reads_true self.new.device → D.reads_true self.old.device }
@@ -355,6 +382,7 @@ fn write_down<D: Device>(device: &mut D, at: usize, bytes: &[u8]) -> Result<(), 
     ensures truth { D.reads_true device.new → D.reads_true device.old }
     ensures true_before { LeavesOnly D.moment D.left_since device.old device.new (λ _. D.reads_true device.old) }
     ensures cause { HasCause IsFailure (D.faults device.old) (D.faults device.new) result }
+    ensures sole { OnOk result ((t : ℕ) → t ≤ D.moment device.old → D.is_sole device.new t) }
     ensures next { D.next device.new ≡ D.next device.old }
 {
     device.write_at(at, bytes)?;

@@ -1,17 +1,18 @@
 //! A file as a `BatchFile` sees it: what a read would return, and what a crash may leave.
 
-ghost use Rattle.std.specs.Prelude.{◌≡◌, ◌≤◌, ◌++◌, [], Bool, List, ℕ, length, take, drop, Option, Some, None, option_map, IfOk, OnOk, IfErr, IfSome, IfNone};
+ghost use Rattle.std.specs.Prelude.{◌≡◌, ◌≤◌, ◌++◌, [], Bool, List, ℕ, length, take, drop, Option, Some, None, Ok, option_map, IfOk, OnOk, IfErr, IfSome, IfNone};
+ghost use Rattle.batch_file.specs.declared.device.Beginning.TheVariants.{Copy, Settled};
 ghost use Rattle.batch_file.specs.declared.device.DeviceFault.TheVariants.{Memory};
 ghost use Rattle.batch_file.specs.declared.device.ReplaceFault.TheVariants as replacing;
 ghost use Rattle.batch_file.specs.Crashes.{Elapses, ComesOfStep, HasCause, IsBeside, IsFailure, IsUnplaced, IsReplaceFailure, IsWrittenAt, Only, Swapped};
 ghost use Rattle.batch_file.specs.Faults.{of_reading, of_replacing, IsOfRoom};
 ghost use Rattle.batch_file.specs.Frames.{zeros};
 ghost use Rattle.batch_file.specs.Tears.{Torn};
-ghost use Rattle.batch_file.specs.declared.system.SystemFault.{SystemFault};
+ghost use Rattle.system_faults.specs.declared.SystemFault.{SystemFault};
 
-use crate::system::SystemFault;
 use std::alloc::{AllocError, Global};
 use std::io::{self, ErrorKind};
+use system_faults::SystemFault;
 
 /// Why a device did not do what it was asked for.
 #[derive(Clone, Copy, Debug, PartialEq, Eq)]
@@ -71,6 +72,15 @@ impl From<DeviceFault> for ReplaceFault {
     }
 }
 
+/// How a device begins to be written.
+#[derive(Clone, Copy, Debug, PartialEq, Eq)]
+pub enum Beginning {
+    /// What was to be written stands there, and a crash leaves what a read would return.
+    Settled,
+    /// Nothing was done: what a read returns may stand in the system's memory alone, so a copy has to take its place.
+    Copy,
+}
+
 /// A file that outlives the program. Until a `sync` has succeeded, a crash may undo or tear what was done to it.
 pub trait Device {
     /// The bytes that a read would return.
@@ -97,6 +107,12 @@ pub trait Device {
     /// What of it is known to be on the disk.
     ghost next_on_disk: { Self → Option (List ℕ) };
 
+    /// By that moment nobody else had begun to write: of a file whatever was said, by its lock; of one in a cluster what that told.
+    ghost is_sole: { Self → ℕ → Type 0 };
+
+    /// It was tended at that time of the steady clock, and told by when it wants to be called again.
+    ghost tends: { Self → ℕ → Option ℕ → Self → Type 0 };
+
     /// What it may tell of whether its file stands where it was opened.
     ghost tells_place: { Self → Bool → Type 0 };
 
@@ -115,7 +131,8 @@ pub trait Device {
         ensures time { Elapses (moment self.old) (moment self.new) (left_since self.old) (left_since self.new) (may_leave self.new) }
         ensures cause { HasCause IsFailure (faults self.old) (faults self.new) result }
         ensures next { next self.new ≡ next self.old }
-        ensures truth { reads_true self.new → reads_true self.old };
+        ensures truth { reads_true self.new → reads_true self.old }
+        ensures sole { OnOk result ((t : ℕ) → t ≤ moment self.old → is_sole self.new t) };
 
     /// Writes so many zeros behind the end of the file, which is there. Where there is no room for them, the file is left as it was,
     /// and it is told what said so. Until a sync, a crash may leave any bytes there.
@@ -139,6 +156,40 @@ pub trait Device {
         ensures time { Elapses (moment self.old) (moment self.new) (left_since self.old) (left_since self.new) (may_leave self.new) }
         ensures cause { HasCause IsFailure (faults self.old) (faults self.new) result }
         ensures next { next self.new ≡ next self.old }
+        ensures truth { reads_true self.new → reads_true self.old }
+        ensures sole { (t : ℕ) → is_sole self.old t → is_sole self.new t };
+
+    /// Begins to write, with these bytes in the place of what stands behind that end: all at once, where it is done here.
+    fn begin(&mut self, end: usize, bytes: &[u8]) -> Result<Beginning, ReplaceFault>
+        requires { end ≤ length (seen self.old) }
+        ensures settled { result ≡ Ok Settled → seen self.new ≡ take end (seen self.old) ++ bytes.now }
+        ensures durable { result ≡ Ok Settled → Only (seen self.new) (may_leave self.new) }
+        ensures copy { result ≡ Ok Copy → IsBeside seen may_leave faults self.old self.new }
+        ensures unplaced { IfErr result (λ fault. IsUnplaced fault → IsBeside seen may_leave faults self.old self.new) }
+        ensures crash { ComesOfStep (Swapped (take end (seen self.old) ++ bytes.now)) (may_leave self.old) (may_leave self.new) }
+        ensures time { Elapses (moment self.old) (moment self.new) (left_since self.old) (left_since self.new) (may_leave self.new) }
+        ensures cause { HasCause IsReplaceFailure (faults self.old) (faults self.new) result }
+        ensures truth { reads_true self.new → reads_true self.old };
+
+    /// Asks whether nobody else has begun to write since.
+    fn confirm(&mut self) -> Result<(), DeviceFault>
+        ensures sole { OnOk result ((t : ℕ) → t ≤ moment self.old → is_sole self.new t) }
+        ensures beside { OnOk result (IsBeside seen may_leave faults self.old self.new) }
+        ensures crash { (left : List ℕ) → may_leave self.new left → may_leave self.old left }
+        ensures time { Elapses (moment self.old) (moment self.new) (left_since self.old) (left_since self.new) (may_leave self.new) }
+        ensures cause { HasCause IsFailure (faults self.old) (faults self.new) result }
+        ensures next { next self.new ≡ next self.old }
+        ensures truth { reads_true self.new → reads_true self.old };
+
+    /// Keeps the place of whoever writes, and the file in order, by a steady clock in milliseconds. It changes nothing that is seen, and
+    /// says by when it wants to be called again, if it does.
+    fn tend(&mut self, now: u64) -> Result<Option<u64>, DeviceFault>
+        ensures tended { IfOk result (λ due. tends self.old now due self.new) }
+        ensures beside { OnOk result (IsBeside seen may_leave faults self.old self.new) }
+        ensures crash { (left : List ℕ) → may_leave self.new left → may_leave self.old left }
+        ensures time { Elapses (moment self.old) (moment self.new) (left_since self.old) (left_since self.new) (may_leave self.new) }
+        ensures cause { HasCause IsFailure (faults self.old) (faults self.new) result }
+        ensures next { next self.new ≡ next self.old }
         ensures truth { reads_true self.new → reads_true self.old };
 
     /// Puts another file in the place of this one. A crash leaves the one or the other.
@@ -151,11 +202,10 @@ pub trait Device {
         ensures cause { HasCause IsReplaceFailure (faults self.old) (faults self.new) result }
         ensures truth { reads_true self.new → reads_true self.old };
 
-    /// So many of its bytes, from that place on. Where they are not given, nothing was done.
+    /// So many of its bytes, from that place on.
     fn read_at(&mut self, alloc: Global, at: usize, size: usize) -> Result<Vec<u8>, DeviceFault>
         ensures read { IfOk result (λ bytes. reads_true self.new → bytes.items ≡ take size (drop at (seen self.new))) }
         ensures size { IfOk result (λ bytes. length bytes.items ≡ size) }
-        ensures untouched { IfErr result (λ _. self.new ≡ self.old) }
         ensures beside { IsBeside seen may_leave faults self.old self.new }
         ensures time { Elapses (moment self.old) (moment self.new) (left_since self.old) (left_since self.new) (may_leave self.new) }
         ensures next { next self.new ≡ next self.old }

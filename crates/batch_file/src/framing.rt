@@ -11,9 +11,9 @@ ghost use Rattle.batch_file.specs.Reads.{Begins, HasFrame, IsFound, IsFront};
 
 use crate::device::DeviceFault;
 use crate::frames::Frames;
-use crate::system::SystemFault;
 use sha2::{Digest, Sha256};
 use std::alloc::{AllocError, AllocFailed, Global};
+use system_faults::SystemFault;
 
 /// What a file of each version begins with, up to its digit.
 const TITLE: [u8; 14] = *b"oauthd state v";

@@ -14,5 +14,4 @@ pub mod laws;
 pub mod next;
 pub mod reader;
 pub mod source;
-pub mod system;
 pub mod walk;

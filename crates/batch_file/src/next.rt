@@ -8,8 +8,8 @@ ghost use Rattle.batch_file.specs.Frames.{frames_size, recovered, size_at, AreNe
 use crate::appending::{BatchFile, LIMIT, MAX_END, RenewFault};
 use crate::device::{Device, DeviceFault};
 use crate::framing::{HEADER, head_of};
-use crate::system::SystemFault;
 use std::alloc::Global;
+use system_faults::SystemFault;
 
 impl From<DeviceFault> for RenewFault {
     ghost from_gives = { λ device fault. fault ≡ of_next device };

@@ -1,16 +1,16 @@
 //! The batches of a file that is read in pieces, one by one: no more than one of them is in memory.
 
 ghost use Rattle.std.specs.Prelude.{◌≡◌, ◌⊎◌, ◌<◌, ◌≤◌, ◌^◌, ◌+◌, ◌++◌, [], ◌∷◌, List, ℕ, length, IfOk, IfErr, IfSome, IfNone, OnOk, IsTrue, IsFalse};
-ghost use Rattle.batch_file.specs.Frames.{frames_size, header, recovered, torn_of, IsNoFrame, IsReadable, RefusesFile, RefusesHeader};
+ghost use Rattle.batch_file.specs.Frames.{frames_size, header, last_of, recovered, torn_of, IsNoFrame, IsReadable, RefusesFile, RefusesHeader};
 ghost use Rattle.batch_file.specs.Readers.{ahead, HasRead, IsUnread};
 ghost use Rattle.batch_file.specs.ReadersParts.{IsEnd, StaysThere};
 
 use crate::appending::MAX_END;
 use crate::framing::{HEADER, MOST_ROOM, ReadFault, is_end, trimmed, version_of};
 use crate::source::{ByteSource, PIECE};
-use crate::system::SystemFault;
 use crate::walk::{Walk, is_decided};
 use std::alloc::Global;
+use system_faults::SystemFault;
 
 /// Reads a file frame by frame.
 #[derive(Drop)]
@@ -43,6 +43,8 @@ pub struct ReadOver<S> {
     pub torn: Vec<u8>,
     /// Where the frames end.
     pub end: usize,
+    /// The digest of the last of them.
+    pub last: [u8; 16],
 }
 
 impl<S: ByteSource + Drop> FrameReader<S> {
@@ -106,6 +108,8 @@ impl<S: ByteSource + Drop> FrameReader<S> {
             → read.torn.items ≡ torn_of (S.told read.source)) }
         ensures end { IfOk result (λ read. (batches : List (List ℕ)) → HasRead S.told S.is_over batches self
             → read.end ≡ 16 + frames_size (recovered (S.told read.source))) }
+        ensures last { IfOk result (λ read. (batches : List (List ℕ)) → HasRead S.told S.is_over batches self
+            → read.last ≡ last_of header (recovered (S.told read.source))) }
         ensures whole { IfOk result (λ read. (all : List ℕ) → S.whole self.source all → S.whole read.source all) }
         ensures whole_lost { IfErr result (λ lost. (all : List ℕ) → S.whole self.source all → S.whole lost.source all) }
         ensures refused { IfErr result (λ lost. IsUnread lost.fault ⊎ ((batches : List (List ℕ)) → HasRead S.told S.is_over batches self
@@ -117,6 +121,7 @@ impl<S: ByteSource + Drop> FrameReader<S> {
                 source: reader.source,
                 torn,
                 end: reader.walk.end,
+                last: reader.walk.last,
             }),
             Err(fault) => Err(NotRead {
                 fault,

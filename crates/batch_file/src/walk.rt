@@ -8,8 +8,8 @@ use crate::appending::MAX_END;
 use crate::device::DeviceFault;
 use crate::framing::{HEADER, digest_at, first_batch};
 use crate::source::behind;
-use crate::system::SystemFault;
 use std::alloc::{AllocError, Global};
+use system_faults::SystemFault;
 
 /// A file is longer than one may be.
 pub const TOO_LONG: DeviceFault = DeviceFault::Failed(SystemFault::FileTooLarge);

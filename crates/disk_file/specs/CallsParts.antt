@@ -3,8 +3,8 @@ use Rattle.std.specs.Prelude.{ℕ, Result, is_ok, List, [], ◌∷◌, ◌++◌,
 use Rattle.disk_file.specs.declared.call_log.DiskCall.{DiskCall}
 use Rattle.disk_file.specs.declared.call_log.DiskCall.TheVariants as made
 use Rattle.batch_file.specs.declared.device.DeviceFault.{DeviceFault}
-use Rattle.batch_file.specs.declared.system.SystemFault.{SystemFault}
-use Rattle.batch_file.specs.declared.system.SystemFault.TheVariants as system
+use Rattle.system_faults.specs.declared.SystemFault.{SystemFault}
+use Rattle.system_faults.specs.declared.SystemFault.TheVariants as system
 use Rattle.disk_file.specs.Calls.{Call, Logged, Opened, Wrote, Grew, Refused, Synced, Replaced, Read, Began, Added, NextSynced, Placed, Dropped}
 
 -- the call that a program makes

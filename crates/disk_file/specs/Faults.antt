@@ -5,8 +5,8 @@ use Rattle.std.specs.declared.io.ErrorKind.{ErrorKind}
 use Rattle.std.specs.declared.io.ErrorKind.TheVariants as kinds
 use Rattle.std.specs.declared.fs.locks.TryLockError.{TryLockError}
 use Rattle.std.specs.declared.fs.locks.TryLockError.TheVariants as lock
-use Rattle.batch_file.specs.declared.system.SystemFault.{SystemFault}
-use Rattle.batch_file.specs.Faults.{system_fault}
+use Rattle.system_faults.specs.declared.SystemFault.{SystemFault}
+use Rattle.system_faults.specs.Faults.{system_fault}
 use Rattle.disk_file.specs.declared.faults.OpenFault.{OpenFault}
 use Rattle.disk_file.specs.declared.faults.OpenFault.TheVariants as opening
 use Rattle.disk_file.specs.declared.faults.MakeFault.{MakeFault}

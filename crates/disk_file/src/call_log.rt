@@ -7,9 +7,9 @@ ghost use Rattle.disk_file.specs.Calls.{Logged};
 ghost use Rattle.disk_file.specs.CallsParts.{logged, with_more, with_note};
 
 use batch_file::device::DeviceFault;
-use batch_file::system::SystemFault;
 use std::io;
 use std::marker::{Model, PhantomData};
+use system_faults::SystemFault;
 
 /// A call of the system on the file.
 #[derive(Clone, Copy)]

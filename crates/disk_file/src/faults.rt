@@ -5,11 +5,11 @@ ghost use Rattle.disk_file.specs.declared.faults.OpenFault.TheVariants as openin
 ghost use Rattle.disk_file.specs.declared.faults.MakeFault.TheVariants as making;
 ghost use Rattle.disk_file.specs.Faults.{of_error, of_making, of_lock};
 
-use batch_file::system::SystemFault;
 use std::alloc::AllocError;
 use std::fmt::{self, Display, Formatter, Write};
 use std::fs::TryLockError;
 use std::io::{self, ErrorKind};
+use system_faults::SystemFault;
 
 /// Why a file is not opened.
 #[derive(Clone, Copy, Debug, PartialEq, Eq)]

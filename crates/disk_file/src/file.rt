@@ -4,7 +4,7 @@
 //! The lock is held on a file of its own beside it, since the file itself is another one after a replacement. All names of the
 //! file lead to that lock: links to the file are refused, and one that is mounted by itself can't be replaced.
 
-ghost use Rattle.std.specs.Prelude.{◌≡◌, [], ◌∷◌, ⊤, length, bit_and, IfOk, IfErr, OnOk, IfSome, IfNone, IsTrue, ◌↔◌, Some};
+ghost use Rattle.std.specs.Prelude.{◌≡◌, [], ◌∷◌, ⊤, length, bit_and, IfOk, IfErr, OnOk, IfSome, IfNone, IsTrue, ◌↔◌, Some, None};
 ghost use Rattle.std.specs.Fs.{file_type, metadata_mode, IsFile, IsSymlink};
 ghost use Rattle.disk_file.specs.declared.faults.OpenFault.TheVariants as opening;
 ghost use Rattle.disk_file.specs.Calls.{content, failures, next_content, next_on_disk, only_opened, LeftSince, MayLeave, ReadsTrue};
@@ -17,15 +17,15 @@ use crate::call_log::{CallLog, DiskCall};
 use crate::faults::OpenFault;
 use crate::making::{folder_of, make_file, options};
 use crate::source::DiskSource;
-use batch_file::device::{Device, DeviceFault, ReplaceFault};
+use batch_file::device::{Beginning, Device, DeviceFault, ReplaceFault};
 use batch_file::source::ByteSource;
-use batch_file::system::SystemFault;
 use std::alloc::Global;
 use std::fs::{self, File, Metadata, OpenFile, TryLockError};
 use std::io::{self, Read, Write};
 use std::marker::PhantomData;
 use std::os::unix::fs::{FileExt, MetadataExt, lchown};
 use std::rt::Files;
+use system_faults::SystemFault;
 
 /// The bits by which a file's group and others may write it.
 const OTHERS_WRITE: u32 = 0o022;
@@ -326,6 +326,12 @@ impl<'r, F: SystemFile, R: Files<File = F> + AllocGlobal, B: Before> Device
     // Nor of what it tells of room.
     ghost tells_full = { λ _ _ _. ⊤ };
 
+    // Its lock keeps others away.
+    ghost is_sole = { λ _ _. ⊤ };
+
+    // It wants nothing.
+    ghost tends = { λ _ _ due _. due ≡ None };
+
     fn is_in_place(&self) -> bool {
         is_same(
             fs::symlink_metadata(self.rt, self.path.as_str()),
@@ -361,6 +367,19 @@ impl<'r, F: SystemFile, R: Files<File = F> + AllocGlobal, B: Before> Device
     fn sync(&mut self) -> Result<(), DeviceFault> {
         let answer = self.file.sync_data();
         self.log.told(DiskCall::Synced, answer)
+    }
+
+    // What was read may stand in the system's memory alone.
+    fn begin(&mut self, _end: usize, _bytes: &[u8]) -> Result<Beginning, ReplaceFault> {
+        Ok(Beginning::Copy)
+    }
+
+    fn confirm(&mut self) -> Result<(), DeviceFault> {
+        Ok(())
+    }
+
+    fn tend(&mut self, _now: u64) -> Result<Option<u64>, DeviceFault> {
+        Ok(None)
     }
 
     fn replace(&mut self, bytes: &[u8]) -> Result<(), ReplaceFault> {

@@ -48,3 +48,15 @@ pub record IsCopied {D : Type 0} (device : Device D) (seen : List ℕ) (behind :
   pub on_disk : device.next_on_disk file ≡ Some bytes
   pub at_rest : IsAtRest next.end 1 next.last bytes
   pub batches : device.reads_true file → recovered bytes ≡ recovered seen ++ behind
+
+-- these bytes are the header and the frames of these batches, and the next frame goes there
+pub record AreBehind (written : List ℕ) (batches : List (List ℕ)) (front : Next) : Type 0 where
+  pub frames : List ℕ
+  pub is : written ≡ header ++ frames
+  pub are : AreFrames header batches front.last frames
+  pub end : front.end ≡ 16 + frames_size batches
+
+-- with what was gathered behind them they are a file at rest, of these batches
+pub record AreGatheredWhole (written : List ℕ) (batches : List (List ℕ)) (gathered : Gathered) : Type 0 where
+  pub at_rest : IsAtRest gathered.next.end 1 gathered.next.last (written ++ gathered.out.items)
+  pub batches_are : recovered (written ++ gathered.out.items) ≡ batches

@@ -3,25 +3,99 @@
 ghost use Rattle.std.specs.Prelude.{◌≡◌, ◌<◌, ◌+◌, ◌++◌, [], ◌∷◌, List, ℕ, Option, Some, IfOk, IfErr, OnOk};
 ghost use Rattle.batch_file.specs.Crashes.{IsBeside, IsReplaceFailure, IsUnplaced, LeavesOnly};
 ghost use Rattle.batch_file.specs.Faults.{of_copying};
-ghost use Rattle.batch_file.specs.Frames.{digest, frames_size, lists, recovered, IsAsBefore, IsOnDisk, IsReadable};
-ghost use Rattle.file_copy.specs.Copies.{AreGathered, HasCopied, HasSeen, IsCopied, KeepsAside};
+ghost use Rattle.batch_file.specs.Frames.{digest, frames_size, header, last_of, lists, recovered, IsAsBefore, IsOnDisk, IsReadable};
+ghost use Rattle.file_copy.specs.Copies.{AreBehind, AreGathered, AreGatheredWhole, HasCopied, HasSeen, IsCopied, KeepsAside};
 
 use batch_file::appending::{BatchFile, LOW, MAX_END, NotPlaced};
-use batch_file::device::{Device, DeviceFault, ReplaceFault};
+use batch_file::device::{Beginning, Device, DeviceFault, ReplaceFault};
 use batch_file::frames::MAX_BATCH;
 use batch_file::framing::{HEADER, head_of};
 use batch_file::next::Next;
 use batch_file::source::PIECE;
-use batch_file::system::SystemFault;
 use batch_file::walk::{TOO_LONG, Walk, is_decided};
 use std::alloc::{AllocError, Global};
+use system_faults::SystemFault;
 
 /// What stands there is not what was read before.
 const CHANGED: DeviceFault = DeviceFault::Failed(SystemFault::Other);
 
+/// Begins to write what a device has, up to that end, with these batches behind it: there, where the device does that all at once;
+/// else in a copy, which takes the place of all. It may crash too.
+pub fn place_behind<D: Device>(
+    alloc: Global,
+    device: D,
+    front: Next,
+    behind: &[Vec<u8>],
+) -> Result<BatchFile<D>, NotPlaced<D>>
+    requires faultless { D.faults device ≡ 0 }
+    requires readable { IsReadable (D.seen device) }
+    requires end { front.end ≡ 16 + frames_size (recovered (D.seen device)) }
+    requires last { front.last ≡ last_of header (recovered (D.seen device)) }
+    ensures settled { IfOk result (λ file. IsOnDisk D.seen D.may_leave D.faults file) }
+    ensures placed { IfOk result (λ file. D.reads_true file.device
+        → recovered (D.seen file.device) ≡ recovered (D.seen device) ++ lists behind.now) }
+    ensures end { IfOk result (λ file. file.end ≡ front.end + frames_size (lists behind.now)) }
+    // A crash at any moment leaves what one before would have left, or the new file.
+    ensures any_moment { IfOk result (λ file. LeavesOnly D.moment D.left_since device file.device
+        (IsAsBefore (D.may_leave device) (recovered (D.seen device) ++ lists behind.now))) }
+    ensures any_moment_lost { IfErr result (λ lost. LeavesOnly D.moment D.left_since device lost.device
+        (IsAsBefore (D.may_leave device) (recovered (D.seen device) ++ lists behind.now))) }
+    ensures truth { IfOk result (λ file. D.reads_true file.device → D.reads_true device) }
+    ensures truth_lost { IfErr result (λ lost. D.reads_true lost.device → D.reads_true device) }
+    ensures true_before { IfOk result (λ file. LeavesOnly D.moment D.left_since device file.device
+        (λ _. D.reads_true device)) }
+    ensures true_before_lost { IfErr result (λ lost. LeavesOnly D.moment D.left_since device lost.device
+        (λ _. D.reads_true device)) }
+    ensures unplaced { IfErr result (λ lost. IsUnplaced lost.fault → IsBeside D.seen D.may_leave D.faults device lost.device) }
+    ensures failed { IfErr result (λ lost. IsReplaceFailure lost.fault → D.faults device < D.faults lost.device) }
+{
+    let mut device = device;
+    let gathered = match gather_behind(alloc, front, behind) {
+        Ok(gathered) => gathered,
+        Err(fault) => {
+            return Err(NotPlaced {
+                fault: unplaced(fault),
+                device,
+            });
+        }
+    };
+    match device.begin(front.end, &gathered.out) {
+        Ok(Beginning::Settled) => {
+            let Next { end, last } = gathered.next;
+            Ok(BatchFile {
+                device,
+                end,
+                room: 1,
+                last,
+                low: LOW,
+                refused: None,
+            })
+        }
+        Ok(Beginning::Copy) => place_copy(alloc, device, front.end, behind),
+        Err(fault) => Err(NotPlaced { fault, device }),
+    }
+}
+
+/// The frames of batches, and a zero: what is to stand behind that front.
+fn gather_behind(alloc: Global, front: Next, behind: &[Vec<u8>]) -> Result<Gathered, DeviceFault>
+    ensures gathered { IfOk result (λ made. (written : List ℕ) (batches : List (List ℕ)) → AreBehind written batches front
+        → AreGatheredWhole written (batches ++ lists behind.now) made) }
+{
+    let mut whole = Gathered {
+        out: Vec::new(alloc),
+        next: front,
+    };
+    for batch in behind {
+        let made = whole.digest(batch)?;
+        whole.gather(batch, &made)?;
+    }
+    whole.out.extend_from_slice(&[0])?;
+    Ok(whole)
+}
+
 /// Copies the frames of what a device has, up to that end, and these batches behind them, to a next file, and puts that in the
 /// place of all: what was read may stand in the system's memory alone, where an earlier sync has failed. It may crash too.
-pub fn place_behind<D: Device>(
+fn place_copy<D: Device>(
     alloc: Global,
     device: D,
     end: usize,

@@ -28,3 +28,6 @@ returns-clause-any_moment g c =
     let file = D.seen c.args.device.now in
     let first = called D.moment D.left_since D.may_leave file (Torn at bytes file) (Torn at bytes) c.args.device.now c.write_at.new.self (not_torn at bytes file) (λ left torn. torn) (g.met.D.Device.only_now c.args.device.now) c.requires.durable c.write_at.ensures.crash c.write_at.ensures.time in
     synced D.moment D.left_since D.may_leave file (Torn at bytes file) (Torn at bytes) c.args.device.now c.write_at.new.self c.sync.new.self first c.sync.ensures.crash c.sync.ensures.time
+
+pub returns-clause-sole : goal.returns-clause-sole
+returns-clause-sole g c = λ t le. c.sync.ensures.sole t (c.in_ok-write_at.ensures.sole t le)

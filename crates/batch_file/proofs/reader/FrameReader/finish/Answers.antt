@@ -1,3 +1,6 @@
+use Rattle.std.proofs.Common.{◌++◌, ◌∙◌, ap, sym}
+use Rattle.batch_file.specs.Frames.{header, last_of}
+use Rattle.batch_file.specs.FramesLaws.{last_is}
 use Rattle.batch_file.proofs.reader.FrameReader.finish.Goals as goal
 
 pub returns-in-Ok-clause-batches : goal.returns-in-Ok-clause-batches
@@ -19,3 +22,8 @@ pub returns-in-Ok-clause-end : goal.returns-in-Ok-clause-end
 returns-in-Ok-clause-end g c = λ batches h.
     let all = c.in-Ok.ensures.read batches h in
     all.3.end_is
+
+pub returns-in-Ok-clause-last : goal.returns-in-Ok-clause-last
+returns-in-Ok-clause-last g c = λ batches h.
+    let all = c.in-Ok.ensures.read batches h in
+    last_is header (batches ++ all.0) _ _ all.2.walked.are ∙ ap (last_of header) (sym all.3.are)

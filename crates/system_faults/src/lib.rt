@@ -1,7 +1,8 @@
 //! Why the system refused a call on a file.
+#![tactic(auto)]
 
 ghost use Rattle.std.specs.Prelude.{◌≡◌, Some};
-ghost use Rattle.batch_file.specs.Faults.{fault_of_kind, system_fault};
+ghost use Rattle.system_faults.specs.Faults.{fault_of_kind, system_fault};
 
 use std::fmt::{self, Display, Formatter, Write};
 use std::io::{self, ErrorKind};
@@ -42,6 +43,10 @@ pub enum SystemFault {
     InputOutput,
     /// Memory was refused.
     OutOfMemory,
+    /// Another server has begun to write.
+    Overtaken,
+    /// Nothing was told in time: it may be done, or not.
+    Unclear,
     /// Some other fault.
     Other,
 }
@@ -99,6 +104,8 @@ impl Display for SystemFault {
             SystemFault::InvalidFilename => write!(f, "invalid filename"),
             SystemFault::InputOutput => write!(f, "input/output error"),
             SystemFault::OutOfMemory => write!(f, "out of memory"),
+            SystemFault::Overtaken => write!(f, "overtaken by another server"),
+            SystemFault::Unclear => write!(f, "no answer"),
             SystemFault::Other => write!(f, "other error"),
         }
     }
