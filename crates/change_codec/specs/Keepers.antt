@@ -4,8 +4,8 @@ use Rattle.change_codec.specs.Keeping.{Crashes, crashes}
 use Rattle.change_codec.specs.declared.keeper.Keeper.{Ghosts as Keeper}
 
 -- what crashes leave of it, how many bytes all that it keeps takes, when it failed when it was called last, when it keeps more than
--- it may, how much is to be gone over until that is shortened, when no more than a slice was gone over, when it was shortened, and
--- whether it was refused room for more when it asked last
+-- it may, how much is to be gone over until that is shortened, when no more than a slice was gone over, when it was shortened,
+-- whether it was refused room for more when it asked last, by which moment nobody else had begun, and how it was tended
 pub record Keeping (K : Type 0) : Type 1 where
   pub crashes : Crashes K
   pub size : K → Option ℕ
@@ -15,6 +15,8 @@ pub record Keeping (K : Type 0) : Type 1 where
   pub slices : K → K → Type 0
   pub shortens : K → K → Type 0
   pub wants_room : K → Bool
+  pub is_sole : K → ℕ → Type 0
+  pub tends : K → ℕ → Option ℕ → K → Type 0
 
 abbrev pub keeping : {K : Type 0} → Keeper K → Keeping K
 keeping keeper = record {
@@ -26,4 +28,6 @@ keeping keeper = record {
   slices = keeper.slices;
   shortens = keeper.shortens;
   wants_room = keeper.wants_room;
+  is_sole = keeper.is_sole;
+  tends = keeper.tends;
 }

@@ -1,7 +1,7 @@
 -- What is made of the bytes of a file, once its batches were gone over.
 use Rattle.std.proofs.Common.{◌≡◌, ◌<◌, ◌≤◌, ◌^◌, ◌↔◌, inl, inr, ℕ, List, [], ◌∷◌, ◌++◌, length, Bool, true, false, None, sym, ap, ◌∙◌, subst}
 use Rattle.std.specs.Prelude.{Result, Ok, Err, Option, Some, IfOk, IfErr, IfNone, IfSome, OnOk}
-use Rattle.batch_file.specs.Frames.{RefusesFile, RefusesHeader}
+use Rattle.batch_file.specs.Frames.{header, last_of, RefusesFile, RefusesHeader}
 use Rattle.batch_file.specs.Readers.{IsUnread}
 use Rattle.batch_file.specs.declared.framing.ReadFault.{ReadFault}
 use Rattle.batch_file.specs.declared.framing.ReadFault.TheVariants as reading
@@ -44,11 +44,11 @@ module _ {H : Type 0} (hosting : Hosting H) (outset : Outset H) (gone : Gone H) 
 
   -- what is made of the bytes
   pub resumed_is : (bytes : List ℕ) (resumed : Resumed H) (told : Bool) → gone.front.batches ≡ recovered bytes → IsRedone hosting outset gone.front.batches resumed.restored →
-      resumed.restored.server.unkept ≡ None → resumed.front ≡ gone.front → resumed.end ≡ end_of gone.front.batches → frames_size gone.front.batches < 2 ^ 64 → resumed.torn.items ≡ torn_of bytes →
+      resumed.restored.server.unkept ≡ None → resumed.front ≡ gone.front → resumed.end ≡ end_of gone.front.batches → resumed.last ≡ last_of header gone.front.batches → frames_size gone.front.batches < 2 ^ 64 → resumed.torn.items ≡ torn_of bytes →
       resumed.known.rules.items ≡ rules_spelling told_rules → RulesFit told_rules → length resumed.known.rules.items < 2 ^ 32 → TakesRules (lists gone.telling.items) told_rules →
       (IsTrue told ↔ Tell (lists gone.telling.items) told_rules) → (told ≡ true → lists resumed.behind.items ≡ []) → (told ≡ false → lists resumed.behind.items ≡ resumed.known.rules.items ∷ []) →
       resumed.known.shortened ≡ gone.measures.shortened → resumed.known.until ≡ gone.measures.until → IsResumed hosting bytes outset resumed
-  resumed_is bytes resumed told are redone unnoted front end small torn spelled fit few takes tells none one shortened until =
+  resumed_is bytes resumed told are redone unnoted front end last small torn spelled fit few takes tells none one shortened until =
       let batches = gone.front.batches in
       let telling = lists gone.telling.items in
       let now : RulesFact = rules_of outset.rules in
@@ -75,6 +75,7 @@ module _ {H : Type 0} (hosting : Hosting H) (outset : Outset H) (gone : Gone H) 
         front_is = fronts;
         told = behind;
         end_is = end ∙ ap end_of (sym (ap (λ (f : Front). f.batches) front));
+        last_is = last ∙ ap (last_of header) (sym (ap (λ (f : Front). f.batches) front));
         known = known_begun (recovered bytes) new listed.0 resumed.known now listed.1 spelled_now few behind (shortened ∙ sizes.1 ∙ ap shortened_size are) (until ∙ has.measured.until_is ∙ ap until_of are);
         torn_is = torn;
       }

@@ -1,6 +1,6 @@
 -- What the batches of a file come to that were gone over. Only the contracts of this crate's own parts and their proofs cite this.
 use Rattle.std.specs.Prelude.{◌≡◌, ◌≤◌, ◌<◌, ◌^◌, ◌++◌, ◌∷◌, ⊤, ℕ, List, Option, None, Some, take}
-use Rattle.batch_file.specs.Frames.{lists}
+use Rattle.batch_file.specs.Frames.{header, last_of, lists}
 use Rattle.consent.specs.History.{last_moment}
 use Rattle.endpoints.specs.Widening.{IsWider}
 use Rattle.state_file.specs.Names.{recovered, frames_size, torn_of, RegistryRecord, Event, Outset, Hosting, StateFault, Spelling, Follows}
@@ -75,5 +75,6 @@ pub record IsResumed {H : Type 0} (hosting : Hosting H) (bytes : List ℕ) (outs
   pub front_is : resumed.front.batches ≡ recovered bytes
   pub told : AreToldBehind (recovered bytes) (rules_of outset.rules) (resumed.front.batches ++ lists resumed.behind.items)
   pub end_is : resumed.end ≡ end_of resumed.front.batches
+  pub last_is : resumed.last ≡ last_of header resumed.front.batches
   pub known : IsKnown ⊤ (resumed.front.batches ++ lists resumed.behind.items) resumed.known
   pub torn_is : resumed.torn.items ≡ torn_of bytes

@@ -7,11 +7,11 @@ ghost use Rattle.state_file.specs.declared.fault.StateFault.TheVariants.{Memory}
 use batch_file::device::ReplaceFault;
 use batch_file::frames::AddFault;
 use batch_file::framing::ReadFault;
-use batch_file::system::SystemFault;
 use endpoints::RedoFault;
 use hook_host::HookFault;
 use std::alloc::{AllocError, AllocFailed};
 use std::fmt::{self, Display, Formatter, Write};
+use system_faults::SystemFault;
 use wire::{DecodeFault, EncodeFault, Fault};
 
 /// Why a server is not started on a state file.

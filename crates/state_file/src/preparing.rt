@@ -1,7 +1,7 @@
 //! What a start makes of a state file, before anything is written.
 
 ghost use Rattle.std.specs.Prelude.{◌≡◌, ◌⊎◌, ◌++◌, ⊤, [], ℕ, List, Some, IfOk, IfErr, OnOk, map, option_map, unwrap_or};
-ghost use Rattle.batch_file.specs.Frames.{lists, recovered, IsReadable};
+ghost use Rattle.batch_file.specs.Frames.{header, last_of, lists, recovered, IsReadable};
 ghost use Rattle.clients.specs.RegistryRecord.{RegistryRecord};
 ghost use Rattle.endpoints.specs.Server.{NowNotes, Outset, outset_of};
 ghost use Rattle.endpoints.specs.Widening.{IsWider};
@@ -35,6 +35,7 @@ pub struct Prepared<H> {
     pub(crate) server: Server<H>,
     pub(crate) front: Front,
     pub(crate) end: usize,
+    pub(crate) last: [u8; 16],
     pub(crate) behind: Vec<Vec<u8>>,
     pub(crate) known: Known,
     pub(crate) moment: Moment,
@@ -49,6 +50,8 @@ pub struct Parts<H> {
     pub server: Server<H>,
     /// Where the frames end of the batches that were read.
     pub end: usize,
+    /// The digest of the last of them.
+    pub last: [u8; 16],
     /// The batches that a new file has behind these.
     pub behind: Vec<Vec<u8>>,
     /// What is known of all of them.
@@ -65,7 +68,7 @@ pub struct Preparing<S, H> {
 
 impl<H> Model for Prepared<H> {
     ghost use Rattle.std.specs.Prelude.{◌≡◌, ◌++◌, ⊤};
-    ghost use Rattle.batch_file.specs.Frames.{lists};
+    ghost use Rattle.batch_file.specs.Frames.{header, last_of, lists};
     ghost use Rattle.state_file.specs.Knowing.{IsKnown, end_of};
     ghost use Rattle.state_file.specs.Making.{Made};
 
@@ -79,7 +82,7 @@ impl<H> Model for Prepared<H> {
       torn = p.torn.items;
     } };
 
-    ghost invariant = { λ p. IsKnown ⊤ (p.front.batches ++ lists p.behind.items) p.known × (p.end ≡ end_of p.front.batches) };
+    ghost invariant = { λ p. IsKnown ⊤ (p.front.batches ++ lists p.behind.items) p.known × (p.end ≡ end_of p.front.batches) × (p.last ≡ last_of header p.front.batches) };
 }
 
 /// Adds what the server has noted to the batches that stand behind those that end there. Nothing is unkept then.
@@ -121,6 +124,7 @@ impl<H: HookHost> Resumed<H> {
     fn prepare(self, alloc: Global, hooks: &[KeptHook<'_>]) -> Result<Prepared<H>, StateFault>
         requires known { IsKnown ⊤ (self.front.batches ++ lists self.behind.items) self.known }
         requires end { self.end ≡ end_of self.front.batches }
+        requires last { self.last ≡ last_of header self.front.batches }
         ensures makes { IfOk result (λ prepared. (bytes : List ℕ) (outset : Outset H) → IsResumed H.HookHost bytes outset self →
             Makes H.HookHost (on_bytes bytes outset (map hook_fact hooks.now)) prepared) }
         ensures refused { IfErr result (λ fault. (bytes : List ℕ) (outset : Outset H) → IsResumed H.HookHost bytes outset self →
@@ -131,6 +135,7 @@ impl<H: HookHost> Resumed<H> {
             mut restored,
             front,
             end,
+            last,
             mut behind,
             mut known,
             torn,
@@ -147,6 +152,7 @@ impl<H: HookHost> Resumed<H> {
             server,
             front,
             end,
+            last,
             behind,
             known,
             moment,
@@ -230,12 +236,14 @@ impl<H: HookHost> Prepared<H> {
         ensures server { result.server ≡ self.server }
         ensures batches { self.batches ≡ self.front ++ lists result.behind.items }
         ensures end { result.end ≡ end_of self.front }
+        ensures last { result.last ≡ last_of header self.front }
         ensures known { IsKnown ⊤ self.batches result.known }
     {
         let Prepared {
             server,
             front: _front,
             end,
+            last,
             behind,
             known,
             moment: _moment,
@@ -245,6 +253,7 @@ impl<H: HookHost> Prepared<H> {
         Parts {
             server,
             end,
+            last,
             behind,
             known,
             alloc,

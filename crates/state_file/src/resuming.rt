@@ -1,7 +1,7 @@
 //! Making a server of the bytes of a state file.
 
 ghost use Rattle.std.specs.Prelude.{◌≡◌, ◌⊎◌, [], ◌∷◌, ℕ, List, Some, None, true, false, IfOk, IfErr, OnOk};
-ghost use Rattle.batch_file.specs.Frames.{lists, recovered, torn_of, IsReadable, RefusesFile};
+ghost use Rattle.batch_file.specs.Frames.{header, last_of, lists, recovered, torn_of, IsReadable, RefusesFile};
 ghost use Rattle.batch_file.specs.Readers.{IsUnread};
 ghost use Rattle.endpoints.specs.Server.{Outset, outset_of};
 ghost use Rattle.state_file.specs.Going.{HasGone, IsResumed};
@@ -38,6 +38,8 @@ pub(crate) struct Resumed<H> {
     pub(crate) front: Front,
     /// Where the last of them ends.
     pub(crate) end: usize,
+    /// Its digest.
+    pub(crate) last: [u8; 16],
     /// The rules, unless they were told last.
     pub(crate) behind: Vec<Vec<u8>>,
     /// What is known of all of them.
@@ -84,6 +86,7 @@ fn go_over<S: ByteSource + Drop, H: HookHost>(
     ensures readable { IfOk result (λ over. IsReadable (S.told over.read.source)) }
     ensures torn { IfOk result (λ over. over.read.torn.items ≡ torn_of (S.told over.read.source)) }
     ensures end { IfOk result (λ over. over.read.end ≡ end_of (recovered (S.told over.read.source))) }
+    ensures last { IfOk result (λ over. over.read.last ≡ last_of header (recovered (S.told over.read.source))) }
     ensures over { IfOk result (λ over. S.is_over over.read.source) }
     ensures whole { IfOk result (λ over. (all : List ℕ) → S.whole source all → S.whole over.read.source all) }
     ensures whole_lost { IfErr result (λ not. (all : List ℕ) → S.whole source all → S.whole not.source all) }
@@ -112,9 +115,16 @@ fn behind_of(alloc: Global, rules: &Spelled) -> Result<Vec<Vec<u8>>, StateFault>
 }
 
 impl<H: HookHost> Gone<H> {
-    /// What is made of the batches, which end there, once all were gone over.
-    fn resume(self, alloc: Global, end: usize, torn: Vec<u8>) -> Result<Resumed<H>, Unprepared>
+    /// What is made of the batches, which end there with that digest, once all were gone over.
+    fn resume(
+        self,
+        alloc: Global,
+        end: usize,
+        last: [u8; 16],
+        torn: Vec<u8>,
+    ) -> Result<Resumed<H>, Unprepared>
         requires end { end ≡ end_of self.front.batches }
+        requires last { last ≡ last_of header self.front.batches }
         ensures resumed { IfOk result (λ resumed. (outset : Outset H) → HasGone H.HookHost outset self → (bytes : List ℕ) →
             self.front.batches ≡ recovered bytes → torn.items ≡ torn_of bytes → IsResumed H.HookHost bytes outset resumed) }
         ensures refused { IfErr result (λ not. (outset : Outset H) → HasGone H.HookHost outset self →
@@ -146,6 +156,7 @@ impl<H: HookHost> Gone<H> {
             restored,
             front,
             end,
+            last,
             behind,
             known,
             torn,
@@ -176,7 +187,7 @@ pub(crate) fn resume<S: ByteSource + Drop, H: HookHost>(
     match go_over(alloc, source, gone) {
         Ok(Over { gone, read }) => Resuming {
             source: read.source,
-            resumed: gone.resume(alloc, read.end, read.torn),
+            resumed: gone.resume(alloc, read.end, read.last, read.torn),
         },
         Err(NotRead { fault, source }) => Resuming {
             source,

@@ -1,4 +1,5 @@
 pub mod Ahead
+pub mod Asked
 pub mod Drafts
 pub mod Ended
 pub mod Fronts

@@ -7,12 +7,12 @@ use crate::course::HEADER;
 use crate::passing::Shortening;
 use batch_file::appending::{BatchFault, BatchFile};
 use batch_file::device::Device;
-use batch_file::system::SystemFault;
 use change_codec::{Batch, KeepFault, Keeper, Length, ShortenFault};
 use consent::Moment;
 use state_file::{Known, horizon, later, size_behind};
 use std::alloc::{AllocError, Global};
 use std::marker::Model;
+use system_faults::SystemFault;
 
 /// A horizon is so many seconds ahead of the clock, so that in that time none is written but with changes.
 const SPAN: u64 = 60;
@@ -151,6 +151,10 @@ impl<D: Device> Keeper for StateKeeper<D> {
     // Its file was not made longer when that was asked last.
     ghost wants_room = { λ k. is_some k.file.refused };
 
+    ghost is_sole = { λ k. D.is_sole k.file.device };
+
+    ghost tends = { λ old now due new. D.tends old.file.device now due new.file.device };
+
     ghost only_now = { λ k c left. inl (D.only_now k.file.device c left) };
 
     // The horizon of the moment goes with it.
@@ -172,6 +176,32 @@ impl<D: Device> Keeper for StateKeeper<D> {
             }
             Err(fault) => {
                 self.fault = Some(fault);
+                Err(KeepFault::Failed)
+            }
+        }
+    }
+
+    fn confirm(&mut self) -> Result<(), KeepFault> {
+        if self.fault.is_some() {
+            return Err(KeepFault::Failed);
+        }
+        match self.file.confirm() {
+            Ok(()) => Ok(()),
+            Err(lost) => {
+                self.fault = Some(lost);
+                Err(KeepFault::Failed)
+            }
+        }
+    }
+
+    fn tend(&mut self, now: u64) -> Result<Option<u64>, KeepFault> {
+        if self.fault.is_some() {
+            return Err(KeepFault::Failed);
+        }
+        match self.file.tend(now) {
+            Ok(due) => Ok(due),
+            Err(broken) => {
+                self.fault = Some(broken);
                 Err(KeepFault::Failed)
             }
         }

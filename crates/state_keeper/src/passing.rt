@@ -19,12 +19,12 @@ use crate::leaving::leave;
 use crate::noting::note;
 use batch_file::appending::{BatchFile, RenewFault};
 use batch_file::device::Device;
-use batch_file::system::SystemFault;
 use change_codec::ShortenFault;
 use shortening::LastTold;
 use state_file::Known;
 use std::alloc::Global;
 use std::mem;
+use system_faults::SystemFault;
 
 /// So many bytes of what the file had are gone over at once, but for the last frame: few, so that requests hardly wait for it.
 const SLICE: usize = 1 << 13;

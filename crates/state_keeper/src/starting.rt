@@ -2,7 +2,7 @@
 
 ghost use Rattle.std.specs.Prelude.{◌≡◌, ◌++◌, IfOk, IfErr, OnOk};
 ghost use Rattle.batch_file.specs.Crashes.{IsBeside, IsUnplaced, LeavesOnly};
-ghost use Rattle.batch_file.specs.Frames.{lists};
+ghost use Rattle.batch_file.specs.Frames.{header, last_of, lists};
 ghost use Rattle.state_file.specs.Knowing.{end_of};
 ghost use Rattle.state_keeper.specs.Starting.{HasFront, IsOfDisk, IsOldOr, IsPut, IsPutOn, IsReadIn, IsUntouched, front_in};
 
@@ -10,12 +10,13 @@ use crate::keeper::StateKeeper;
 use batch_file::appending::{BatchFile, NotPlaced};
 use batch_file::device::{Device, ReplaceFault};
 use batch_file::frames::{AddFault, Frames};
-use batch_file::system::SystemFault;
+use batch_file::next::Next;
 use endpoints::Server;
 use file_copy::place_behind;
 use hook_host::HookHost;
 use state_file::{Parts, Prepared, StateFault};
 use std::alloc::Global;
+use system_faults::SystemFault;
 
 /// Where the batches stand that a server was made of.
 #[derive(Drop)]
@@ -63,19 +64,20 @@ fn put<D: Device + Drop>(
     alloc: Global,
     device: D,
     origin: Origin,
-    end: usize,
+    front: Next,
     behind: &[Vec<u8>],
 ) -> Result<BatchFile<D>, NotPlaced<D>>
     requires faultless { D.faults device ≡ 0 }
     requires readable { IsReadIn (D.seen device) origin }
-    requires end { end ≡ end_of (front_in (D.seen device) origin) }
+    requires end { front.end ≡ end_of (front_in (D.seen device) origin) }
+    requires last { front.last ≡ last_of header (front_in (D.seen device) origin) }
     ensures put { IfOk result (IsPut D.Device device (front_in (D.seen device) origin ++ lists behind.now)) }
     ensures lost { IfErr result (λ not. LeavesOnly D.moment D.left_since device not.device
         (IsOldOr D.Device device (front_in (D.seen device) origin ++ lists behind.now))) }
     ensures untouched { IfErr result (λ not. IsUnplaced not.fault → IsBeside D.seen D.may_leave D.faults device not.device) }
 {
     match origin {
-        Origin::Device => place_behind(alloc, device, end, behind),
+        Origin::Device => place_behind(alloc, device, front, behind),
         Origin::Memory(frames) => put_all(device, frames, behind),
     }
 }
@@ -115,11 +117,12 @@ pub fn settle<D: Device + Drop, H: HookHost>(
     let Parts {
         server,
         end,
+        last,
         behind,
         known,
         alloc,
     } = prepared.into_parts();
-    match put(alloc, device, origin, end, &behind) {
+    match put(alloc, device, origin, Next { end, last }, &behind) {
         Ok(file) => Ok(Started {
             server,
             keeper: StateKeeper {

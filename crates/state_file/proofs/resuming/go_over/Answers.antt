@@ -48,3 +48,6 @@ returns-clause-torn g c = c.in_ok-read.ensures.torn c.go_on.new.self.front.batch
 
 pub returns-clause-end : goal.returns-clause-end
 returns-clause-end g c = c.in_ok-read.ensures.end c.go_on.new.self.front.batches (c.in_default.ensures.read (subst (λ (bs : List (List ℕ)). HasRead g.S.ByteSource.told g.S.ByteSource.is_over bs c.in_ok-reader.reader) (sym c.requires.none) c.in_ok-reader.ensures.begun))
+
+pub returns-clause-last : goal.returns-clause-last
+returns-clause-last g c = c.in_ok-read.ensures.last c.go_on.new.self.front.batches (c.in_default.ensures.read (subst (λ (bs : List (List ℕ)). HasRead g.S.ByteSource.told g.S.ByteSource.is_over bs c.in_ok-reader.reader) (sym c.requires.none) c.in_ok-reader.ensures.begun))

@@ -1,6 +1,6 @@
 use Rattle.std.proofs.Common.{◌≡◌, ◌++◌, ℕ, List, sym, subst, arith}
 use Rattle.std.specs.Prelude.{IfErr, IfOk}
-use Rattle.batch_file.specs.Frames.{IsReadable, lists}
+use Rattle.batch_file.specs.Frames.{IsReadable, header, last_of, lists}
 use Rattle.batch_file.specs.FramesLaws.{frames_size-append}
 use Rattle.state_keeper.proofs.Names.{IsOldOr, LeavesOnly, end_of, recovered}
 use Rattle.state_keeper.proofs.Put.{puts, puts_not}
@@ -17,7 +17,7 @@ returns-in-Device-clause-put g c =
     let front = recovered seen in
     let behind = lists c.args.behind.now in
     let size = frames_size-append front behind in
-    let at : c.args.end ≡ end_of front = subst (λ (o : Origin). c.args.end ≡ end_of (front_in seen o)) c.in-Device.is c.requires.end in
+    let at : c.args.front.end ≡ end_of front = subst (λ (o : Origin). c.args.front.end ≡ end_of (front_in seen o)) c.in-Device.is c.requires.end in
     subst (λ (o : Origin). IfOk r (IsPut device c.args.device (front_in seen o ++ behind))) (sym c.in-Device.is)
     (puts device c.args.device (front ++ behind) r c.place_behind.ensures.settled c.place_behind.ensures.placed (if_ok r (λ file end. omega (arith, size, at, end)) c.place_behind.ensures.end) c.place_behind.ensures.any_moment)
 
@@ -34,7 +34,10 @@ pub place_behind-requires-clause-readable : goal.place_behind-requires-clause-re
 place_behind-requires-clause-readable g c = subst (λ (o : Origin). IsReadIn (g.D.Device.seen c.args.device) o) c.in-Device.is c.requires.readable
 
 pub place_behind-requires-clause-end : goal.place_behind-requires-clause-end
-place_behind-requires-clause-end g c = subst (λ (o : Origin). c.args.end ≡ end_of (front_in (g.D.Device.seen c.args.device) o)) c.in-Device.is c.requires.end
+place_behind-requires-clause-end g c = subst (λ (o : Origin). c.args.front.end ≡ end_of (front_in (g.D.Device.seen c.args.device) o)) c.in-Device.is c.requires.end
+
+pub place_behind-requires-clause-last : goal.place_behind-requires-clause-last
+place_behind-requires-clause-last g c = subst (λ (o : Origin). c.args.front.last ≡ last_of header (front_in (g.D.Device.seen c.args.device) o)) c.in-Device.is c.requires.last
 
 pub returns-in-Memory-clause-put : goal.returns-in-Memory-clause-put
 returns-in-Memory-clause-put g c =

@@ -2,7 +2,7 @@ use Rattle.std.proofs.Common.{◌≡◌, ◌++◌, ◌∙◌, ℕ, List, None, r
 use Rattle.std.specs.Global.{Vec}
 use Rattle.std.specs.Prelude.{⊤}
 use Rattle.state_file.specs.Knowing.{IsKnown}
-use Rattle.batch_file.specs.Frames.{lists}
+use Rattle.batch_file.specs.Frames.{header, last_of, lists}
 use Rattle.state_keeper.proofs.Names.{LeavesOnly, end_of, IsOldOr, IsPutOn}
 use Rattle.state_keeper.proofs.Kept.{keeper_of}
 use Rattle.state_keeper.proofs.Put.{front_is, of_disk_by, put_on, untouched_by}
@@ -16,6 +16,10 @@ put-requires-clause-readable g c = (front_is (g.D.Device.seen c.args.device) c.a
 pub put-requires-clause-end : goal.put-requires-clause-end
 put-requires-clause-end g c =
     c.into_parts-server.ensures.end ∙ ap end_of (sym (front_is (g.D.Device.seen c.args.device) c.args.origin c.args.prepared.front c.requires.front).0)
+
+pub put-requires-clause-last : goal.put-requires-clause-last
+put-requires-clause-last g c =
+    c.into_parts-server.ensures.last ∙ ap (last_of header) (sym (front_is (g.D.Device.seen c.args.device) c.args.origin c.args.prepared.front c.requires.front).0)
 
 pub returns-in-Ok-clause-put : goal.returns-in-Ok-clause-put
 returns-in-Ok-clause-put g c =

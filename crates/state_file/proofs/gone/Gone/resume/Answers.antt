@@ -63,5 +63,5 @@ returns-clause-resumed g c = λ outset has bytes are torn.
     subst (λ (r : RegistryRecord). IsTrue spelled.told ↔ Tell (lists telling) (rules_of r)) same (subst (λ (l : List (Vec ℕ Global)). IsTrue spelled.told ↔ Tell (lists l) (rules_of c.rules.result.now)) told c.in-Ok.ensures.told) in
     let small : frames_size gone.front.batches < 2 ^ 64 = (let end = c.requires.end in omega (arith, end)) in
     resumed_is g.H.HookHost outset gone has bytes _ spelled.told are (c.in_ok-restored.ensures.redone outset gone.front.batches has.made has.measured.until_is) c.in_ok-restored.ensures.unnoted refl c.requires.end
-    small torn (subst (λ (r : RegistryRecord). spelled.bytes.items ≡ rules_spelling (rules_of r)) same c.in-Ok.ensures.spelled) (subst (λ (r : RegistryRecord). RulesFit (rules_of r)) same c.in-Ok.ensures.fit) c.in-Ok.ensures.few
+    c.requires.last small torn (subst (λ (r : RegistryRecord). spelled.bytes.items ≡ rules_spelling (rules_of r)) same c.in-Ok.ensures.spelled) (subst (λ (r : RegistryRecord). RulesFit (rules_of r)) same c.in-Ok.ensures.fit) c.in-Ok.ensures.few
     takes tells c.in_ok-behind.ensures.told c.in_ok-behind.ensures.untold refl refl

@@ -80,6 +80,7 @@ returns-in-Ok-append g c =
           (let at = c.horizon_at-ahead.ensures.is in let last = c.later-self-inside.ensures in omega (arith, at, last));
       basis = basis;
       meanwhile = basis.meanwhile;
+      sole = c.in-Ok-append.ensures.sole;
     })
 
 pub returns-clause-lost : goal.returns-clause-lost
