@@ -2,7 +2,7 @@
 use Rattle.std.proofs.Common.{◌≡◌, ◌≢◌, inl, inr, ℕ, Some, refl, sym, ap, subst, ◌∙◌, arith, true, false, slice_get, slice_set}
 use Rattle.telling.specs.Audience.{IsAllTold}
 use Rattle.event_loop.proofs.Names.{IsWritable, Place, IsOccupied, MayRead, MayWrite, read_limit, AreWithin, same_Some, connection_at, Progress, known, led, Promises, LoopState, IsAllKept, with_call, with_place}
-use Rattle.event_loop.proofs.Names.{Ended, Broken, CallKind, IsDone, Transfer, Reading, Writing, Served, goes, Running, Standing, Past, Duty, DoneAfter, ActsAt, ReadsAt, IsReadyFor, state_of, to_read}
+use Rattle.event_loop.proofs.Names.{Ended, Broken, CallKind, IsDone, Transfer, Reading, Writing, Served, goes, Running, Standing, Past, Duty, DoneAfter, ActsAt, ReadsAt, IsReadyFor, past_of, state_of, to_read}
 use Rattle.event_loop.proofs.Names.{to_write, taken_stage, ReadsPlace, WritesPlace, offered, Read, Write, Refused}
 use Rattle.outside.specs.Calls as call
 use Rattle.event_loop.specs.Reading as reading
@@ -20,7 +20,7 @@ pub record ActsOnce {N C J K H : Type 0} (duty : Duty) (s s' : LoopState N C J K
   pub done : DoneAfter s.calls s'.calls
   pub places : (j : ℕ) → j ≢ duty.k → slice_get s'.places j ≡ slice_get s.places j
   pub connections : (j : ℕ) → j ≢ duty.k → known s'.progress j ≡ known s.progress j
-  pub ready : IsReadyFor duty.kind s.progress.journey.world s.progress.audience → IsReadyFor duty.kind s'.progress.journey.world s'.progress.audience
+  pub ready : IsReadyFor duty.kind (past_of s) s.progress.audience → IsReadyFor duty.kind (past_of s') s'.progress.audience
   pub alone : (other : CallKind) → other ≢ duty.kind → ¬ (IsDone other s.calls) → ¬ (IsDone other s'.calls)
   pub acts : IsDone duty.kind s'.calls
   pub within : AreWithin s.limits.idle s.times s.places → AreWithin s'.limits.idle s'.times s'.places
@@ -51,7 +51,7 @@ module _ {N C J K H : Type 0} (p : Promises N C J K H) (k : ℕ) (place : Place)
       done = one_more _ _ refl refl (λ kind t. inr t) (not_of_kind _ _ (λ is. absurd (cc)));
       places = λ j other. set_other s.places k j place' other;
       connections = others;
-      ready = λ was. (kept was.0, subst IsAllTold (sym told) was.1);
+      ready = λ was. record { kept = kept was.kept; told = subst IsAllTold (sym told) was.told; confirmed = was.confirmed };
       alone = λ other differs not. not_another (Writing k) other s.calls differs not;
       acts = inl refl;
       within = within;
@@ -101,11 +101,11 @@ module _ {N C J K H : Type 0} (p : Promises N C J K H) (k : ℕ) (place : Place)
         record { goes = acts.goes; due = due; done = once.acts }
 
     -- or written to
-    pub write_acts : (after : Running N C J K H) (next : Past H) → after.service.due ≡ before.now.service.due → place.writable ≡ true → ¬ (IsDone (Writing k) before.past.calls) → IsWritable before.past.journey.world before.now.tools.tellings →
+    pub write_acts : (after : Running N C J K H) (next : Past H) → after.service.due ≡ before.now.service.due → place.writable ≡ true → ¬ (IsDone (Writing k) before.past.calls) → IsWritable before.past before.now.tools.tellings →
         MayWrite place (connection_at before.past.journey.world.connections k) → Served p first (state_of before.now before.found before.past) →
         WritesPlace p k place (state_of before.now before.found before.past) (state_of after before.found next) → ActsAt p first (to_write k) before after
     write_acts after next due writable undone kept may served writing =
-        acts_once (to_write k) after next due (writes_once _ here (served_taken place.stage may.served) _ writing) (goes served (step.writes k place _ here writable undone kept.0 kept.1 may writing))
+        acts_once (to_write k) after next due (writes_once _ here (served_taken place.stage may.served) _ writing) (goes served (step.writes k place _ here writable undone kept.kept kept.told kept.confirmed may writing))
 
 -- or nothing is to be done there
 pub idle_acts : {N C J K H : Type 0} (p : Promises N C J K H) (first : LoopState N C J K H) (duty : Duty) (before : Standing N C J K H) (place : Place) → slice_get before.now.service.places duty.k ≡ Some place →

@@ -193,11 +193,11 @@ module _ {N C J K H : Type 0} where
       ];
     }
     step_answered s' (reads j place s'' here readable unread may reading) = reads_answered j place s'' here may reading
-    step_answered s' (writes j place s'' here writable unwritten kept told may writing) = writes_answered j place s'' here (served_taken place.stage may.served) writing
+    step_answered s' (writes j place s'' here writable unwritten kept told asked may writing) = writes_answered j place s'' here (served_taken place.stage may.served) writing
     step_answered s' (closes j place s'' here taken cause closing) = closes_answered j place s'' closing
     step_answered s' (hears_out j place left here waiting late eldest none is_left some) =
         notes_place _ j place (record place { stage = Leaving left; came = s.times.steady }) here refl refl (λ taken. staying_taken place.stage eldest.holds.stays) (λ e. absurd (cc)) (λ k. refl) (λ k. refl)
-    step_answered s' (keeps keeper e unkept on undone kept basis further) = record {
+    step_answered s' (keeps keeper e unkept on undone kept basis further sole) = record {
       reached = on.reached;
       exchanges = λ k place here taken.
           stays_same s _ k place place (before.exchanges k place here taken) (ap (λ ks. connection_at ks k) (kept_connections s.progress.journey.world on.world on.happens)) refl refl (λ e. e);

@@ -1,5 +1,5 @@
 -- Calls that were done after others.
-use Rattle.std.proofs.Common.{suc, ◌≡◌, ◌≢◌, ◌⊎◌, inl, inr, ◌<◌, ℕ, List, Some, refl, sym, ◌∙◌, arith, [], ◌∷◌}
+use Rattle.std.proofs.Common.{suc, ◌≡◌, ◌≢◌, ◌⊎◌, inl, inr, ◌<◌, ℕ, List, Option, None, Some, refl, sym, ◌∙◌, arith, [], ◌∷◌}
 use Rattle.event_loop.proofs.Names.{Place, Closes, leaves, same_Some, Promises, LoopState, Call, CallKind, Keeping, Looking, Shortening, IsDone, done_since, Served, DoneMore, DoneAfter, LeadsOn, Running, Standing, standing}
 use Rattle.event_loop.proofs.Names.{state_of}
 use Rattle.outside.specs.Calls.{waits}
@@ -30,6 +30,18 @@ pub not_another : (kind other : CallKind) (calls : List Call) → other ≢ kind
 not_another kind other calls differs not (inl is) = differs (sym (same_Some kind other is))
 not_another kind other calls differs not (inr is) = not is
 
+-- nor is one of no kind
+pub not_without : (other : CallKind) (calls : List Call) → ¬ (IsDone other calls) → ¬ ((None ≡ Some other) ⊎ IsDone other calls)
+not_without other calls not (inl is) = absurd (cc)
+not_without other calls not (inr is) = not is
+
+-- one that is asked of the keeper
+pub asks_more : (calls : List Call) → DoneAfter calls (call.Confirmed ∷ calls)
+asks_more calls = record { more = record { waits = refl; grows = omega arith; keeps = λ kind t. inr t }; alone = not_of_kind Shortening calls (λ is. absurd (cc)) }
+
+pub tends_more : (due : Option ℕ) (calls : List Call) → DoneMore calls (call.Tended due ∷ calls)
+tends_more due calls = record { waits = refl; grows = omega arith; keeps = λ kind t. inr t }
+
 -- where a call was made of a kind that is no keeping and no look, something was done
 pub done_some : (kind : CallKind) (calls : List Call) → Keeping ≢ kind → ((n : ℕ) → Looking n ≢ kind) → IsDone kind calls → 0 < done_since calls
 done_some kind [] differs no_look t = absurd t
@@ -38,6 +50,10 @@ done_some kind (call.Looked n room came ∷ earlier) differs no_look (inl is) = 
 done_some kind (call.Looked n room came ∷ earlier) differs no_look (inr t) = done_some kind earlier differs no_look t
 done_some kind (call.Kept ∷ earlier) differs no_look (inl is) = absurd (differs (same_Some Keeping kind is))
 done_some kind (call.Kept ∷ earlier) differs no_look (inr t) = done_some kind earlier differs no_look t
+done_some kind (call.Confirmed ∷ earlier) differs no_look (inl is) = absurd (cc)
+done_some kind (call.Confirmed ∷ earlier) differs no_look (inr t) = done_some kind earlier differs no_look t
+done_some kind (call.Tended due ∷ earlier) differs no_look (inl is) = absurd (cc)
+done_some kind (call.Tended due ∷ earlier) differs no_look (inr t) = done_some kind earlier differs no_look t
 done_some kind calls differs no_look t = omega arith
 
 module _ {N C J K H : Type 0} (p : Promises N C J K H) where

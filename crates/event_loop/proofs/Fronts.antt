@@ -4,8 +4,7 @@ use Rattle.event_loop.proofs.Names.{Event, IsFrontOf, Holds, Keeps, KeepsBasis, 
 use Rattle.event_loop.proofs.Names.{TakesOutput, TakesNothing, AnsweredPiece, Piece, piece_of, Journey, Progress, IsReached, led, GivesPieces, nothing, gives, Message, Outset, Promises, LoopState}
 use Rattle.event_loop.proofs.Names.{IsAllKept, IsUnkept, with_call, Ready, Call, Transfer, Wrote, waits_done, opens, denies, finds_nobody, asks, LoopStep, Served, Shuts, TellsLast, tells_nothing}
 use Rattle.event_loop.proofs.Names.{audits, comes, reads, writes, closes, keeps, shortens, no_slice, begins, goes, stops, shuts, reports_last, LoopFault, Carries, Onward, stays, onward, KeeperHolds, StandsBetween}
-use Rattle.telling.specs.Audience.{IsAllTold}
-use Rattle.event_loop.proofs.Names.{IsWriteKept, IsWriteTold, MomentIsHeld, CannotGoOn, no_wait, looks_again, fails_to_look, no_time, too_far, no_moment, not_kept, not_shortened, no_more, to_reload, passes_on, Passes, hands_on, Queue, LastTold, Noted, ReadsPlace, WritesPlace, Hosting}
+use Rattle.event_loop.proofs.Names.{IsWritable, past_of, MomentIsHeld, CannotGoOn, confirms, tends, not_confirmed, not_tended, no_wait, looks_again, fails_to_look, no_time, too_far, no_moment, not_kept, not_shortened, no_more, to_reload, passes_on, Passes, hands_on, Queue, LastTold, Noted, ReadsPlace, WritesPlace, Hosting}
 use Rattle.event_loop.specs.Coming.{fails}
 use Rattle.event_loop.specs.Served.{waits}
 use Rattle.event_loop.specs.Done as deed
@@ -16,7 +15,7 @@ use Rattle.event_loop.specs.DurableLaws.{front_then, same_front, served_on}
 use Rattle.event_loop.specs.EndsLaws.{end_keeper}
 use Rattle.event_loop.proofs.Answering.{served_answered}
 use Rattle.event_loop.proofs.Lasting.{keeps_same, keeps_within, leaves_either, leaves_now, leaves_same, tells_within}
-use Rattle.change_codec.specs.Keeping.{horizon_bound}
+use Rattle.change_codec.specs.Keeping.{HeldMeanwhile, horizon_bound}
 use Rattle.event_loop.specs.Durable.{told_by}
 use Rattle.event_loop.specs.Ends.{told_then}
 use Rattle.event_loop.proofs.Kept.{front_noted, kept_history, kept_last}
@@ -95,12 +94,11 @@ pub data Moves {N C J K H : Type 0} (p : Promises N C J K H) (limit : ℕ) (s s'
   keeps_still : KeepsLast p s s'.keeper → s'.progress.journey ≡ s.progress.journey → KeepsBasis p.keeping.crashes limit s.keeper s'.keeper →
       IsSameTime s s' ⊎ (MomentIsHeld p s' × (waits_done s'.calls ≡ suc (waits_done s.calls))) → Moves p limit s s'
 
--- what a step does: to the keeper, and to what happened; to the sockets; and where it is a write, all was kept
+-- what a step does: to the keeper, and to what happened; to the sockets; and where it is a write, it may be written
 pub record Does {N C J K H : Type 0} (p : Promises N C J K H) (limit : ℕ) (s s' : LoopState N C J K H) : Type 0 where
   pub moves : Moves p limit s s'
   pub did : (first : N) → HaveDone p.sockets first s.calls s.sockets → HaveDone p.sockets first s'.calls s'.sockets
-  pub kept : IsWriteKept s s'
-  pub told : IsWriteTold s s'
+  pub written : (k room : ℕ) (took : Transfer) → s'.calls ≡ Wrote k room took ∷ s.calls → IsWritable (past_of s) s.progress.audience
 
 -- what a failure does: to the sockets, and to the keeper alone
 pub record FailDoes {N C J K H : Type 0} (p : Promises N C J K H) (limit : ℕ) (s s' : LoopState N C J K H) : Type 0 where
@@ -118,8 +116,7 @@ module _ {N C J K H : Type 0} (p : Promises N C J K H) where
   quiet s = record {
     moves = goes_on (refl, (refl, refl), refl) (grows_not s.times.moment _ _ refl);
     did = λ first before. before;
-    kept = λ k room took is. absurd (not_longer s.calls _ is);
-    told = λ k room took is. absurd (not_longer s.calls _ is);
+    written = λ k room took is. absurd (not_longer s.calls _ is);
   }
 
   -- one call is made, which is no wait and no write
@@ -130,8 +127,7 @@ module _ {N C J K H : Type 0} (p : Promises N C J K H) where
   calls_on s call n progress done not_wait not_write outset grows = record {
     moves = goes_on (refl, (refl, not_wait), outset) grows;
     did = λ first before. deed.did call n before done;
-    kept = λ k room took is. absurd (not_write k room took (let same : call ≡ Wrote k room took = cc in same));
-    told = λ k room took is. absurd (not_write k room took (let same : call ≡ Wrote k room took = cc in same));
+    written = λ k room took is. absurd (not_write k room took (let same : call ≡ Wrote k room took = cc in same));
   }
 
   reads_does : {limit : ℕ} (j : ℕ) (place : Place) (s s' : LoopState N C J K H) → ReadsPlace p j place s s' → Does p limit s s'
@@ -144,15 +140,14 @@ module _ {N C J K H : Type 0} (p : Promises N C J K H) where
   reads_does j place s s' (reading.finds_nothing n done) = calls_on s _ n s.progress done refl (λ k room took is. absurd (cc)) refl (grows_not s.times.moment _ _ refl)
   reads_does j place s s' (reading.fails n done) = calls_on s _ n s.progress done refl (λ k room took is. absurd (cc)) refl (grows_not s.times.moment _ _ refl)
 
-  writes_does : {limit : ℕ} (j : ℕ) (place : Place) (s s' : LoopState N C J K H) → IsAllKept s.progress.journey.world → IsAllTold s.progress.audience → WritesPlace p j place s s' → Does p limit s s'
-  writes_does j place s s' all told (writing.sends count front n e on some within is_front done) = record {
+  writes_does : {limit : ℕ} (j : ℕ) (place : Place) (s s' : LoopState N C J K H) → IsWritable (past_of s) s.progress.audience → WritesPlace p j place s s' → Does p limit s s'
+  writes_does j place s s' may (writing.sends count front n e on some within is_front done) = record {
     moves = goes_on (refl, (refl, refl), refl) (takes_grows s.times.moment s.progress.journey.world on.world j count on.happens);
     did = λ first before. deed.did _ n before done;
-    kept = λ k room took is. all;
-    told = λ k room took is. told;
+    written = λ k room took is. may;
   }
-  writes_does j place s s' all told (writing.finds_no_room n done) = record { moves = goes_on (refl, (refl, refl), refl) (grows_not s.times.moment _ _ refl); did = λ first before. deed.did _ n before done; kept = λ k room took is. all; told = λ k room took is. told }
-  writes_does j place s s' all told (writing.fails n done) = record { moves = goes_on (refl, (refl, refl), refl) (grows_not s.times.moment _ _ refl); did = λ first before. deed.did _ n before done; kept = λ k room took is. all; told = λ k room took is. told }
+  writes_does j place s s' may (writing.finds_no_room n done) = record { moves = goes_on (refl, (refl, refl), refl) (grows_not s.times.moment _ _ refl); did = λ first before. deed.did _ n before done; written = λ k room took is. may }
+  writes_does j place s s' may (writing.fails n done) = record { moves = goes_on (refl, (refl, refl), refl) (grows_not s.times.moment _ _ refl); did = λ first before. deed.did _ n before done; written = λ k room took is. may }
 
   closes_does : {limit : ℕ} (j : ℕ) (place : Place) (s s' : LoopState N C J K H) → Closes p j place s s' → Does p limit s s'
   closes_does j place s s' (leaves n e on noted done noting) = calls_on s _ n (led s.progress on) done refl (λ k room took is. absurd (cc)) refl (grows_still s.times.moment s.progress.journey.world on.world on.happens.still)
@@ -164,57 +159,59 @@ module _ {N C J K H : Type 0} (p : Promises N C J K H) where
   step_does s s' (waits limit room found n times c keeper may done told near kept further) = record {
     moves = keeps_still (λ last is. kept.holds last) refl kept.basis (inr (kept.told, refl));
     did = λ first before. deed.did _ n before done;
-    kept = λ k r took is. absurd (cc);
-    told = λ k r took is. absurd (cc);
+    written = λ k r took is. absurd (cc);
   }
   step_does s s' (comes s'' told (opens j n e on within free done)) = calls_on s _ n (led s.progress on) done refl (λ k room took is. absurd (cc)) refl (grows_still s.times.moment s.progress.journey.world on.world on.happens.still)
   step_does s s' (comes s'' told (denies j n n' fault noted within free done refused closed noting)) = record {
     moves = goes_on (refl, (refl, refl), refl) (grows_not s.times.moment _ _ refl);
     did = λ first before. deed.did _ n' (deed.did _ n before done) closed;
-    kept = λ k room took is. absurd (cc);
-    told = λ k room took is. absurd (cc);
+    written = λ k room took is. absurd (cc);
   }
   step_does s s' (comes s'' told (finds_nobody j n done)) = calls_on s _ n s.progress done refl (λ k room took is. absurd (cc)) refl (grows_not s.times.moment _ _ refl)
   step_does s s' (comes s'' told (fails j n noted done noting)) = calls_on s _ n s.progress done refl (λ k room took is. absurd (cc)) refl (grows_not s.times.moment _ _ refl)
   step_does s s' (comes s'' told (asks n taken done)) = calls_on s _ n s.progress done refl (λ k room took is. absurd (cc)) refl (grows_not s.times.moment _ _ refl)
   step_does s s' (reads j place s'' here readable unread may reading) = reads_does j place s s'' reading
-  step_does s s' (writes j place s'' here writable unwritten all told may writing) = writes_does j place s s'' all told writing
+  step_does s s' (writes j place s'' here writable unwritten all told asked may writing) = writes_does j place s s'' (record { kept = all; told = told; confirmed = asked }) writing
   step_does s s' (closes j place s'' here taken cause closing) = closes_does j place s s'' closing
   step_does s s' (shortens keeper all long undone kept basis slice nearer) = record {
     moves = keeps_still (λ last is. subst (λ (h : List Event). Keeps p.keeping.crashes h h s.keeper keeper) (sym (all last is)) kept) refl (keeps_within p.keeping.crashes 0 (horizon_bound 0) s.keeper keeper (omega arith) basis) (inl (refl, refl));
     did = λ first before. deed.shortened before;
-    kept = λ k room took is. absurd (cc);
-    told = λ k room took is. absurd (cc);
+    written = λ k room took is. absurd (cc);
   }
   step_does s s' (looks_again nth room found n may done) = record {
     moves = goes_on (refl, (refl, refl), refl) (grows_not s.times.moment _ _ refl);
     did = λ first before. deed.looked nth room found n before done;
-    kept = λ k r took is. absurd (cc);
-    told = λ k r took is. absurd (cc);
+    written = λ k r took is. absurd (cc);
   }
   step_does s s' (fails_to_look nth room n may done) = record {
     moves = goes_on (refl, (refl, refl), refl) (grows_not s.times.moment _ _ refl);
     did = λ first before. deed.failed_to_look nth room n before done;
-    kept = λ k r took is. absurd (cc);
-    told = λ k r took is. absurd (cc);
+    written = λ k r took is. absurd (cc);
   }
   step_does s s' (no_slice keeper journal all long ago kept basis told) = record {
     moves = keeps_still (λ last is. subst (λ (h : List Event). Keeps p.keeping.crashes h h s.keeper keeper) (sym (all last is)) kept) refl (keeps_within p.keeping.crashes 0 (horizon_bound 0) s.keeper keeper (omega arith) basis) (inl (refl, refl));
     did = λ first before. before;
-    kept = λ k room took is. absurd (not_longer s.calls _ is);
-    told = λ k room took is. absurd (not_longer s.calls _ is);
+    written = λ k room took is. absurd (not_longer s.calls _ is);
   }
-  step_does s s' (keeps keeper e unkept on undone kept basis further) = record {
+  step_does s s' (keeps keeper e unkept on undone kept basis further sole) = record {
     moves = keeps_all unkept kept (kept_last s.progress.journey.world on.world on.happens) (kept_history s.progress.journey.world on.world on.happens) basis.basis ((refl, refl), ap (λ (w : World). w.greatest) on.happens.kept, refl);
     did = λ first before. deed.kept before;
-    kept = λ k room took is. absurd (cc);
-    told = λ k room took is. absurd (cc);
+    written = λ k room took is. absurd (cc);
+  }
+  step_does s s' (confirms keeper all holds sole) = record {
+    moves = keeps_still (λ last is. holds.still last) refl (keeps_within p.keeping.crashes 0 (horizon_bound 0) s.keeper keeper (omega arith) holds.basis) (inl (refl, refl));
+    did = λ first before. deed.confirmed before;
+    written = λ k room took is. absurd (cc);
+  }
+  step_does s s' (tends keeper due holds told) = record {
+    moves = keeps_still (λ last is. holds.still last) refl (keeps_within p.keeping.crashes 0 (horizon_bound 0) s.keeper keeper (omega arith) holds.basis) (inl (refl, refl));
+    did = λ first before. deed.tended due before;
+    written = λ k room took is. absurd (cc);
   }
   step_does s s' (audits journal all some heard) = record {
     moves = goes_on (refl, (refl, refl), refl) (grows_not s.times.moment _ _ refl);
     did = λ first before. before;
-    kept = λ k room took is. absurd (not_longer s.calls _ is);
-    told = λ k room took is. absurd (not_longer s.calls _ is);
+    written = λ k room took is. absurd (not_longer s.calls _ is);
   }
   step_does s s' step = quiet s
 
@@ -228,6 +225,8 @@ module _ {N C J K H : Type 0} (p : Promises N C J K H) where
   fails_does s s' fault (no_moment limit room found n times c keeper may done told near lost basis asked) = record { did = λ first before. deed.did _ n before done; reached = λ was. was; tells = basis }
   fails_does s s' fault (not_kept keeper unkept undone lost basis asked) = record { did = λ first before. before; reached = λ was. was; tells = basis }
   fails_does s s' fault (not_shortened keeper all undone lost basis asked) = record { did = λ first before. before; reached = λ was. was; tells = tells_within p.keeping.crashes 0 (horizon_bound 0) s.keeper keeper (omega arith) basis }
+  fails_does s s' fault (not_confirmed keeper all lost basis asked) = record { did = λ first before. before; reached = λ was. was; tells = tells_within p.keeping.crashes 0 (horizon_bound 0) s.keeper keeper (omega arith) basis }
+  fails_does s s' fault (not_tended keeper lost basis asked) = record { did = λ first before. before; reached = λ was. was; tells = tells_within p.keeping.crashes 0 (horizon_bound 0) s.keeper keeper (omega arith) basis }
   fails_does s s' fault (to_reload time) = record { did = λ first before. before; reached = λ was. was; tells = (keeps_same p.keeping.crashes (horizon_bound 0) s.keeper s.keeper refl).meanwhile }
   fails_does s s' fault (no_more many) = record { did = λ first before. before; reached = λ was. was; tells = (keeps_same p.keeping.crashes (horizon_bound 0) s.keeper s.keeper refl).meanwhile }
 
@@ -344,13 +343,20 @@ module _ {N C J K H : Type 0} (p : Promises N C J K H) where
     leaves_between s' stays = leaves_now p.keeping.crashes only_now s.keeper _ (λ c left. kept_between first s before s served is stays before is c (held_at s stays before is c left))
     leaves_between s' (onward {s' = middle} on step) = step_leaves middle s' on (leaves_between middle on) step (step_moves middle s' step)
 
-    -- where something failed then, it may also leave all that had happened
-    fails_leave : (last failed : LoopState N C J K H) (fault : LoopFault) → Onward p s last → CannotGoOn p last fault failed →
-        Leaves p.keeping.crashes s.keeper failed.keeper (λ c. StandsBetween p s before last c ⊎ p.keeping.crashes.stands_for c last.progress.journey.world.history)
-    fails_leave last failed fault on (no_moment limit room found n times c keeper may done told near lost basis asked) =
+    -- so it did where the keeper was lost while it held what was kept
+    lost_leaves : (last : LoopState N C J K H) (keeper : K) → Onward p s last → HeldMeanwhile p.keeping.crashes last.keeper keeper →
+        Leaves p.keeping.crashes s.keeper keeper (λ c. StandsBetween p s before last c ⊎ p.keeping.crashes.stands_for c last.progress.journey.world.history)
+    lost_leaves last keeper on lost =
         let now = (onward_carries first s last served on).kept before is in
         leaves_either p.keeping.crashes s.keeper last.keeper keeper now.0 now.0 _ _ (leaves_between last on) ((lost now.0).meanwhile (held_at last on now.0 now.1))
         (λ c old. inl (kept_between first s before last served is on now.0 now.1 c old)) (λ c old. inl (kept_between first s before last served is on now.0 now.1 c old)) (λ c. inl)
+
+    -- where something failed then, it may also leave all that had happened
+    fails_leave : (last failed : LoopState N C J K H) (fault : LoopFault) → Onward p s last → CannotGoOn p last fault failed →
+        Leaves p.keeping.crashes s.keeper failed.keeper (λ c. StandsBetween p s before last c ⊎ p.keeping.crashes.stands_for c last.progress.journey.world.history)
+    fails_leave last failed fault on (no_moment limit room found n times c keeper may done told near lost basis asked) = lost_leaves last keeper on lost
+    fails_leave last failed fault on (not_confirmed keeper all lost basis asked) = lost_leaves last keeper on lost
+    fails_leave last failed fault on (not_tended keeper lost basis asked) = lost_leaves last keeper on lost
     fails_leave last failed fault on (not_kept keeper unkept undone lost basis asked) =
         leaves_either p.keeping.crashes s.keeper last.keeper keeper unkept.kept last.progress.journey.world.history _ _ (leaves_between last on) (lost.meanwhile (held_at last on unkept.kept unkept.here))
         (λ c old. inl (kept_between first s before last served is on unkept.kept unkept.here c old)) (λ c. inr) (λ c. inl)

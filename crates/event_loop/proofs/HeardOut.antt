@@ -127,13 +127,13 @@ module _ {N C J K H : Type 0} (p : Promises N C J K H) (s : LoopState N C J K H)
       at_stage _ j (fresh_place s.times.steady) refl (λ left leaving. cc) (λ k other. opens_other s.progress.journey.world on.world j k on.happens other)
   step_up s' (comes s'' told accepting) = still _ refl (λ k. refl)
   step_up s' (reads j place s'' here readable unread may reading) = reads_up j place s'' may.is_open reading
-  step_up s' (writes j place s'' here writable unwritten kept told may writing) = writes_up j place s'' here writing
+  step_up s' (writes j place s'' here writable unwritten kept told asked may writing) = writes_up j place s'' here writing
   step_up s' (closes j place s'' here taken cause closing) = closes_up j place s'' closing
   step_up s' (hears_out j place left here waiting late eldest none is_left some) =
       at_place _ j (record place { stage = Leaving left; came = s.times.steady }) refl
       (λ more leaving. (let same : left ≡ more = cc in subst (λ l. IsUpToEnd (known s.progress j) l) same (up_to_end (known s.progress j) left eldest.holds.some_left is_left)))
       (λ k other. refl)
-  step_up s' (keeps keeper e unkept on undone kept basis further) = still _ refl (λ k. ap (λ ks. connection_at ks k) (kept_connections s.progress.journey.world on.world on.happens))
+  step_up s' (keeps keeper e unkept on undone kept basis further sole) = still _ refl (λ k. ap (λ ks. connection_at ks k) (kept_connections s.progress.journey.world on.world on.happens))
   step_up s' step = still _ refl (λ k. refl)
 
 module _ {N C J K H : Type 0} where

@@ -1,8 +1,6 @@
 -- What crashes leave, one keeper after another.
 use Rattle.std.proofs.Common.{◌≡◌, ◌⊎◌, inl, inr, ◌≤◌, ℕ, List, refl, sym, subst, arith}
-use Rattle.std.specs.Prelude.{min, ◌^◌, ◌-◌}
-use Rattle.change_codec.specs.Keeping.{IsWithin, NoLater, Until, horizon_bound}
-use Rattle.event_loop.specs.Moments.{KeepsAhead}
+use Rattle.change_codec.specs.Keeping.{IsWithin, NoLater}
 use Rattle.event_loop.proofs.Names.{Event, Crashes, Basis, HoldsBasis, KeepsBasis, Leaves, LeavesEither, TellsBasis}
 
 -- a basis within a limit is within an earlier one
@@ -94,11 +92,3 @@ module _ {K : Type 0} (crashes : Crashes K) where
         Leaves crashes old new (λ c. crashes.tells c basis)
     leaves_told limit old new basis within tells held =
         leaves_then old old new _ _ (leaves_now old (λ c. crashes.tells c basis) held) tells.later (λ t c le left. tells.earlier basis t c within held le left) (λ c told. told)
-
--- what is kept by one moment is kept by the same
-pub tells_at : {K : Type 0} (crashes : Crashes K) (old new : K) (one other : ℕ) → one ≡ other → TellsBasis crashes (horizon_bound other) old new → TellsBasis crashes (horizon_bound one) old new
-tells_at crashes old new one other same tells = subst (λ (m : ℕ). TellsBasis crashes (horizon_bound m) old new) (sym same) tells
-
-pub keeps_at : {K : Type 0} (crashes : Crashes K) (old new : K) (one other : ℕ) → one ≡ other → KeepsBasis crashes (horizon_bound other) old new →
-    HoldsBasis crashes new (Until (min (horizon_bound other) (2 ^ 63 - 1))) → KeepsAhead crashes one old new
-keeps_at crashes old new one other same basis ahead = subst (λ (m : ℕ). KeepsAhead crashes m old new) (sym same) (record { basis = basis; ahead = ahead })

@@ -4,6 +4,7 @@ use Rattle.event_loop.proofs.Names.{Place, NeedsNoRead, NeedsNoWrite, Closes, Pa
 use Rattle.event_loop.proofs.Names.{IsDone, done_since, Served, Past, LeavesOthers, HoldsAt, LeadsToActs, LeadsToTidy, LeadsToSettled, LeadsToAccepts, GoesReading, GoesKept, GoesTold, GoesWriting, IsWritable, LeadsToTold}
 use Rattle.event_loop.proofs.Names.{LeadsWriting, AreAllSettled, DoneAfter, GoesSettled, StaysIdle, ActsAt, SettlesAt, TidiesAt, IsHeardAt, IsRestedAt, IsRested, IsSettledAt, running, standing, state_of, to_write}
 use Rattle.std.specs.Prelude.{⊤}
+use Rattle.outside.specs.Calls.{IsConfirmed}
 use Rattle.event_loop.proofs.Others.{forgets_other}
 use Rattle.event_loop.proofs.Answering.{served_answered}
 use Rattle.event_loop.proofs.Doing.{none_more, done_then, done_some, on_then}
@@ -23,6 +24,10 @@ module _ {N C J K H : Type 0} (p : Promises N C J K H) where
   pub closes_told : (k : ℕ) (place : Place) (s s' : LoopState N C J K H) → Closes p k place s s' → s'.progress.audience ≡ s.progress.audience
   closes_told k place s s' (leaves n e on noted done noting) = refl
 
+  -- nor is more read
+  pub closes_confirmed : (k : ℕ) (place : Place) (s s' : LoopState N C J K H) → Closes p k place s s' → IsConfirmed s.calls → IsConfirmed s'.calls
+  closes_confirmed k place s s' (leaves n e on noted done noting) was = was
+
   -- and it is reached
   pub closes_reached : (k : ℕ) (place : Place) (s s' : LoopState N C J K H) → Closes p k place s s' → IsReached p.hosting s'.progress
   closes_reached k place s s' (leaves n e on noted done noting) = on.reached
@@ -32,7 +37,7 @@ module _ {N C J K H : Type 0} (p : Promises N C J K H) where
 
   -- a write, and a close where it is over
   pub turn_then : (k : ℕ) (b c d : Service) (u v w : Tools N C J K H) → LeadsToActs p (to_write k) (running b u) (running c v) → LeadsToTidy p k (running c v) (running d w) →
-      (first : LoopState N C J K H) (found : List Ready) (past : Past H) → IsHeardAt k b past → ¬ (IsDone (Writing k) past.calls) → IsWritable past.journey.world u.tellings → Served p first (state_of (running b u) found past) →
+      (first : LoopState N C J K H) (found : List Ready) (past : Past H) → IsHeardAt k b past → ¬ (IsDone (Writing k) past.calls) → IsWritable past u.tellings → Served p first (state_of (running b u) found past) →
       SettlesAt p first k (standing (running b u) found past) (running d w)
   turn_then k b c d u v w one two first found past heard unwritten kept served =
       record {
@@ -82,7 +87,7 @@ module _ {N C J K H : Type 0} (p : Promises N C J K H) where
 
   -- all places are read, what changed is kept, and all are written to
   pub kept_then : (first : LoopState N C J K H) (found : List Ready) (past : Past H) (a b c : Service) (s u v w : Tools N C J K H) →
-      GoesReading p first 64 (standing (running a s) found past) (running b u) → LeadsToTold p b.times.moment u v → LeadsWriting p 64 (running b v) (running c w) → GoesWriting p first 64 (standing (running a s) found past) (running c w)
+      GoesReading p first 64 (standing (running a s) found past) (running b u) → LeadsToTold p b u v → LeadsWriting p 64 (running b v) (running c w) → GoesWriting p first 64 (standing (running a s) found past) (running c w)
   kept_then first found past a b c s u v w read keep write = record {
     on = record {
       next = z.on.next;
@@ -98,7 +103,7 @@ module _ {N C J K H : Type 0} (p : Promises N C J K H) where
   }
     where
       x : GoesTold p first (standing (running b u) found read.on.next) v
-      x = keep first found b read.on.next refl read.hearing.not_kept read.on.served (served_answered p first _ read.on.served).reached
+      x = keep first found read.on.next read.hearing.not_kept read.on.served (served_answered p first _ read.on.served).reached
 
       y : GoesKept p first (standing (running b u) found read.on.next) v
       y = x.goes
@@ -107,7 +112,7 @@ module _ {N C J K H : Type 0} (p : Promises N C J K H) where
       z = write first found y.next
           (λ j less. rested_other (suc j) j b read.on.next.journey.world b y.next.journey.world (others_kept j b read.on.next.journey.world y.next.journey.world y.connections) (λ is. absurd (omega (arith, is))) (read.rested j less))
           (λ j less. heard_other (suc j) j b read.on.next b y.next (others_kept j b read.on.next.journey.world y.next.journey.world y.connections) y.done (λ is. absurd (omega (arith, is))) (read.heard j less))
-          (λ j. y.alone (Writing j) (λ e. absurd (cc)) (read.hearing.unwritten j)) (y.kept, x.told) y.served
+          (λ j. y.alone (Writing j) (λ e. absurd (cc)) (read.hearing.unwritten j)) (elim y.confirmed [ inl nowhere ↦ inl nowhere | inr asked ↦ inr (record { kept = y.kept; told = x.told; confirmed = asked }) ]) y.served
 
   -- at all places, one after another
   pub to_then : (f g h : List Ready) (a b c : Service) (t u v : Tools N C J K H) → LeadsToSettled p f (running a t) g (running b u) → LeadsToSettled p g (running b u) h (running c v) → LeadsToSettled p f (running a t) h (running c v)

@@ -1,17 +1,18 @@
 -- A connection is closed in the progress of the loop.
-use Rattle.std.proofs.Common.{Bool, true, false, ◌≡◌, ◌≢◌, ◌⊎◌, inl, inr, ◌<◌, ◌≤◌, ◌+◌, ℕ, suc, List, Option, Some, [], length, refl, sym, ap, subst, ◌∙◌, arith, slice_get, slice_set}
+use Rattle.std.proofs.Common.{Bool, true, false, ◌≡◌, ◌≢◌, ◌⊎◌, inl, inr, ◌<◌, ◌≤◌, ◌+◌, ℕ, suc, List, ◌∷◌, Option, Some, [], length, refl, sym, ap, subst, ◌∙◌, arith, slice_get, slice_set}
 use Rattle.event_loop.proofs.Names.{Place, IsOccupied, Cause, slice_get_within, Promises, LoopState, Free, Service, Ready, Tools, Accepting, Shortening, Call, IsDone, IsIdle, IsKeptShort, IsPatient, MayWait, Served, goes, reports, false≢true}
-use Rattle.event_loop.proofs.Names.{closes, DoneMore, DoneAfter, Past, IsCalm, OnlyTells, OnlyTellsRoom, IsLimit, IsReadyToWait, LeadsAway, LeadsTelling, LeadsToShort, SettlesAll, AreAllSettled, MayRest}
+use Rattle.event_loop.proofs.Names.{closes, DoneMore, DoneAfter, Past, IsCalm, OnlyTells, OnlyTellsRoom, IsLimit, IsReadyToWait, LeadsAway, LeadsTelling, LeadsToShort, LeadsToTended, SettlesAll, AreAllSettled, MayRest}
 use Rattle.event_loop.proofs.Names.{Running, running, state_of, Told, Queue, waits_done, Reached, World, Times, IsRoomMadeIn}
 use Rattle.std.proofs.Math.Bool.{beq}
 use Rattle.event_loop.specs.Names.{WantsRoom}
 use Rattle.event_loop.specs.Reporting.{wanted}
 use Rattle.event_loop.specs.Served as served
+use Rattle.outside.specs.Calls as call
 use Rattle.change_codec.specs.declared.keeper.Length.{Length}
 use Rattle.change_codec.specs.declared.keeper.Length.TheVariants.{Short, Long}
 use Rattle.event_loop.specs.Goes as limited
 use Rattle.event_loop.specs.Goes.{MayEnd, ServesOn}
-use Rattle.event_loop.proofs.Doing.{closes_done, closes_some, done_some, done_then, none_more}
+use Rattle.event_loop.proofs.Doing.{closes_done, closes_some, done_some, done_then, none_more, not_without, tends_more}
 use Rattle.event_loop.proofs.Answering.{served_answered}
 use Rattle.event_loop.proofs.Leading.{closes_other}
 use Rattle.event_loop.proofs.Resting.{put_others, put_settled, free_rests, all_settled, settled_still}
@@ -46,15 +47,15 @@ module _ {N C J K H : Type 0} (p : Promises N C J K H) where
       }
 
 -- where something is noted to be due, something was done
-is_patient : {N C J K H : Type 0} (p : Promises N C J K H) (service : Service) (tools : Tools N C J K H) (past : Past H) (told : Option Length) (limit : Option ℕ) → length service.places ≡ 64 → IsReadyToWait service past →
+is_patient : {N C J K H : Type 0} (p : Promises N C J K H) (service : Service) (tools : Tools N C J K H) (past : Past H) (told : Option Length) (due limit : Option ℕ) → length service.places ≡ 64 → IsReadyToWait service past →
     (told ≡ Some Long → IsDone Shortening past.calls) → (told ≢ Some Long → IsKeptShort p (state_of (running service tools) [] past)) → (told ≡ Some Short → ¬ (p.keeping.is_long tools.keeper)) →
-    IsLimit service told limit → IsPatient p (state_of (running service tools) [] past) limit
-is_patient p service tools past told limit size ready sliced rests short (limited.looks (inl due)) = served.looks ((ready.settled due.k due.within).active due.here)
-is_patient p service tools past told limit size ready sliced rests short (limited.looks (inr queue)) = served.looks (elim ready.queue [ inl not ↦ absurd (not queue) | inr tried ↦ done_some Accepting past.calls (λ e. absurd (cc)) (λ n e. absurd (cc)) tried ])
-is_patient p service tools past told limit size ready sliced rests short (limited.shortens long) = served.looks (done_some Shortening past.calls (λ e. absurd (cc)) (λ n e. absurd (cc)) (sliced long))
-is_patient p service tools past told limit size ready sliced rests short (limited.rests rest not_long) = served.rests (is_idle p service tools past size ready.settled rest (rests not_long))
-is_patient p service tools past told limit size ready sliced rests short (limited.sleeps rest sleeps is) =
-    served.sleeps (is_idle p service tools past size ready.settled rest (λ all long. absurd (short is long))) sleeps.free sleeps.unbarred sleeps.unwanted (short is)
+    IsLimit service told due limit → IsPatient p (state_of (running service tools) [] past) due limit
+is_patient p service tools past told due limit size ready sliced rests short (limited.looks (inl some)) = served.looks ((ready.settled some.k some.within).active some.here)
+is_patient p service tools past told due limit size ready sliced rests short (limited.looks (inr queue)) = served.looks (elim ready.queue [ inl not ↦ absurd (not queue) | inr tried ↦ done_some Accepting past.calls (λ e. absurd (cc)) (λ n e. absurd (cc)) tried ])
+is_patient p service tools past told due limit size ready sliced rests short (limited.shortens long) = served.looks (done_some Shortening past.calls (λ e. absurd (cc)) (λ n e. absurd (cc)) (sliced long))
+is_patient p service tools past told due limit size ready sliced rests short (limited.rests rest not_long) = served.rests (is_idle p service tools past size ready.settled rest (rests not_long))
+is_patient p service tools past told due limit size ready sliced rests short (limited.sleeps rest sleeps is undue) =
+    served.sleeps (is_idle p service tools past size ready.settled rest (λ all long. absurd (short is long))) sleeps.free sleeps.unbarred sleeps.unwanted (short is) undue
 
 -- where what is kept was shortened by a slice, or that was refused, all is as ready
 ready_still : {H : Type 0} (service : Service) (past : Past H) (service' : Service) (calls : List Call) → service' ≡ record service { refused = service'.refused } → DoneMore past.calls calls → IsReadyToWait service past →
@@ -117,14 +118,16 @@ pub record ComesToWait {N C J K H : Type 0} (p : Promises N C J K H) (first : Lo
   pub may : MayWait p (state_of after [] next) limit room
   pub waits_are : waits_done next.calls ≡ waits_done past.calls
 
-pub may_wait : {N C J K H : Type 0} (p : Promises N C J K H) (a b c : Service) (s t v : Tools N C J K H) (told : Option Length) (limit : Option ℕ) (room : ℕ) → length a.places ≡ 64 → b ≡ record a { refused = b.refused } →
-    OnlyTellsRoom b c → v ≡ record t { journal = v.journal } → c.told.room ≡ p.keeping.wants_room v.keeper → LeadsTelling p (running b t) (running c v) → IsLimit c told limit →
-    65 ≤ room → LeadsToShort p (running a s) told (running b t) → (first : LoopState N C J K H) (past : Past H) → Served p first (state_of (running a s) [] past) → IsReadyToWait a past → ¬ (IsDone Shortening past.calls) → ServesOn a past.journey.world →
+pub may_wait : {N C J K H : Type 0} (p : Promises N C J K H) (a b c : Service) (r s t v : Tools N C J K H) (told : Option Length) (due limit : Option ℕ) (room : ℕ) → length a.places ≡ 64 → b ≡ record a { refused = b.refused } →
+    OnlyTellsRoom b c → v ≡ record t { journal = v.journal } → c.told.room ≡ p.keeping.wants_room v.keeper → LeadsTelling p (running b t) (running c v) → IsLimit c told due limit →
+    65 ≤ room → LeadsToTended p a.times.steady r due s → LeadsToShort p (running a s) told (running b t) → (first : LoopState N C J K H) (past : Past H) → Served p first (state_of (running a r) [] past) → IsReadyToWait a past → ¬ (IsDone Shortening past.calls) → ServesOn a past.journey.world →
     ComesToWait p first past (running c v) limit room
-may_wait p a b c s t v told limit room before same tells tools want telling is_limit roomy shorter first past begun was undone on =
-    let now = shorter first [] past undone begun (served_answered p first _ begun).reached in
+may_wait p a b c r s t v told due limit room before same tells tools want telling is_limit roomy tended shorter first past begun was undone on =
+    let asked = tended first [] a past refl begun in
+    let since : Past _ = record past { calls = call.Tended due ∷ past.calls } in
+    let now = shorter first [] since (not_without Shortening past.calls undone) asked (served_answered p first _ asked).reached in
     let next : Past _ = record past { calls = now.calls } in
-    let ready = ready_told b next c tells (ready_still a past b now.calls same now.done was) in
+    let ready = ready_told b next c tells (ready_still a since b now.calls same now.done (ready_still a past a since.calls refl (tends_more due past.calls) was)) in
     let size : length c.places ≡ 64 = ap (λ (s : Service). length s.places) tells ∙ ap (λ (s : Service). length s.places) same ∙ before in
     let rests : told ≢ Some Long → IsKeptShort p (state_of (running c v) [] next) = λ not. short_told p b c t v next tells tools (now.rests not) in
     let keeper : v.keeper ≡ t.keeper = ap (λ (u : Tools _ _ _ _ _). u.keeper) tools in
@@ -134,7 +137,9 @@ may_wait p a b c s t v told limit room before same tells tools want telling is_l
       served = telling first [] next now.served;
       ready = ready;
       may = record {
-        patient = is_patient p c v next told limit size ready now.sliced rests short is_limit;
+        due = due;
+        tended = now.tended;
+        patient = is_patient p c v next told due limit size ready now.sliced rests short is_limit;
         fair = record { places = λ k place here. (let within = slice_get_within c.places k place here in (ready.settled k (omega (arith, size, within))).turned place here); queue = ready.queue };
         prompt = record { idle = ready.calm.idle; crowded = ready.calm.crowded; room = ready.room; tried = ready.calm.tried; reported = ready.reported; serves_on = λ time. on (subst (λ (service : Service). MayEnd service past.journey.world) same (subst (λ (service : Service). MayEnd service past.journey.world) tells time)) };
         heard = refl;

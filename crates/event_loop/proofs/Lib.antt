@@ -6,6 +6,7 @@ pub mod Doing
 pub mod Resting
 pub mod Leading
 pub mod Acting
+pub mod Asking
 pub mod Cutting
 pub mod Kept
 pub mod Lasting

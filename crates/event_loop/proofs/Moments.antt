@@ -78,10 +78,10 @@ module _ {N C J K H : Type 0} (p : Promises N C J K H) where
   untouched_on s s' u (step.comes s'' told coming) = absurd (let not = sym u.queue ∙ told in cc)
   untouched_on s s' u (step.tries_again since barred later) = absurd (let not = sym u.queue ∙ barred in cc)
   untouched_on s s' u (step.reads j place s'' here readable unread may reading) = absurd (let not = sym (u.free j place here) ∙ may.is_open in cc)
-  untouched_on s s' u (step.writes j place s'' here writable unwritten kept handed may writing) = absurd (subst IsInService (u.free j place here) may.served)
+  untouched_on s s' u (step.writes j place s'' here writable unwritten kept handed asked may writing) = absurd (subst IsInService (u.free j place here) may.served)
   untouched_on s s' u (step.closes j place s'' here taken cause closing) = absurd (subst IsOccupied (u.free j place here) taken)
   untouched_on s s' u (step.hears_out j place left here waiting late eldest none is_left some) = absurd (subst IsStaying (u.free j place here) eldest.holds.stays)
-  untouched_on s s' u (step.keeps keeper e unkept on undone kept moments further) =
+  untouched_on s s' u (step.keeps keeper e unkept on undone kept moments further sole) =
       (ap (λ (w : World). w.greatest) on.happens.kept, λ none. record { free = u.free; found = u.found; queue = u.queue })
   untouched_on s s' u next = (refl, λ none. record { free = u.free; found = u.found; queue = u.queue })
 

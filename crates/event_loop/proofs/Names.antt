@@ -8,13 +8,13 @@ pub use Rattle.endpoints.specs.Server.{Outset, AreUnkept}
 pub use Rattle.outside.specs.Calls.{CallKind, IsDone, Transfer, Reading, Looking, Writing, Call, Keeping, Shortening, done_since, Wrote, waits as waits_done, Accepting}
 pub use Rattle.event_loop.specs.Closing.{AreWithin, Closes, leaves, Cause, gives_way, makes_room, freed_queue, is_silent, IsBehindReply, IsEldest, IsOwed, HasWhole, leaves_rest, AreBetween, IsBetween, Passes, hands_on}
 pub use Rattle.event_loop.specs.Coming.{opens, denies, fresh_place, finds_nobody, asks}
-pub use Rattle.event_loop.specs.Durable.{Carries, Onward, stays, onward, KeeperHolds, StandsBetween, IsWriteKept, IsWriteTold, MomentIsHeld, MomentStays}
-pub use Rattle.event_loop.specs.Ends.{CannotGoOn, no_wait, no_time, too_far, no_moment, not_kept, not_shortened, no_more, to_reload}
+pub use Rattle.event_loop.specs.Durable.{Carries, Onward, stays, onward, KeeperHolds, StandsBetween, MomentIsHeld, MomentStays}
+pub use Rattle.event_loop.specs.Ends.{CannotGoOn, no_wait, no_time, too_far, no_moment, not_kept, not_shortened, not_confirmed, not_tended, no_more, to_reload}
 pub use Rattle.event_loop.specs.Giving.{GivesPieces, nothing, gives, cut_limit, AreBytesHeard, IsUnheard}
 pub use Rattle.event_loop.specs.GivingParts.{GivesOn, progress_of}
-pub use Rattle.event_loop.specs.Goes.{Running, Standing, Past, Duty, DoneMore, DoneAfter, ActsAt, IsReadyFor, state_of, to_read, to_write, LeadsOn, standing, LeavesOthers, HoldsAt, LeadsToActs, LeadsToTidy}
+pub use Rattle.event_loop.specs.Goes.{Running, Standing, Past, Duty, DoneMore, DoneAfter, ActsAt, IsReadyFor, past_of, state_of, to_read, to_write, LeadsOn, standing, LeavesOthers, HoldsAt, LeadsToActs, LeadsToTidy}
 pub use Rattle.event_loop.specs.Goes.{LeadsToSettled, LeadsToAccepts, GoesReading, GoesKept, GoesTold, GoesWriting, IsWritable, LeadsToKept, LeadsToTold, LeadsWriting, StaysIdle, SettlesAt, TidiesAt, IsHeardAt, IsRestedAt, IsRested}
-pub use Rattle.event_loop.specs.Goes.{IsSettledAt, GoesSettled, running, IsCalm, NobodyIsSilent, OnlyTells, IsLimit, IsReadyToWait, LeadsAway, GoesShorter, LeadsToShort, SettlesAll}
+pub use Rattle.event_loop.specs.Goes.{IsSettledAt, GoesSettled, running, IsCalm, NobodyIsSilent, OnlyTells, IsLimit, IsReadyToWait, LeadsAway, GoesShorter, LeadsToShort, LeadsToTended, SettlesAll}
 pub use Rattle.event_loop.specs.Goes.{AreAllSettled, IsHearing, IsHeardAs, ReadsAt, ReadsOn, GoesFurther, LeadsFurther, LeadsTelling, AreGuestsBrief, IsEldestAt, IsGuest, IsRoomMadeIn, IsTried, OnlyTellsRoom, WhereKnown, counts_from}
 pub use Rattle.event_loop.specs.Goes.{MayRest, IsToldAs, IsWorkLeft, a_read, a_write, IsLeftAt, noted_in, LeadsToHearing, LeadsShut, LeadsReading, LeadsRound, GoesRound, IsInTime}
 pub use Rattle.event_loop.specs.LoopStates.{Promises, LoopState, IsAllKept, with_call, with_place, IsUnkept, promises}
@@ -24,7 +24,7 @@ pub use Rattle.event_loop.specs.Progress.{Progress, known, led, IsReached}
 pub use Rattle.event_loop.specs.Reading.{ReadsPlace, hears, refuses, ends, ends_nothing, finds_nothing, read_place}
 pub use Rattle.event_loop.specs.Reporting.{TellsRefusal, is_long_ago, full, reported}
 pub use Rattle.event_loop.specs.Served.{Served, goes, LoopStep, hears_of, comes, reads, writes, closes, keeps, begins, Shuts, TellsLast, tells_nothing, passes_on, shortens, is_short, IsKeptShort, stops, shuts, reports_last, IsIdle}
-pub use Rattle.event_loop.specs.Served.{IsPatient, MayWait, HadTurn, IsFirst, told_place, hears_of_listener, hears_of_reload, hears_of_none, hears_out, looks_again, fails_to_look, MayLook, no_slice, reports, audits}
+pub use Rattle.event_loop.specs.Served.{IsPatient, MayWait, HadTurn, IsFirst, told_place, hears_of_listener, hears_of_reload, hears_of_none, hears_out, looks_again, fails_to_look, MayLook, no_slice, reports, audits, confirms, tends}
 pub use Rattle.event_loop.specs.Writing.{WritesPlace, offered, sends, finds_no_room}
 pub use Rattle.outside.specs.declared.clocks.Times.{Times}
 pub use Rattle.outside.specs.declared.fault.ConnectionFault.TheVariants.{Read}

@@ -26,6 +26,7 @@ module _ {N C J K H : Type 0} (p : Promises N C J K H) (first : LoopState N C J 
     sliced = λ is. absurd (cc);
     rests = λ other. short;
     short = λ is. absurd (cc);
+    tended = refl;
   }
 
   module _ (keeper : K) (all : IsAllKept past.journey.world) (kept : Keeps p.keeping.crashes past.journey.world.history past.journey.world.history tools.keeper keeper)
@@ -55,6 +56,7 @@ module _ {N C J K H : Type 0} (p : Promises N C J K H) (first : LoopState N C J 
           sliced = λ is. inl refl;
           rests = λ other. absurd (other refl);
           short = λ is. absurd (cc);
+          tended = refl;
         })
     went_on Short service' undone left slice nearer short long is_done is_same =
         subst (λ (s : Service). GoesShorter p first (standing (running service tools) found past) (Some Short) (running s (record tools { keeper = keeper }))) (sym (is_done refl))
@@ -66,6 +68,7 @@ module _ {N C J K H : Type 0} (p : Promises N C J K H) (first : LoopState N C J 
             sliced = λ is. absurd (cc);
             rests = λ other still is. absurd (short refl is);
             short = λ is. short refl;
+            tended = refl;
           }
           | inr was ↦ record {
             calls = call.Shortened ∷ past.calls;
@@ -74,6 +77,7 @@ module _ {N C J K H : Type 0} (p : Promises N C J K H) (first : LoopState N C J 
             sliced = λ is. absurd (cc);
             rests = λ other still is. absurd (short refl is);
             short = λ is. short refl;
+            tended = refl;
           }
         ])
 
@@ -89,4 +93,5 @@ module _ {N C J K H : Type 0} (p : Promises N C J K H) (first : LoopState N C J 
           sliced = λ is. absurd (cc);
           rests = λ other still is. just_now service.times.steady;
           short = λ is. absurd (cc);
+          tended = refl;
         })

@@ -1,8 +1,8 @@
 -- What the sockets did.
-use Rattle.std.specs.Prelude.{ℕ, List, [], ◌∷◌, Some, None}
+use Rattle.std.specs.Prelude.{ℕ, List, [], ◌∷◌, Option, Some, None}
 use Rattle.outside.specs.declared.sockets.Ready.{Ready}
 use Rattle.outside.specs.declared.sockets.Sockets.{Ghosts as Sockets}
-use Rattle.outside.specs.Calls.{Call, Waited, WaitFailed, Looked, Kept, Shortened}
+use Rattle.outside.specs.Calls.{Call, Waited, WaitFailed, Looked, Kept, Confirmed, Tended, Shortened}
 
 -- These calls of the sockets were made, one after another, the last one first. To look again is to wait for 0 milliseconds. What the
 -- keeper is called for is no call of theirs.
@@ -14,4 +14,6 @@ pub data HaveDone {N : Type 0} (sockets : Sockets N) (first : N) : List Call →
   failed_to_look : {calls : List Call} {n : N} (nth room : ℕ) (n' : N) → HaveDone sockets first calls n → sockets.does n (WaitFailed (Some 0) room) n' →
       HaveDone sockets first (Looked nth room None ∷ calls) n'
   kept : {calls : List Call} {n : N} → HaveDone sockets first calls n → HaveDone sockets first (Kept ∷ calls) n
+  confirmed : {calls : List Call} {n : N} → HaveDone sockets first calls n → HaveDone sockets first (Confirmed ∷ calls) n
+  tended : {calls : List Call} {n : N} (due : Option ℕ) → HaveDone sockets first calls n → HaveDone sockets first (Tended due ∷ calls) n
   shortened : {calls : List Call} {n : N} → HaveDone sockets first calls n → HaveDone sockets first (Shortened ∷ calls) n

@@ -14,7 +14,7 @@ pub data Onward {N C J K H : Type 0} (p : Promises N C J K H) (s : LoopState N C
 -- the moment that the clocks told, where it is kept: behind a wait, and with changes
 abbrev pub told_by : {N C J K H : Type 0} {p : Promises N C J K H} {s s' : LoopState N C J K H} → LoopStep p s s' → ℕ
 told_by (waits limit room found n times c keeper may done told near kept further) = times.moment
-told_by {s = s} (keeps keeper e unkept on undone kept moments further) = s.times.moment
+told_by {s = s} (keeps keeper e unkept on undone kept moments further sole) = s.times.moment
 told_by step = 0
 
 -- the greatest one that they told on the way from the one state to the other

@@ -42,7 +42,7 @@ module _ {N C J K H : Type 0} (p : Promises N C J K H) where
 
   told_there : (s s' : LoopState N C J K H) (step : LoopStep p s s') → (told_by step ≡ 0) ⊎ (told_by step ≡ s'.times.moment)
   told_there s s' (waits limit room found n times c keeper may done told near kept further) = inr refl
-  told_there s s' (keeps keeper e unkept on undone kept moments further) = inr refl
+  told_there s s' (keeps keeper e unkept on undone kept moments further sole) = inr refl
   told_there s s' step = inl refl
 
   -- the greatest one was told, if any was

@@ -14,6 +14,7 @@ use Rattle.event_loop.specs.Closing.{IsTimeToReload}
 use Rattle.event_loop.specs.Moments.{seconds_too_far}
 use Rattle.event_loop.specs.LoopStates.{Promises, LoopState, IsAllKept, IsUnkept, with_call}
 use Rattle.event_loop.specs.Answered.{IsAllAnswered}
+use Rattle.event_loop.specs.Sole.{IsWriteSole}
 use Rattle.event_loop.specs.Served.{IsFirst, LoopStep, MayWait, Served, Shuts, TellsLast}
 
 -- so many rounds can be counted
@@ -21,7 +22,8 @@ abbrev pub rounds_limit : ℕ
 rounds_limit = 18446744073709551615
 
 -- why it goes on no more: a wait failed; behind a wait the clocks told nothing, or a moment that is too far ahead of the greatest
--- that was kept, or one that could not be kept, and what it found was not looked at; what is unkept could not be kept; what is kept could not be shortened, and may be lost; or so
+-- that was kept, or one that could not be kept, and what it found was not looked at; what is unkept could not be kept; the keeper did not confirm that nobody else had begun, or did not keep its
+-- place; what is kept could not be shortened, and may be lost; or so
 -- many rounds were made as can be counted; or it is time to reload
 pub data CannotGoOn {N C J K H : Type 0} (p : Promises N C J K H) (s : LoopState N C J K H) : LoopFault → LoopState N C J K H → Type 0 where
   no_wait : (limit : Option ℕ) (room : ℕ) (n : N) → MayWait p s limit room → p.sockets.does s.sockets (call.WaitFailed limit room) n →
@@ -44,6 +46,9 @@ pub data CannotGoOn {N C J K H : Type 0} (p : Promises N C J K H) (s : LoopState
   not_shortened : (keeper : K) → IsAllKept s.progress.journey.world → ¬ (IsDone Shortening s.calls) →
       KeepsNot p.keeping.crashes s.progress.journey.world.history s.progress.journey.world.history s.keeper keeper → TellsBasis p.keeping.crashes 0 s.keeper keeper → p.keeping.has_failed keeper →
       CannotGoOn p s Keep (record s { keeper = keeper })
+  not_confirmed : (keeper : K) → IsAllKept s.progress.journey.world → HeldMeanwhile p.keeping.crashes s.keeper keeper → TellsBasis p.keeping.crashes 0 s.keeper keeper → p.keeping.has_failed keeper →
+      CannotGoOn p s Keep (record s { keeper = keeper })
+  not_tended : (keeper : K) → HeldMeanwhile p.keeping.crashes s.keeper keeper → TellsBasis p.keeping.crashes 0 s.keeper keeper → p.keeping.has_failed keeper → CannotGoOn p s Keep (record s { keeper = keeper })
   to_reload : IsTimeToReload s.reload s.limits.crowded s.times s.places s.progress.journey.world.connections → CannotGoOn p s Reload s
   no_more : rounds_limit ≤ call.waits s.calls → CannotGoOn p s Rounds s
 
@@ -74,7 +79,8 @@ tools_at s = record {
 -- The clocks told the first times, and steps led on, whose every state is answered, until something failed; then nothing
 -- was done but that each connection that was left was closed or handed on, and forgotten, and all places are free, and that behind them,
 -- where reports are wanted, there was one more. That is what the sockets did. Each state has all that had happened and was kept at
--- those before it. With each write all that had happened was kept, and all that was told of requests was handed to the journal; and
+-- those before it. With each write all that had happened was kept, all that was told of requests was handed to the journal, and the keeper was asked since the last
+-- wait, behind all that was read, and told that up to then nobody else had begun; and
 -- where the keeper held at first what was kept, all that was kept is durable. What crashes told at some state, each crash tells from then on, and no moment that is more than a minute
 -- beyond the greatest that the clocks told since. Behind
 -- the first wait that is the moment by which requests are answered, and each crash tells the greatest one by which one was.
@@ -90,6 +96,7 @@ pub record HasServed {N C J K H : Type 0} (p : Promises N C J K H) (start : Begi
   pub answered : (s : LoopState N C J K H) → Served p first s → IsAllAnswered p s
   pub kept : (s s' : LoopState N C J K H) → Served p first s → LoopStep p s s' → IsWriteKept s s'
   pub audited : (s s' : LoopState N C J K H) → Served p first s → LoopStep p s s' → IsWriteTold s s'
+  pub sole : (s s' : LoopState N C J K H) → Served p first s → LoopStep p s s' → IsWriteSole p first s s'
   pub durable : KeeperHolds p first → (s s' : LoopState N C J K H) → Served p first s → Onward p s s' → IsDurable p s s'
   pub carries : (s s' : LoopState N C J K H) → Served p first s → Onward p s s' → Carries s.progress.journey s'.progress.journey
   pub basis : (s s' : LoopState N C J K H) → Served p first s → (on : Onward p s s') → KeepsBasis p.keeping.crashes (horizon_bound (latest on)) s.keeper s'.keeper

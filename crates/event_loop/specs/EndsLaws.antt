@@ -5,7 +5,7 @@ use Rattle.outside.specs.declared.fault.LoopFault.TheVariants.{Keep}
 use Rattle.event_loop.specs.declared.place.Place.{Place}
 use Rattle.event_loop.specs.declared.tools.Tools.{Tools}
 use Rattle.event_loop.specs.Closing.{Closes, Passes, hands_on, leaves}
-use Rattle.event_loop.specs.Ends.{Beginning, CannotGoOn, HasServed, no_more, no_moment, no_time, no_wait, too_far, not_kept, not_shortened, to_reload}
+use Rattle.event_loop.specs.Ends.{Beginning, CannotGoOn, HasServed, no_more, no_moment, no_time, no_wait, too_far, not_confirmed, not_kept, not_shortened, not_tended, to_reload}
 use Rattle.event_loop.specs.LoopStates.{LoopState, Promises}
 use Rattle.event_loop.specs.Served.{Shuts, TellsLast, passes_on, reports_last, shuts, stops, tells_nothing}
 
@@ -34,6 +34,8 @@ module _ {N C J K H : Type 0} (p : Promises N C J K H) where
   has_failed last failed fault (no_moment limit room found n times c keeper may done told near lost basis asked) is = asked
   has_failed last failed fault (not_kept keeper unkept undone lost basis asked) is = asked
   has_failed last failed fault (not_shortened keeper all undone lost basis asked) is = asked
+  has_failed last failed fault (not_confirmed keeper all lost basis asked) is = asked
+  has_failed last failed fault (not_tended keeper lost basis asked) is = asked
   has_failed last failed fault (to_reload time) is = absurd (cc)
   has_failed last failed fault (no_more many) is = absurd (cc)
 

@@ -9,7 +9,9 @@ use Rattle.event_loop.specs.declared.room.Guest.TheVariants.{Silent, Owed}
 use Rattle.outside.specs.declared.report.Report.{Report}
 use Rattle.event_loop.specs.declared.service.Service.{Service}
 use Rattle.event_loop.specs.declared.tools.Tools.{Tools}
-use Rattle.outside.specs.Calls.{Call, CallKind, Reading, Looking, Keeping, Writing, Accepting, Shortening, IsDone, waits, done_since}
+use Rattle.outside.specs.Calls as call
+use Rattle.outside.specs.Calls.{Call, CallKind, Reading, Looking, Keeping, Writing, Accepting, Shortening, IsConfirmed, IsDone, waits, done_since, told_since}
+use Rattle.event_loop.specs.Asking.{milliseconds, rest_limit}
 use Rattle.change_codec.specs.declared.keeper.Length.{Length}
 use Rattle.change_codec.specs.declared.keeper.Length.TheVariants.{Short, Long}
 use Rattle.event_loop.specs.Noting.{Noted}
@@ -84,6 +86,10 @@ state_of now found past = record {
   calls = past.calls;
 }
 
+-- what was done so far at a state
+abbrev pub past_of : {N C J K H : Type 0} → LoopState N C J K H → Past H
+past_of s = record { calls = s.calls; journey = s.progress.journey }
+
 -- something may be due at some place
 pub record IsDueSomewhere (service : Service) : Type 0 where
   pub k : ℕ
@@ -93,6 +99,10 @@ pub record IsDueSomewhere (service : Service) : Type 0 where
 -- nothing is due at any place
 abbrev pub IsDueNowhere : Service → Type 0
 IsDueNowhere service = (k : ℕ) → k < 64 → slice_get service.due k ≡ Some false
+
+-- nor is at any place from one on
+abbrev pub IsDueNowhereFrom : ℕ → Service → Type 0
+IsDueNowhereFrom i service = (k : ℕ) → i ≤ k → k < 64 → slice_get service.due k ≡ Some false
 
 -- something is noted to be due
 abbrev pub IsBusy : Service → Type 0
@@ -109,12 +119,12 @@ pub record MaySleep (service : Service) : Type 0 where
   pub unbarred : (since : ℕ) → service.queue ≢ Barred since
   pub unwanted : service.limits.report ≡ None
 
--- how long it waits by what is noted, and by what the keeper told, if it was called
-pub data IsLimit (service : Service) (told : Option Length) : Option ℕ → Type 0 where
-  looks : IsBusy service → IsLimit service told (Some 0)
-  shortens : told ≡ Some Long → IsLimit service told (Some 0)
-  rests : MayRest service → told ≢ Some Long → IsLimit service told (Some 1000)
-  sleeps : MayRest service → MaySleep service → told ≡ Some Short → IsLimit service told None
+-- how long it waits by what is noted, by when the keeper wants to be called again, and by what it told, if it was called to shorten what it keeps
+pub data IsLimit (service : Service) (told : Option Length) (due : Option ℕ) : Option ℕ → Type 0 where
+  looks : IsBusy service → IsLimit service told due (Some 0)
+  shortens : told ≡ Some Long → IsLimit service told due (Some 0)
+  rests : MayRest service → told ≢ Some Long → IsLimit service told due (Some (rest_limit due (milliseconds service.times.steady)))
+  sleeps : MayRest service → MaySleep service → told ≡ Some Short → due ≡ None → IsLimit service told due None
 
 -- as the clocks told last, a connection at the place is not silent for too long
 abbrev pub IsInTime : Service → ℕ → Type 0
@@ -171,14 +181,16 @@ pub record LeavesOthers (k : ℕ) (service : Service) (world : World) (service' 
   pub due : (j : ℕ) → j ≢ k → slice_get service'.due j ≡ slice_get service.due j
   pub connections : (j : ℕ) → j ≢ k → connection_at world'.connections j ≡ connection_at world.connections j
 
--- nothing is unkept, and all that was told was handed on
-abbrev pub IsWritable : World → Audience → Type 0
-IsWritable world audience = IsAllKept world × IsAllTold audience
+-- nothing is unkept, all that was told was handed on, and the keeper was asked whether nobody else had begun
+pub record IsWritable {H : Type 0} (past : Past H) (audience : Audience) : Type 0 where
+  pub kept : IsAllKept past.journey.world
+  pub told : IsAllTold audience
+  pub confirmed : IsConfirmed past.calls
 
 -- what must be so that a call of the kind is made: for a write that
-abbrev pub IsReadyFor : CallKind → World → Audience → Type 0
-IsReadyFor (Writing k) world audience = IsWritable world audience
-IsReadyFor kind world audience = ⊤
+abbrev pub IsReadyFor : {H : Type 0} → CallKind → Past H → Audience → Type 0
+IsReadyFor (Writing k) past audience = IsWritable past audience
+IsReadyFor kind past audience = ⊤
 
 -- a kind of call that may be to be made at a place, and when it needs not be made
 pub record Duty : Type 1 where
@@ -333,7 +345,7 @@ module _ {N C J K H : Type 0} (p : Promises N C J K H) where
   pub record GoesAt (first : LoopState N C J K H) (duty : Duty) (before : Standing N C J K H) (after : Running N C J K H) : Type 0 where
     pub on : LeadsOn first before after
     pub others : LeavesOthers duty.k before.now.service before.past.journey.world after.service on.next.journey.world
-    pub ready : IsReadyFor duty.kind before.past.journey.world before.now.tools.tellings → IsReadyFor duty.kind on.next.journey.world after.tools.tellings
+    pub ready : IsReadyFor duty.kind before.past before.now.tools.tellings → IsReadyFor duty.kind on.next after.tools.tellings
     pub alone : (other : CallKind) → other ≢ duty.kind → ¬ (IsDone other before.past.calls) → ¬ (IsDone other on.next.calls)
 
   -- a call of the kind is made at one place, or nothing changed, since it is not to be made
@@ -345,7 +357,7 @@ module _ {N C J K H : Type 0} (p : Promises N C J K H) where
   -- so it is where it was not done since the last wait, and may be done
   abbrev pub LeadsToActs : Duty → Running N C J K H → Running N C J K H → Type 0
   LeadsToActs duty before after =
-      (first : LoopState N C J K H) (found : List Ready) (past : Past H) → ¬ (IsDone duty.kind past.calls) → IsReadyFor duty.kind past.journey.world before.tools.tellings →
+      (first : LoopState N C J K H) (found : List Ready) (past : Past H) → ¬ (IsDone duty.kind past.calls) → IsReadyFor duty.kind past before.tools.tellings →
       Served p first (state_of before found past) → Reached p.hosting before.tools.edge past.journey → ActsAt first duty (standing before found past) after
 
   -- steps lead on, which touch one place alone, and it is settled
@@ -462,18 +474,19 @@ module _ {N C J K H : Type 0} (p : Promises N C J K H) where
       (first : LoopState N C J K H) (start : Running N C J K H) (since : Past H) → 0 < waits since.calls → ((m : ℕ) → ¬ (IsDone (Looking m) since.calls)) →
       ReadsOn first 64 (standing start [] since) before → GoesFurther first i (standing start [] since) after
 
-  -- nothing is unkept, and all else is as it was
+  -- nothing is unkept, where something may be due the keeper was asked whether nobody else had begun, and all else is as it was
   pub record GoesKept (first : LoopState N C J K H) (before : Standing N C J K H) (tools' : Tools N C J K H) : Type 0 where
     pub next : Past H
     pub served : Served p first (state_of (running before.now.service tools') before.found next)
     pub kept : IsAllKept next.journey.world
+    pub confirmed : IsDueNowhere before.now.service ⊎ IsConfirmed next.calls
     pub connections : next.journey.world.connections ≡ before.past.journey.world.connections
     pub done : DoneAfter before.past.calls next.calls
     pub alone : (other : CallKind) → other ≢ Keeping → ¬ (IsDone other before.past.calls) → ¬ (IsDone other next.calls)
 
-  abbrev pub LeadsToKept : ℕ → Tools N C J K H → Tools N C J K H → Type 0
-  LeadsToKept moment tools tools' =
-      (first : LoopState N C J K H) (found : List Ready) (service : Service) (past : Past H) → service.times.moment ≡ moment → ¬ (IsDone Keeping past.calls) →
+  abbrev pub LeadsToKept : Service → Tools N C J K H → Tools N C J K H → Type 0
+  LeadsToKept service tools tools' =
+      (first : LoopState N C J K H) (found : List Ready) (past : Past H) → ¬ (IsDone Keeping past.calls) →
       Served p first (state_of (running service tools) found past) → Reached p.hosting tools.edge past.journey → GoesKept first (standing (running service tools) found past) tools'
 
   -- where nothing is unkept, all that was told is handed on, and all else is as it was
@@ -491,15 +504,15 @@ module _ {N C J K H : Type 0} (p : Promises N C J K H) where
     pub goes : GoesKept first before tools'
     pub told : IsAllTold tools'.tellings
 
-  abbrev pub LeadsToTold : ℕ → Tools N C J K H → Tools N C J K H → Type 0
-  LeadsToTold moment tools tools' =
-      (first : LoopState N C J K H) (found : List Ready) (service : Service) (past : Past H) → service.times.moment ≡ moment → ¬ (IsDone Keeping past.calls) →
+  abbrev pub LeadsToTold : Service → Tools N C J K H → Tools N C J K H → Type 0
+  LeadsToTold service tools tools' =
+      (first : LoopState N C J K H) (found : List Ready) (past : Past H) → ¬ (IsDone Keeping past.calls) →
       Served p first (state_of (running service tools) found past) → Reached p.hosting tools.edge past.journey → GoesTold first (standing (running service tools) found past) tools'
 
-  -- or keeping failed
-  abbrev pub LeadsToLoss : ℕ → Tools N C J K H → LoopFault → Tools N C J K H → Type 0
-  LeadsToLoss moment tools fault tools' =
-      (first : LoopState N C J K H) (found : List Ready) (service : Service) (past : Past H) → service.times.moment ≡ moment → ¬ (IsDone Keeping past.calls) →
+  -- or that failed
+  abbrev pub LeadsToLoss : Service → Tools N C J K H → LoopFault → Tools N C J K H → Type 0
+  LeadsToLoss service tools fault tools' =
+      (first : LoopState N C J K H) (found : List Ready) (past : Past H) → ¬ (IsDone Keeping past.calls) →
       Served p first (state_of (running service tools) found past) → Reached p.hosting tools.edge past.journey →
       CannotGoOn p (state_of (running service tools) found past) fault (state_of (running service tools') found past)
 
@@ -511,12 +524,24 @@ module _ {N C J K H : Type 0} (p : Promises N C J K H) where
     pub sliced : told ≡ Some Long → IsDone Shortening calls
     pub rests : told ≢ Some Long → IsKeptShort p (state_of after before.found (record before.past { calls = calls }))
     pub short : told ≡ Some Short → ¬ (p.keeping.is_long after.tools.keeper)
+    pub tended : told_since calls ≡ told_since before.past.calls
 
   -- wherever steps lead to, they lead on, and it is so
   abbrev pub LeadsToShort : Running N C J K H → Option Length → Running N C J K H → Type 0
   LeadsToShort before told after =
       (first : LoopState N C J K H) (found : List Ready) (past : Past H) → ¬ (IsDone Shortening past.calls) →
       Served p first (state_of before found past) → Reached p.hosting before.tools.edge past.journey → GoesShorter first (standing before found past) told after
+
+  -- the keeper kept its place, and all else is as it was
+  abbrev pub LeadsToTended : ℕ → Tools N C J K H → Option ℕ → Tools N C J K H → Type 0
+  LeadsToTended steady tools due tools' =
+      (first : LoopState N C J K H) (found : List Ready) (service : Service) (past : Past H) → service.times.steady ≡ steady → Served p first (state_of (running service tools) found past) →
+      Served p first (state_of (running service tools') found (record past { calls = call.Tended due ∷ past.calls }))
+
+  -- or that failed
+  abbrev pub LeadsToUntended : Tools N C J K H → LoopFault → Tools N C J K H → Type 0
+  LeadsToUntended tools fault tools' =
+      (found : List Ready) (service : Service) (past : Past H) → CannotGoOn p (state_of (running service tools) found past) fault (state_of (running service tools') found past)
 
   -- steps lead on, by which nothing was called
   abbrev pub LeadsTelling : Running N C J K H → Running N C J K H → Type 0
@@ -530,19 +555,19 @@ module _ {N C J K H : Type 0} (p : Promises N C J K H) where
       Served p first (state_of before found past) → Reached p.hosting before.tools.edge past.journey →
       CannotGoOn p (state_of before found past) fault (state_of after found past)
 
-  -- each place below i is settled; those from i on were heard, and not written to; and nothing is unkept
+  -- each place below i is settled; those from i on were heard, and not written to; and where something may be due there, it may be written
   pub record GoesWriting (first : LoopState N C J K H) (i : ℕ) (before : Standing N C J K H) (after : Running N C J K H) : Type 0 where
     pub on : LeadsOn first before after
     pub below : (j : ℕ) → j < i → IsSettledAt j after.service on.next
     pub rested : (j : ℕ) → i ≤ j → j < 64 → IsRestedAt j after.service on.next.journey.world
     pub heard : (j : ℕ) → i ≤ j → j < 64 → IsHeardAt j after.service on.next
     pub unwritten : (j : ℕ) → i ≤ j → ¬ (IsDone (Writing j) on.next.calls)
-    pub kept : IsWritable on.next.journey.world after.tools.tellings
+    pub kept : IsDueNowhereFrom i after.service ⊎ IsWritable on.next after.tools.tellings
 
   abbrev pub LeadsWriting : ℕ → Running N C J K H → Running N C J K H → Type 0
   LeadsWriting i before after =
       (first : LoopState N C J K H) (found : List Ready) (past : Past H) → IsRested before.service past.journey.world →
-      ((j : ℕ) → j < 64 → IsHeardAt j before.service past) → ((j : ℕ) → ¬ (IsDone (Writing j) past.calls)) → IsWritable past.journey.world before.tools.tellings →
+      ((j : ℕ) → j < 64 → IsHeardAt j before.service past) → ((j : ℕ) → ¬ (IsDone (Writing j) past.calls)) → IsDueNowhere before.service ⊎ IsWritable past before.tools.tellings →
       Served p first (state_of before found past) → GoesWriting first i (standing before found past) after
 
   -- steps lead through so many waits

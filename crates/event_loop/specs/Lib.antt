@@ -11,12 +11,14 @@ pub mod Writing
 pub mod Closing
 pub mod Reporting
 pub mod Moments
+pub mod Asking
 pub mod Served
 pub mod Durable
 pub mod DurableLaws
 pub mod Slices
 pub mod SlicesLaws
 pub mod Answered
+pub mod Sole
 pub mod Ends
 pub mod EndsLaws
 -- What only the contracts of this crate's own parts and their proofs cite.

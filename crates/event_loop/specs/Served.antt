@@ -7,7 +7,8 @@ use Rattle.outside.specs.declared.fault.LoopFault.TheVariants.{Reload}
 use Rattle.event_loop.specs.declared.place.Place.{Place}
 use Rattle.outside.specs.declared.sockets.Ready.TheVariants as ready
 use Rattle.outside.specs.Calls as call
-use Rattle.outside.specs.Calls.{Call, Reading, Looking, Keeping, Writing, Accepting, Shortening, IsDone, done_since}
+use Rattle.outside.specs.Calls.{Call, Reading, Looking, Keeping, Writing, Accepting, Shortening, IsConfirmed, IsDone, done_since, told_since}
+use Rattle.event_loop.specs.Asking.{IsSoleUpTo, StaysKept, milliseconds, rest_limit}
 use Rattle.event_loop.specs.Progress.{known, led, IsReached}
 use Rattle.http_edge.specs.Schedule.{Kept}
 use Rattle.event_loop.specs.Places.{IsOccupied, IsOneLeaving, MayRead, MayWrite, NeedsNoRead, NeedsNoWrite, IsOver, IsPlaceAtRest, AllFree, places_limit, ready_limit, looks_limit}
@@ -56,18 +57,20 @@ pub record IsPrompt {N C J K H : Type 0} (s : LoopState N C J K H) : Type 0 wher
   pub serves_on : ¬ (IsTimeToReload s.reload s.limits.crowded s.times s.places s.progress.journey.world.connections)
 
 -- How long it waits, in milliseconds: not at all only where something was done since the last wait; else, where nothing is
--- to be done, for a second, or, while no connection is there, no accept is to be tried again, no reports are wanted and no more is
--- kept than may be, for ever.
-pub data IsPatient {N C J K H : Type 0} (p : Promises N C J K H) (s : LoopState N C J K H) : Option ℕ → Type 0 where
-  looks : 0 < done_since s.calls → IsPatient p s (Some 0)
-  rests : IsIdle p s → IsPatient p s (Some 1000)
-  sleeps : IsIdle p s → AllFree s.places → ((since : ℕ) → s.queue ≢ Barred since) → s.limits.report ≡ None → ¬ (p.keeping.is_long s.keeper) → IsPatient p s None
+-- to be done, for a second, or less where the keeper wants to be called again before that; or, where it does not, while no connection is
+-- there, no accept is to be tried again, no reports are wanted and no more is kept than may be, for ever.
+pub data IsPatient {N C J K H : Type 0} (p : Promises N C J K H) (s : LoopState N C J K H) (due : Option ℕ) : Option ℕ → Type 0 where
+  looks : 0 < done_since s.calls → IsPatient p s due (Some 0)
+  rests : IsIdle p s → IsPatient p s due (Some (rest_limit due (milliseconds s.times.steady)))
+  sleeps : IsIdle p s → AllFree s.places → ((since : ℕ) → s.queue ≢ Barred since) → s.limits.report ≡ None → ¬ (p.keeping.is_long s.keeper) → due ≡ None → IsPatient p s due None
 
 -- It may wait so long now, with room for so much: all that the last wait found was looked at, and where nothing is unkept and more
--- is kept than may be, that was shortened by a slice since the last wait, or it was refused less than a minute ago; and the journal
--- was told whether what is kept wants room.
+-- is kept than may be, that was shortened by a slice since the last wait, or it was refused less than a minute ago; the journal
+-- was told whether what is kept wants room; and the keeper kept its place since the last wait, and told by when it wants to be called again.
 pub record MayWait {N C J K H : Type 0} (p : Promises N C J K H) (s : LoopState N C J K H) (limit : Option ℕ) (room : ℕ) : Type 0 where
-  pub patient : IsPatient p s limit
+  pub due : Option ℕ
+  pub tended : told_since s.calls ≡ Some due
+  pub patient : IsPatient p s due limit
   pub fair : IsFair s
   pub prompt : IsPrompt s
   pub heard : s.found ≡ []
@@ -96,7 +99,8 @@ told_place place readable writable hung =
 -- for connections, the journal is told what is due, what is unkept is kept, or what is kept is shortened by a slice, or that is
 -- refused. Between two waits a place is read at most once, and written to at most once, it is kept at most once, and shortened at
 -- most once. Nothing is written, and nothing is shortened, while something is unkept; and nothing is written while something that was
--- told of requests was not handed to the journal.
+-- told of requests was not handed to the journal, nor before the keeper was asked, since the last wait and behind the last read,
+-- whether nobody else had begun.
 -- Keeping adds to what is to be gone over no more than eight times what it adds to what is kept.
 pub data LoopStep {N C J K H : Type 0} (p : Promises N C J K H) (s : LoopState N C J K H) : LoopState N C J K H → Type 0 where
   waits : (limit : Option ℕ) (room : ℕ) (found : List Ready) (n : N) (times : Times) (c : C) (keeper : K) → MayWait p s limit room →
@@ -121,7 +125,7 @@ pub data LoopStep {N C J K H : Type 0} (p : Promises N C J K H) (s : LoopState N
   reads : (k : ℕ) (place : Place) (s' : LoopState N C J K H) → slice_get s.places k ≡ Some place → place.readable ≡ true → ¬ (IsDone (Reading k) s.calls) →
       MayRead place (known s.progress k) → ReadsPlace p k place s s' → LoopStep p s s'
   writes : (k : ℕ) (place : Place) (s' : LoopState N C J K H) → slice_get s.places k ≡ Some place → place.writable ≡ true → ¬ (IsDone (Writing k) s.calls) →
-      IsAllKept s.progress.journey.world → IsAllTold s.progress.audience → MayWrite place (known s.progress k) → WritesPlace p k place s s' → LoopStep p s s'
+      IsAllKept s.progress.journey.world → IsAllTold s.progress.audience → IsConfirmed s.calls → MayWrite place (known s.progress k) → WritesPlace p k place s s' → LoopStep p s s'
   closes : (k : ℕ) (place : Place) (s' : LoopState N C J K H) → slice_get s.places k ≡ Some place → IsOccupied place.stage → Cause s k place →
       Closes p k place s s' → LoopStep p s s'
   -- where another connection waits, the one that came first of those that are owed replies, and is there for longer than the limit, is
@@ -136,8 +140,14 @@ pub data LoopStep {N C J K H : Type 0} (p : Promises N C J K H) (s : LoopState N
       LoopStep p s (record s { noted = record s.noted { journal = journal }; told = told })
   keeps : (keeper : K) (e : SeenEdge H) (unkept : IsUnkept s.progress.journey.world) (on : GoesOn p.hosting e s.progress.journey Kept) →
       ¬ (IsDone Keeping s.calls) → Keeps p.keeping.crashes unkept.kept s.progress.journey.world.history s.keeper keeper →
-      KeepsAhead p.keeping.crashes s.times.moment s.keeper keeper → IsNoFurther p.keeping.to_go p.keeping.size s.keeper keeper →
+      KeepsAhead p.keeping.crashes s.times.moment s.keeper keeper → IsNoFurther p.keeping.to_go p.keeping.size s.keeper keeper → IsSoleUpTo p.keeping s.keeper keeper →
       LoopStep p s (record s { keeper = keeper; progress = led s.progress on; calls = call.Kept ∷ s.calls })
+  -- where nothing is unkept, the keeper told that up to now nobody else had begun: it alone is another, which holds the same
+  confirms : (keeper : K) → IsAllKept s.progress.journey.world → StaysKept p.keeping s.keeper keeper → IsSoleUpTo p.keeping s.keeper keeper →
+      LoopStep p s (record s { keeper = keeper; calls = call.Confirmed ∷ s.calls })
+  -- it kept its place, and told by when it wants to be called again: it alone is another, which holds the same
+  tends : (keeper : K) (due : Option ℕ) → StaysKept p.keeping s.keeper keeper → p.keeping.tends s.keeper (milliseconds s.times.steady) due keeper →
+      LoopStep p s (record s { keeper = keeper; calls = call.Tended due ∷ s.calls })
   -- where nothing is unkept, what was told of requests, if anything was, is handed to the journal, all of it, in its order, with how
   -- much more there was no room for
   audits : (journal : J) → IsAllKept s.progress.journey.world → ¬ (IsAllTold s.progress.audience) → p.journal.audits s.noted.journal s.progress.edge.server.rules s.progress.audience journal →

@@ -6,7 +6,7 @@ use Rattle.event_loop.specs.Closing.{Closes, leaves}
 use Rattle.event_loop.specs.LoopStates.{LoopState, Promises}
 use Rattle.event_loop.specs.Reading.{ReadsPlace, hears}
 use Rattle.event_loop.specs.Reporting.{is_long_ago}
-use Rattle.event_loop.specs.Served.{LoopStep, closes, comes, keeps, no_slice, reads, shortens, waits, writes}
+use Rattle.event_loop.specs.Served.{LoopStep, closes, comes, confirms, keeps, no_slice, reads, shortens, tends, waits, writes}
 use Rattle.event_loop.specs.Slices.{IsNoLonger, IsUnended, LongOnward, is_there, long_onward, slices_done}
 use Rattle.event_loop.specs.Writing.{WritesPlace, sends}
 use Rattle.event_loop.specs.declared.place.Place.{Place}
@@ -51,9 +51,11 @@ module _ {N C J K H : Type 0} (p : Promises N C J K H) where
   step_longer s s' (waits limit room found n times c keeper may done told near kept further) unended = omega (arith, further)
   step_longer s s' (comes s'' told accepting) unended = still_longer s s'' (accepts_still s s'' accepting)
   step_longer s s' (reads k place s'' here readable unread may reading) unended = still_longer s s'' (reads_still k place s s'' reading)
-  step_longer s s' (writes k place s'' here writable unwritten kept told may writing) unended = still_longer s s'' (writes_still k place s s'' writing)
+  step_longer s s' (writes k place s'' here writable unwritten kept told asked may writing) unended = still_longer s s'' (writes_still k place s s'' writing)
   step_longer s s' (closes k place s'' here taken cause closing) unended = still_longer s s'' (closes_still k place s s'' closing)
-  step_longer s s' (keeps keeper e unkept on undone kept basis further) unended = omega (arith, further)
+  step_longer s s' (keeps keeper e unkept on undone kept basis further sole) unended = omega (arith, further)
+  step_longer s s' (confirms keeper all holds sole) unended = (let further = holds.no_further in omega (arith, further))
+  step_longer s s' (tends keeper due holds told) unended = (let further = holds.no_further in omega (arith, further))
   step_longer s s' (shortens keeper all long undone kept basis slice (inl nearer)) unended =
       let less = nearer.0 in
       let size = nearer.1 in

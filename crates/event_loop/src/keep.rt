@@ -4,8 +4,8 @@ ghost use Rattle.consent.specs.History.{Happened};
 ghost use Rattle.http_edge.specs.Edges.{unkept_of};
 ghost use Rattle.event_loop.specs.Goes.{InEach, IsAllKept, IsUnkept, LeadsToAudit, LeadsToKept, LeadsToLoss, LeadsToTold, keeping, promises};
 
+use crate::service::Service;
 use crate::tools::{Batch, Clocks, HookHost, Journal, Keeper, Sockets, Tools};
-use consent::Moment;
 use http_edge::Edge;
 use outside::LoopFault;
 
@@ -25,15 +25,22 @@ pub(crate) fn unkept<H: HookHost>(edge: &Edge<H>) -> Option<&Batch>
 }
 
 impl<N: Sockets, C: Clocks, J: Journal, K: Keeper, H: HookHost> Tools<N, C, J, K, H> {
-    // What is unkept is kept, all at once, at a moment of the clock.
-    fn keep_unkept(&mut self, moment: Moment) -> Result<(), LoopFault>
-        ensures kept { OnOk result (LeadsToKept (promises N.Sockets C.Clocks J.Journal (keeping K.Keeper) H.HookHost) moment self.old self.new) }
-        ensures lost { IfErr result (λ fault. LeadsToLoss (promises N.Sockets C.Clocks J.Journal (keeping K.Keeper) H.HookHost) moment self.old fault self.new) }
+    // What is unkept is kept, all at once, at the moment that the clocks told. Where nothing is, and something may be due, the keeper is
+    // asked whether nobody else has begun.
+    fn keep_unkept(&mut self, service: &Service) -> Result<(), LoopFault>
+        ensures kept { OnOk result (LeadsToKept (promises N.Sockets C.Clocks J.Journal (keeping K.Keeper) H.HookHost) service.now self.old self.new) }
+        ensures lost { IfErr result (λ fault. LeadsToLoss (promises N.Sockets C.Clocks J.Journal (keeping K.Keeper) H.HookHost) service.now self.old fault self.new) }
     {
         let Some(batch) = unkept(&self.edge) else {
-            return Ok(());
+            if service.due.end() == 0 {
+                return Ok(());
+            }
+            return match self.keeper.confirm() {
+                Ok(()) => Ok(()),
+                Err(_failed) => Err(LoopFault::Keep),
+            };
         };
-        let Ok(()) = self.keeper.keep(batch, moment) else {
+        let Ok(()) = self.keeper.keep(batch, service.times.moment) else {
             return Err(LoopFault::Keep);
         };
         self.edge.forget_unkept();
@@ -52,12 +59,12 @@ impl<N: Sockets, C: Clocks, J: Journal, K: Keeper, H: HookHost> Tools<N, C, J, K
         self.tellings.forget();
     }
 
-    /// What is unkept is kept, all at once, and then what was told of it is handed on.
-    pub(crate) fn keep_all(&mut self, moment: Moment) -> Result<(), LoopFault>
-        ensures kept { OnOk result (LeadsToTold (promises N.Sockets C.Clocks J.Journal (keeping K.Keeper) H.HookHost) moment self.old self.new) }
-        ensures lost { IfErr result (λ fault. LeadsToLoss (promises N.Sockets C.Clocks J.Journal (keeping K.Keeper) H.HookHost) moment self.old fault self.new) }
+    /// What is unkept is kept, all at once, or the keeper is asked whether nobody else has begun; and then what was told is handed on.
+    pub(crate) fn keep_all(&mut self, service: &Service) -> Result<(), LoopFault>
+        ensures kept { OnOk result (LeadsToTold (promises N.Sockets C.Clocks J.Journal (keeping K.Keeper) H.HookHost) service.now self.old self.new) }
+        ensures lost { IfErr result (λ fault. LeadsToLoss (promises N.Sockets C.Clocks J.Journal (keeping K.Keeper) H.HookHost) service.now self.old fault self.new) }
     {
-        if let Err(fault) = self.keep_unkept(moment) {
+        if let Err(fault) = self.keep_unkept(service) {
             return Err(fault);
         }
         self.hand_on();

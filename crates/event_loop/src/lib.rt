@@ -10,7 +10,6 @@ mod keep;
 mod laws;
 mod leave;
 mod limits;
-mod look;
 mod noting;
 mod passing;
 mod place;
@@ -25,7 +24,6 @@ mod shorten;
 mod tell;
 mod tools;
 mod turn;
-mod write;
 
 pub use clocks::too_far;
 pub use laws::{

@@ -1,29 +1,11 @@
 //! Serving connections.
 ghost use Rattle.event_loop.specs.Ends.{RunEnds};
-ghost use Rattle.event_loop.specs.Goes.{LeadsWrong, running, keeping, promises};
+ghost use Rattle.event_loop.specs.Goes.{keeping, promises};
 
 use crate::limits::Limits;
 use crate::service::Service;
 use crate::tools::{Clocks, HookHost, Journal, Keeper, Tools};
-use outside::{LoopFault, Ready, Sockets};
-
-impl<N: Sockets, C: Clocks, J: Journal, K: Keeper, H: HookHost> Tools<N, C, J, K, H> {
-    // Makes round after round.
-    fn rounds(&mut self, service: &mut Service) -> LoopFault
-        ensures { LeadsWrong (promises N.Sockets C.Clocks J.Journal (keeping K.Keeper) H.HookHost) result (running service.old self.old) (running service.new self.new) }
-    {
-        let mut found = [Ready::Listener; 65];
-        for _nth in 0..u64::MAX {
-            if self.may_end(service) {
-                return LoopFault::Reload;
-            }
-            if let Err(fault) = self.round(service, &mut found) {
-                return fault;
-            }
-        }
-        LoopFault::Rounds
-    }
-}
+use outside::{LoopFault, Sockets};
 
 /// Serves up to 64 connections at once, until a wait fails, the clocks tell nothing or are too far ahead, changes or a moment can't be kept, or a
 /// reload is wanted, and says which. For a reload those that are between two requests are handed on: it ends once all are, or

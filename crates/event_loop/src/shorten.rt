@@ -1,10 +1,10 @@
-//! What is kept is shortened, a slice at a time.
+//! What is kept is shortened, a slice at a time, and the keeper keeps its place.
 ghost use Rattle.std.specs.Prelude.{◌≡◌, None, Some, IfOk, IfErr, OnOk};
 ghost use Rattle.change_codec.specs.declared.keeper.Length.TheVariants.{Short, Long};
-ghost use Rattle.event_loop.specs.Goes.{TellsRefusal, LeadsToShort, LeadsToUnshortened, running, keeping, promises};
+ghost use Rattle.event_loop.specs.Goes.{TellsRefusal, LeadsToShort, LeadsToTended, LeadsToUnshortened, LeadsToUntended, running, keeping, promises};
 
 use crate::keep::unkept;
-use crate::limits::MINUTE;
+use crate::limits::{MINUTE, SECOND};
 use crate::service::Service;
 use crate::tell::is_long_ago;
 use crate::tools::{Clocks, HookHost, Journal, Keeper, Sockets, Tools};
@@ -36,6 +36,17 @@ impl Service {
 }
 
 impl<N: Sockets, C: Clocks, J: Journal, K: Keeper, H: HookHost> Tools<N, C, J, K, H> {
+    /// The keeper keeps its place, and says by when it wants to be called again, if it does, in milliseconds.
+    pub(crate) fn tend(&mut self, steady: u64) -> Result<Option<u64>, LoopFault>
+        ensures tended { IfOk result (λ due. LeadsToTended (promises N.Sockets C.Clocks J.Journal (keeping K.Keeper) H.HookHost) steady self.old due self.new) }
+        ensures lost { IfErr result (λ fault. LeadsToUntended (promises N.Sockets C.Clocks J.Journal (keeping K.Keeper) H.HookHost) self.old fault self.new) }
+    {
+        match self.keeper.tend(steady.saturating_mul(SECOND)) {
+            Ok(due) => Ok(due),
+            Err(_failed) => Err(LoopFault::Keep),
+        }
+    }
+
     /// Where nothing is unkept, and more is kept than may be, that is shortened by a slice. Says whether more is kept still. It says
     /// nothing where that is refused: it is tried again after a minute.
     pub(crate) fn shorten_some(

@@ -18,8 +18,8 @@ pub(crate) fn is_long_ago(last: Option<u64>, now: u64, seconds: u64) -> bool
 }
 
 impl Service {
-    // How many connections are there.
-    fn open_count(&self) -> u32
+    /// How many connections are there.
+    pub(crate) fn open_count(&self) -> u32
         ensures { result ≡ open_count self.now.places }
     {
         let mut count: u32 = 0;

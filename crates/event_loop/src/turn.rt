@@ -1,12 +1,15 @@
 //! Turns.
-ghost use Rattle.std.specs.Prelude.{◌≡◌, []};
-ghost use Rattle.event_loop.specs.Goes.{NobodyIsSilent, HearsOf, LeadsToHearing, LeadsReading, LeadsWriting, running, keeping, promises};
+ghost use Rattle.std.specs.Prelude.{◌≡◌, ◌≤◌, ◌<◌, [], length};
+ghost use Rattle.event_loop.specs.Goes.{NobodyIsSilent, HearsOf, LeadsToHearing, LeadsReading, LeadsFurther, LeadsToActs, LeadsWriting, running, to_write, keeping, promises};
 
-use crate::limits::PLACES;
+use crate::keep::unkept;
+use crate::limits::{LOOKS, PLACES};
+use crate::place::{Place, Stage};
 use crate::read::may_read;
 use crate::service::Service;
 use crate::tools::{Clocks, HookHost, Journal, Keeper, Tools};
-use outside::{Ready, Sockets};
+use http_edge::ConnectionNo;
+use outside::{ConnectionFault, Ready, Sent, Sockets};
 
 impl<N: Sockets, C: Clocks, J: Journal, K: Keeper, H: HookHost> Tools<N, C, J, K, H> {
     // What was found ready is noted.
@@ -61,6 +64,64 @@ impl<N: Sockets, C: Clocks, J: Journal, K: Keeper, H: HookHost> Tools<N, C, J, K
                 continue;
             }
             self.read(service, k, place);
+        }
+    }
+
+    /// While something is unkept, looks without waiting what else is ready, a few times at most, and reads the places that were not
+    /// read since the last wait: so more is kept at once.
+    pub(crate) fn read_more(&mut self, service: &mut Service, found: &mut [Ready])
+        requires room { 65 ≤ length found.old }
+        ensures { LeadsFurther (promises N.Sockets C.Clocks J.Journal (keeping K.Keeper) H.HookHost) 3 (running service.old self.old) (running service.new self.new) }
+    {
+        for nth in 0..LOOKS {
+            let Some(_batch) = unkept(&self.edge) else {
+                return;
+            };
+            let Some(count) = self.sockets.wait(Some(0), found) else {
+                return;
+            };
+            self.hear_all(service, &found[..count]);
+            self.read_all(service);
+            if count == 0 {
+                return;
+            }
+        }
+    }
+
+    /// Writes to a connection once, where there is output and the socket may take it.
+    pub(crate) fn write(&mut self, service: &mut Service, k: u32)
+        requires bound { k < 64 }
+        ensures acts { LeadsToActs (promises N.Sockets C.Clocks J.Journal (keeping K.Keeper) H.HookHost) (to_write k) (running service.old self.old) (running service.new self.new) }
+        ensures due { service.new.due ≡ service.old.due }
+    {
+        let i = k as usize;
+        let place = service.place_at(k);
+        if !place.may_take() {
+            return;
+        }
+        let connection = ConnectionNo::new(k);
+        let offer = place.offer(self.edge.output(connection));
+        if offer.is_empty() {
+            return;
+        }
+        match self.sockets.write(k, offer) {
+            Sent::Bytes(count) => {
+                self.edge.take(connection, count);
+                service.places[i] = Place {
+                    stage: place.stage.taken(count),
+                    since: service.times.steady,
+                    turn: service.turn,
+                    ..place
+                };
+            }
+            Sent::Later => {
+                let writable = false;
+                service.places[i] = Place { writable, ..place };
+            }
+            Sent::Failed => {
+                let stage = Stage::Broken(ConnectionFault::Write);
+                service.places[i] = Place { stage, ..place };
+            }
         }
     }
 

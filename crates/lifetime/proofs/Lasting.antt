@@ -209,6 +209,7 @@ module _ {D N C J : Type 0} (p : LifePromises D N C J) (only_now : (d : D) (c : 
       edge = edge;
       reached = reached;
       served = served;
+      sole_writes = served.sole;
       blamed = blamed_failed (in_loop p) _ ending.fault ending.tools served;
       bounded = bounded_at;
       keeps = keeps_at;

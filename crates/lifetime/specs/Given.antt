@@ -34,6 +34,8 @@ file_keeping device = record {
   slices = SlicesFile device;
   shortens = ShortensFile device;
   wants_room = λ keeper. is_some keeper.file.refused;
+  is_sole = λ keeper. device.is_sole keeper.file.device;
+  tends = λ old now due new. device.tends old.file.device now due new.file.device;
 }
 
 -- what is promised in the loop, with a chain of hooks

@@ -9,6 +9,8 @@ use Rattle.endpoints.specs.Bounded.{AllRight, IsBounded}
 use Rattle.endpoints.specs.Hosts.{HostRun}
 use Rattle.event_loop.specs.Durable.{latest}
 use Rattle.event_loop.specs.Ends.{told_then}
+use Rattle.event_loop.specs.Served.{LoopStep}
+use Rattle.event_loop.specs.Sole.{IsWriteSole}
 use Rattle.outside.specs.declared.fault.LoopFault.TheVariants.{Keep}
 use Rattle.hook_chain.specs.contracts.chain.ChainHookHost.TheImpl as chain
 use Rattle.state_file.specs.Making.{StopsReading}
@@ -74,7 +76,8 @@ LeavesKept p rules s device all =
     (kept : List Event) × (s.progress.journey.world.kept ≡ Some kept) × Leaves p s.keeper.file.device device (IsWhole rules kept all)
 
 -- The server goes on from the history `before`: steps of the loop lead from there to its last state, and that is what its
--- sockets, its clocks and its journal did (`served`). Where that ended since something could not be kept, its keeper has a
+-- sockets, its clocks and its journal did (`served`). Before each write, since the last wait and behind all that was read, its device told that up to then
+-- nobody else had begun to write (`sole_writes`). Where that ended since something could not be kept, its keeper has a
 -- fault (`blamed`). At each state all codes and tokens keep to the registry's allowances, tokens to lives and consents
 -- (`bounded`). What is kept at a state is in all that a crash leaves from then on, up to another state (`keeps`) or to the end
 -- of the life (`keeps_then`), and nothing that has not happened. A crash at any moment of the life left what one before it
@@ -85,6 +88,7 @@ pub record HasLived {D N C J : Type 0} (p : LifePromises D N C J) (given : Given
   pub edge : SeenEdge (List Named)
   pub reached : Reached chain.ghosts edge (loop_of given begun edge before).journey
   pub served : HasServed (in_loop p) (loop_of given begun edge before) ending.fault ending.tools
+  pub sole_writes : (s s' : LifeState D N C J) → Served (in_loop p) served.first s → LoopStep (in_loop p) s s' → IsWriteSole (in_loop p) served.first s s'
   pub blamed : ending.fault ≡ Keep → IsSome ending.tools.keeper.fault
   pub bounded : (s : LifeState D N C J) → Served (in_loop p) served.first s → IsBounded given.registry s.progress.journey.world.history
   pub keeps : (s s' : LifeState D N C J) → Served (in_loop p) served.first s → Onward (in_loop p) s s' →

@@ -17,7 +17,8 @@ pub data Transfer : Type 0 where
 -- One call of the sockets, and what came of it. A wait has its limit in milliseconds, how much it had room for, and what
 -- it found ready; the others have the place of their connection, a read how many bytes it had room for, and a write how many
 -- it offered; a connection is closed, or handed on to whoever serves next. Or it was looked again without waiting what is ready, the how-manieth time since the last wait, from 0 on, and found
--- that, or failed; or what was unkept was given to the keeper, and is kept; or the keeper went on by a slice to shorten what it keeps.
+-- that, or failed; or what was unkept was given to the keeper, and is kept; or the keeper confirmed that nobody else had begun; or it kept its place, and told by when
+-- it wants to be called again; or it went on by a slice to shorten what it keeps.
 pub data Call : Type 0 where
   Waited : (limit : Option ℕ) → (room : ℕ) → (found : List Ready) → Call
   WaitFailed : (limit : Option ℕ) → (room : ℕ) → Call
@@ -29,6 +30,8 @@ pub data Call : Type 0 where
   Closed : (k : ℕ) → Call
   Passed : (k : ℕ) → Call
   Kept : Call
+  Confirmed : Call
+  Tended : (due : Option ℕ) → Call
   Shortened : Call
 
 abbrev pub wait_call : Option ℕ → Option ℕ → List Ready → Call
@@ -70,6 +73,8 @@ done_since [] = 0
 done_since (Waited limit room found ∷ earlier) = 0
 done_since (Looked nth room came ∷ earlier) = done_since earlier
 done_since (Kept ∷ earlier) = done_since earlier
+done_since (Confirmed ∷ earlier) = done_since earlier
+done_since (Tended due ∷ earlier) = done_since earlier
 done_since (call ∷ earlier) = suc (done_since earlier)
 
 -- what is called for again and again: a place is read, it is looked again the how-manieth time, what is unkept is kept, a place is written to, connections are accepted, and
@@ -98,3 +103,25 @@ abbrev pub IsDone : CallKind → List Call → Type 0
 IsDone kind [] = ⊥
 IsDone kind (Waited limit room found ∷ earlier) = ⊥
 IsDone kind (call ∷ earlier) = (kind_of call ≡ Some kind) ⊎ IsDone kind earlier
+
+-- Since the last wait, behind the last read, the keeper was asked, and told that nobody else had begun: it kept what was unkept, or confirmed.
+abbrev pub IsConfirmed : List Call → Type 0
+IsConfirmed [] = ⊥
+IsConfirmed (Waited limit room found ∷ earlier) = ⊥
+IsConfirmed (Read k room came ∷ earlier) = ⊥
+IsConfirmed (Kept ∷ earlier) = ⊤
+IsConfirmed (Confirmed ∷ earlier) = ⊤
+IsConfirmed (call ∷ earlier) = IsConfirmed earlier
+
+-- how often was read
+abbrev pub reads : List Call → ℕ
+reads [] = 0
+reads (Read k room came ∷ earlier) = suc (reads earlier)
+reads (call ∷ earlier) = reads earlier
+
+-- by when the keeper wants to be called again, as it told since the last wait
+abbrev pub told_since : List Call → Option (Option ℕ)
+told_since [] = None
+told_since (Waited limit room found ∷ earlier) = None
+told_since (Tended due ∷ earlier) = Some due
+told_since (call ∷ earlier) = told_since earlier

@@ -6,6 +6,7 @@ use Rattle.change_codec.specs.Keeping.{horizon_bound}
 use Rattle.event_loop.specs.Durable.{latest}
 use Rattle.event_loop.specs.Ends.{told_then}
 use Rattle.event_loop.proofs.Answering.{served_answered}
+use Rattle.event_loop.proofs.Asking.{served_asked}
 use Rattle.event_loop.proofs.Resting.{free_rests}
 use Rattle.event_loop.proofs.Leading.{rested_settled}
 use Rattle.event_loop.proofs.Fronts.{end_did, fails_does, leaves_between, leaves_to_end, onward_carries, step_does}
@@ -48,8 +49,9 @@ returns g c = λ journey reached.
       last = wrong.last;
       served = wrong.served;
       answered = λ s. served_answered p first s;
-      kept = λ s s' served step. (step_does p s s' step).kept;
-      audited = λ s s' served step. (step_does p s s' step).told;
+      kept = λ s s' served step k room took is. ((step_does p s s' step).written k room took is).kept;
+      audited = λ s s' served step k room took is. ((step_does p s s' step).written k room took is).told;
+      sole = λ s s' served step k room took is. served_asked p first s served ((step_does p s s' step).written k room took is).confirmed;
       durable = λ held s s' served on before is. leaves_between p g.met.K.Keeper.only_now first held s before served is s' on;
       carries = λ s s'. onward_carries p first s s';
       basis = λ s s' served. onward_basis p s s';

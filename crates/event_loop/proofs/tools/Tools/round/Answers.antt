@@ -1,9 +1,10 @@
 use Rattle.std.proofs.Common.{rules, ap, ◌≤◌, ◌-◌, ◌∷◌, take, arith, length, ◌≡◌, subst, refl, sym, ◌∙◌, [], Some, None}
-use Rattle.event_loop.proofs.Names.{eqb-true, LoopState, DoneAfter, GoesRound, promises, Service, Accepting, IsDone, goes, Past, Reached, running, state_of, no_wait, no_time, no_moment, too_far, keeping}
+use Rattle.event_loop.proofs.Names.{eqb-true, LoopState, DoneAfter, GoesRound, promises, Service, Accepting, Shortening, IsDone, goes, Past, Reached, running, state_of, no_wait, no_time, no_moment, too_far, keeping}
 use Rattle.event_loop.specs.Served.{waits}
 use Rattle.outside.specs.Calls as call
 use Rattle.event_loop.specs.Moments.{seconds_too_far}
 use Rattle.event_loop.proofs.Answering.{served_answered}
+use Rattle.event_loop.proofs.Doing.{not_without}
 use Rattle.event_loop.proofs.Hearing.{hearing_first}
 use Rattle.event_loop.proofs.Leading.{kept_then}
 use Rattle.event_loop.proofs.Leaving.{ComesToWait, may_wait, round_done, one_wait, waited_on, calm_told, room_told, told_or_not}
@@ -14,7 +15,7 @@ pub returns-in_default-clause-wrong : goal.returns-in_default-clause-wrong
 returns-in_default-clause-wrong g c = λ first past begun was_ready unshortened.
     let size : length c.args.service.now.places ≡ 64 = search rules in
     let room : 65 ≤ length c.wait.new.found = search (rules, arith, c.requires.room) in
-    let may = may_wait (promises g.N.Sockets g.C.Clocks g.J.Journal (keeping g.K.Keeper) g.H.HookHost) c.args.service.now c.shorten_some.new.service c.tell_room.new.service c.args.self.now c.shorten_some.new.self c.tell_room.new.self c.in-Ok.told c.wait_limit-limit.result (length c.wait.new.found) size c.in-Ok.ensures.same c.tell_room.ensures.rest c.tell_room.ensures.tools c.tell_room.ensures.told c.tell_room.ensures.leads c.wait_limit-limit.ensures room c.in-Ok.ensures.shorter first past begun was_ready unshortened (c.requires.serves_on past.journey (served_answered _ first _ begun).reached) in
+    let may = may_wait (promises g.N.Sockets g.C.Clocks g.J.Journal (keeping g.K.Keeper) g.H.HookHost) c.args.service.now c.shorten_some.new.service c.tell_room.new.service c.args.self.now c.tend.new.self c.shorten_some.new.self c.tell_room.new.self c.in-Ok-shorten_some.told c.in-Ok.due c.wait_limit-limit.result (length c.wait.new.found) size c.in-Ok-shorten_some.ensures.same c.tell_room.ensures.rest c.tell_room.ensures.tools c.tell_room.ensures.told c.tell_room.ensures.leads c.wait_limit-limit.ensures room c.in-Ok.ensures.tended c.in-Ok-shorten_some.ensures.shorter first past begun was_ready unshortened (c.requires.serves_on past.journey (served_answered _ first _ begun).reached) in
     record {
       last = state_of (running c.tell_room.new.service c.tell_room.new.self) [] may.next;
       served = may.served;
@@ -28,7 +29,7 @@ returns-in_default-read-clause-wrong g c = λ first past begun was_ready unshort
     let heard = take c.in-Some.count c.wait.new.found in
     let size : length c.args.service.now.places ≡ 64 = search rules in
     let room : 65 ≤ length c.wait.new.found = search (rules, arith, c.requires.room) in
-    let may = may_wait (promises g.N.Sockets g.C.Clocks g.J.Journal (keeping g.K.Keeper) g.H.HookHost) c.args.service.now c.shorten_some.new.service c.tell_room.new.service c.args.self.now c.shorten_some.new.self c.tell_room.new.self c.in-Ok.told c.wait_limit-limit.result (length c.wait.new.found) size c.in-Ok.ensures.same c.tell_room.ensures.rest c.tell_room.ensures.tools c.tell_room.ensures.told c.tell_room.ensures.leads c.wait_limit-limit.ensures room c.in-Ok.ensures.shorter first past begun was_ready unshortened (c.requires.serves_on past.journey (served_answered _ first _ begun).reached) in
+    let may = may_wait (promises g.N.Sockets g.C.Clocks g.J.Journal (keeping g.K.Keeper) g.H.HookHost) c.args.service.now c.shorten_some.new.service c.tell_room.new.service c.args.self.now c.tend.new.self c.shorten_some.new.self c.tell_room.new.self c.in-Ok-shorten_some.told c.in-Ok.due c.wait_limit-limit.result (length c.wait.new.found) size c.in-Ok-shorten_some.ensures.same c.tell_room.ensures.rest c.tell_room.ensures.tools c.tell_room.ensures.told c.tell_room.ensures.leads c.wait_limit-limit.ensures room c.in-Ok.ensures.tended c.in-Ok-shorten_some.ensures.shorter first past begun was_ready unshortened (c.requires.serves_on past.journey (served_answered _ first _ begun).reached) in
     record {
       last = state_of (running c.tell_room.new.service c.tell_room.new.self) [] may.next;
       served = may.served;
@@ -42,7 +43,7 @@ returns-in-Some-seconds_too_far-clause-wrong g c = λ first past begun was_ready
     let heard = take c.in-Some.count c.wait.new.found in
     let size : length c.args.service.now.places ≡ 64 = search rules in
     let room : 65 ≤ length c.wait.new.found = search (rules, arith, c.requires.room) in
-    let may = may_wait (promises g.N.Sockets g.C.Clocks g.J.Journal (keeping g.K.Keeper) g.H.HookHost) c.args.service.now c.shorten_some.new.service c.tell_room.new.service c.args.self.now c.shorten_some.new.self c.tell_room.new.self c.in-Ok.told c.wait_limit-limit.result (length c.wait.new.found) size c.in-Ok.ensures.same c.tell_room.ensures.rest c.tell_room.ensures.tools c.tell_room.ensures.told c.tell_room.ensures.leads c.wait_limit-limit.ensures room c.in-Ok.ensures.shorter first past begun was_ready unshortened (c.requires.serves_on past.journey (served_answered _ first _ begun).reached) in
+    let may = may_wait (promises g.N.Sockets g.C.Clocks g.J.Journal (keeping g.K.Keeper) g.H.HookHost) c.args.service.now c.shorten_some.new.service c.tell_room.new.service c.args.self.now c.tend.new.self c.shorten_some.new.self c.tell_room.new.self c.in-Ok-shorten_some.told c.in-Ok.due c.wait_limit-limit.result (length c.wait.new.found) size c.in-Ok-shorten_some.ensures.same c.tell_room.ensures.rest c.tell_room.ensures.tools c.tell_room.ensures.told c.tell_room.ensures.leads c.wait_limit-limit.ensures room c.in-Ok.ensures.tended c.in-Ok-shorten_some.ensures.shorter first past begun was_ready unshortened (c.requires.serves_on past.journey (served_answered _ first _ begun).reached) in
     record {
       last = state_of (running c.tell_room.new.service c.tell_room.new.self) [] may.next;
       served = may.served;
@@ -56,7 +57,7 @@ returns-in_default-keep_moment-clause-wrong g c = λ first past begun was_ready 
     let heard = take c.in-Some.count c.wait.new.found in
     let size : length c.args.service.now.places ≡ 64 = search rules in
     let room : 65 ≤ length c.wait.new.found = search (rules, arith, c.requires.room) in
-    let may = may_wait (promises g.N.Sockets g.C.Clocks g.J.Journal (keeping g.K.Keeper) g.H.HookHost) c.args.service.now c.shorten_some.new.service c.tell_room.new.service c.args.self.now c.shorten_some.new.self c.tell_room.new.self c.in-Ok.told c.wait_limit-limit.result (length c.wait.new.found) size c.in-Ok.ensures.same c.tell_room.ensures.rest c.tell_room.ensures.tools c.tell_room.ensures.told c.tell_room.ensures.leads c.wait_limit-limit.ensures room c.in-Ok.ensures.shorter first past begun was_ready unshortened (c.requires.serves_on past.journey (served_answered _ first _ begun).reached) in
+    let may = may_wait (promises g.N.Sockets g.C.Clocks g.J.Journal (keeping g.K.Keeper) g.H.HookHost) c.args.service.now c.shorten_some.new.service c.tell_room.new.service c.args.self.now c.tend.new.self c.shorten_some.new.self c.tell_room.new.self c.in-Ok-shorten_some.told c.in-Ok.due c.wait_limit-limit.result (length c.wait.new.found) size c.in-Ok-shorten_some.ensures.same c.tell_room.ensures.rest c.tell_room.ensures.tools c.tell_room.ensures.told c.tell_room.ensures.leads c.wait_limit-limit.ensures room c.in-Ok.ensures.tended c.in-Ok-shorten_some.ensures.shorter first past begun was_ready unshortened (c.requires.serves_on past.journey (served_answered _ first _ begun).reached) in
     let near : seconds_too_far c.tell_room.new.service.limits.ahead (Some c.in-Some-read.times) c.tell_room.new.service.held ≡ None = search rules in
     record {
       last = state_of (running c.tell_room.new.service c.tell_room.new.self) [] may.next;
@@ -71,7 +72,7 @@ returns-in-Err-keep_all-clause-wrong g c = λ first past begun was_ready unshort
     let heard = take c.in-Some.count c.wait.new.found in
     let size : length c.args.service.now.places ≡ 64 = search rules in
     let room : 65 ≤ length c.wait.new.found = search (rules, arith, c.requires.room) in
-    let may = may_wait (promises g.N.Sockets g.C.Clocks g.J.Journal (keeping g.K.Keeper) g.H.HookHost) c.args.service.now c.shorten_some.new.service c.tell_room.new.service c.args.self.now c.shorten_some.new.self c.tell_room.new.self c.in-Ok.told c.wait_limit-limit.result (length c.wait.new.found) size c.in-Ok.ensures.same c.tell_room.ensures.rest c.tell_room.ensures.tools c.tell_room.ensures.told c.tell_room.ensures.leads c.wait_limit-limit.ensures room c.in-Ok.ensures.shorter first past begun was_ready unshortened (c.requires.serves_on past.journey (served_answered _ first _ begun).reached) in
+    let may = may_wait (promises g.N.Sockets g.C.Clocks g.J.Journal (keeping g.K.Keeper) g.H.HookHost) c.args.service.now c.shorten_some.new.service c.tell_room.new.service c.args.self.now c.tend.new.self c.shorten_some.new.self c.tell_room.new.self c.in-Ok-shorten_some.told c.in-Ok.due c.wait_limit-limit.result (length c.wait.new.found) size c.in-Ok-shorten_some.ensures.same c.tell_room.ensures.rest c.tell_room.ensures.tools c.tell_room.ensures.told c.tell_room.ensures.leads c.wait_limit-limit.ensures room c.in-Ok.ensures.tended c.in-Ok-shorten_some.ensures.shorter first past begun was_ready unshortened (c.requires.serves_on past.journey (served_answered _ first _ begun).reached) in
     let near : seconds_too_far c.tell_room.new.service.limits.ahead (Some c.in-Some-read.times) c.tell_room.new.service.held ≡ None = search rules in
     let stepped = goes may.served (waits c.wait_limit-limit.result (length c.wait.new.found) heard c.wait.new.self c.in-Some-read.times c.read.new.self c.keep_moment.new.self may.may c.in-Some.ensures.done c.in-Some-read.ensures near (record { holds = c.in-Ok-keep_moment.ensures.kept; basis = c.in-Ok-keep_moment.ensures.basis; told = c.in-Ok-keep_moment.ensures.told }) c.in-Ok-keep_moment.ensures.no_further) in
     let since : Past g.row.H.Denot = record may.next { calls = call.Waited c.wait_limit-limit.result (length c.wait.new.found) heard ∷ may.next.calls } in
@@ -85,14 +86,14 @@ returns-in-Err-keep_all-clause-wrong g c = λ first past begun was_ready unshort
       served = more.on.served;
       found = [];
       next = more.on.next;
-      fails = c.in-Err-keep_all.ensures.lost first [] c.read_more.new.service more.on.next refl more.hearing.not_kept more.on.served (served_answered _ first _ more.on.served).reached;
+      fails = c.in-Err-keep_all.ensures.lost first [] more.on.next more.hearing.not_kept more.on.served (served_answered _ first _ more.on.served).reached;
     }
 
 pub returns-clause-goes : goal.returns-clause-goes
 returns-clause-goes g c = λ first past begun was_ready unshortened.
     let size : length c.args.service.now.places ≡ 64 = search rules in
     let room : 65 ≤ length c.wait.new.found = search (rules, arith, c.requires.room) in
-    on_from first past (may_wait (promises g.N.Sockets g.C.Clocks g.J.Journal (keeping g.K.Keeper) g.H.HookHost) c.args.service.now c.shorten_some.new.service c.tell_room.new.service c.args.self.now c.shorten_some.new.self c.tell_room.new.self c.in-Ok.told c.wait_limit-limit.result (length c.wait.new.found) size c.in-Ok.ensures.same c.tell_room.ensures.rest c.tell_room.ensures.tools c.tell_room.ensures.told c.tell_room.ensures.leads c.wait_limit-limit.ensures room c.in-Ok.ensures.shorter first past begun was_ready unshortened (c.requires.serves_on past.journey (served_answered _ first _ begun).reached))
+    on_from first past (may_wait (promises g.N.Sockets g.C.Clocks g.J.Journal (keeping g.K.Keeper) g.H.HookHost) c.args.service.now c.shorten_some.new.service c.tell_room.new.service c.args.self.now c.tend.new.self c.shorten_some.new.self c.tell_room.new.self c.in-Ok-shorten_some.told c.in-Ok.due c.wait_limit-limit.result (length c.wait.new.found) size c.in-Ok-shorten_some.ensures.same c.tell_room.ensures.rest c.tell_room.ensures.tools c.tell_room.ensures.told c.tell_room.ensures.leads c.wait_limit-limit.ensures room c.in-Ok.ensures.tended c.in-Ok-shorten_some.ensures.shorter first past begun was_ready unshortened (c.requires.serves_on past.journey (served_answered _ first _ begun).reached))
   where
     -- from the wait on
     on_from : (first : LoopState g.row.N.Denot g.row.C.Denot g.row.J.Denot g.row.K.Denot g.row.H.Denot) (past : Past g.row.H.Denot) →
@@ -134,7 +135,19 @@ returns-clause-goes g c = λ first past begun was_ready unshortened.
 
 pub returns-in-Err-clause-wrong : goal.returns-in-Err-clause-wrong
 returns-in-Err-clause-wrong g c = λ first past h ready unshortened.
-    record { last = state_of (running c.args.service.now c.args.self.now) [] past; served = h; found = []; next = past; fails = c.in-Err.ensures.failed first [] past unshortened h (served_answered _ first _ h).reached }
+    record { last = state_of (running c.args.service.now c.args.self.now) [] past; served = h; found = []; next = past; fails = c.in-Err.ensures.lost [] c.args.service.now past }
+
+pub returns-in-Err-shorten_some-clause-wrong : goal.returns-in-Err-shorten_some-clause-wrong
+returns-in-Err-shorten_some-clause-wrong g c = λ first past h ready unshortened.
+    let since : Past g.row.H.Denot = record past { calls = call.Tended c.in-Ok.due ∷ past.calls } in
+    let tended = c.in-Ok.ensures.tended first [] c.args.service.now past refl h in
+    record {
+      last = state_of (running c.args.service.now c.tend.new.self) [] since;
+      served = tended;
+      found = [];
+      next = since;
+      fails = c.in-Err-shorten_some.ensures.failed first [] since (not_without Shortening past.calls unshortened) tended (served_answered _ first _ tended).reached;
+    }
 
 pub hear_out-requires : goal.hear_out-requires
 hear_out-requires g c = record { behind = c.give_way-2.ensures.brief }

@@ -2,7 +2,7 @@ use Rattle.std.proofs.Common.{subst, ◌≡◌, true, false, length, refl, ap, s
 use Rattle.event_loop.proofs.Names.{IsOver, connection_at, Free, Service, goes, closes, NobodyIsSilent}
 use Rattle.event_loop.specs.Closing as closing
 use Rattle.event_loop.proofs.Doing.{closes_done, closes_some, closes_alone}
-use Rattle.event_loop.proofs.Leading.{closes_other, closes_kept, closes_told}
+use Rattle.event_loop.proofs.Leading.{closes_other, closes_kept, closes_told, closes_confirmed}
 use Rattle.telling.specs.Audience.{IsAllTold}
 use Rattle.event_loop.proofs.Putting.{put_within, set_other}
 use Rattle.event_loop.proofs.Resting.{put_others, put_settled, free_rests, stays_tidy, not_due, not_rested, told_as}
@@ -29,7 +29,11 @@ returns-in-Close-clause-tidies g c = λ first found past h reached.
             put_others k c.args.service.now c.leave.new.service (record place { stage = Free }) past.journey.world away.next.journey.world places
             (λ j other. ap (λ l. slice_get l j) due ∙ set_other c.args.service.now.due k j false other) (closes_other _ k place _ _ away.closes);
         alone = λ other differs not. closes_alone _ k place _ _ away.closes other not;
-        ready = λ was. (closes_kept _ k place _ _ away.closes was.0, subst IsAllTold (sym (closes_told _ k place _ _ away.closes)) was.1);
+        ready = λ was. record {
+          kept = closes_kept _ k place _ _ away.closes was.kept;
+          told = subst IsAllTold (sym (closes_told _ k place _ _ away.closes)) was.told;
+          confirmed = closes_confirmed _ k place _ _ away.closes was.confirmed;
+        };
       };
       rested = settled.rested;
       turned = λ unread unwritten. settled.turned;
