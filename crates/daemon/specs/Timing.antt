@@ -13,6 +13,8 @@ timed disk = record {
   reads_true = λ t. disk.reads_true t.device;
   next = λ t. disk.next t.device;
   next_on_disk = λ t. disk.next_on_disk t.device;
+  is_sole = λ t since. disk.is_sole t.device since;
+  tends = λ old now due new. disk.tends old.device now due new.device;
   tells_place = λ t is. disk.tells_place t.device is;
   tells_full = λ t size reason. disk.tells_full t.device size reason;
 }

@@ -3,11 +3,11 @@
 ghost use Rattle.std.specs.Prelude.{◌≡◌};
 
 use crate::timing::nanos_now;
-use batch_file::device::{Device, DeviceFault, ReplaceFault};
-use batch_file::system::SystemFault;
+use batch_file::device::{Beginning, Device, DeviceFault, ReplaceFault};
 use line_journal::Measures;
 use std::alloc::Global;
 use std::rt::Clock;
+use system_faults::SystemFault;
 
 /// A device of whose syncs it is measured how long they take, by a clock that never goes back.
 #[derive(Drop)]
@@ -64,6 +64,10 @@ impl<'r, R: Clock, D: Device> Device for TimedDisk<'r, R, D> {
 
     ghost only_true = { λ timed left now. D.only_true timed.device left now };
 
+    ghost is_sole = { λ timed t. D.is_sole timed.device t };
+
+    ghost tends = { λ old now due new. D.tends old.device now due new.device };
+
     ghost tells_place = { λ timed is. D.tells_place timed.device is };
 
     ghost tells_full = { λ timed size reason. D.tells_full timed.device size reason };
@@ -85,6 +89,18 @@ impl<'r, R: Clock, D: Device> Device for TimedDisk<'r, R, D> {
         let answer = self.device.sync();
         self.note(began);
         answer
+    }
+
+    fn begin(&mut self, end: usize, bytes: &[u8]) -> Result<Beginning, ReplaceFault> {
+        self.device.begin(end, bytes)
+    }
+
+    fn confirm(&mut self) -> Result<(), DeviceFault> {
+        self.device.confirm()
+    }
+
+    fn tend(&mut self, now: u64) -> Result<Option<u64>, DeviceFault> {
+        self.device.tend(now)
     }
 
     fn replace(&mut self, bytes: &[u8]) -> Result<(), ReplaceFault> {

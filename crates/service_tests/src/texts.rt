@@ -3,7 +3,6 @@
 use assembler::AsmFault;
 use authentication::AuthFault;
 use batch_file::appending::BatchFault;
-use batch_file::system::SystemFault;
 use commands::CommandFault;
 use daemon::SocketFault;
 use endpoints::RedoFault;
@@ -16,6 +15,7 @@ use state_file::StateFault;
 use std::fmt::Display;
 use std::process::Abort;
 use std::test::Fail;
+use system_faults::SystemFault;
 use wire::Fault;
 
 const REFUSED: VerifyFault = VerifyFault::Memory;

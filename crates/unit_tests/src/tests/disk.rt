@@ -248,6 +248,7 @@ enum Call {
     AppendMore,
     AppendWithin(u64),
     AppendBroken,
+    AppendAsked,
     Read,
     Replace,
     PutNext,
@@ -308,6 +309,19 @@ fn append_within<D: Device>(
     told(alloc, file.append(alloc, b"abc"))
 }
 
+/// Asks whether nobody else writes, and keeps the place of whoever does: for a file no call is made. Then it adds a batch.
+fn append_asked<D: Device>(alloc: Global, file: &mut BatchFile<D>) -> Result<String, AllocError>
+    requires { IsOnDisk D.seen D.may_leave D.faults file.old }
+{
+    let Ok(()) = file.confirm() else {
+        return String::from_str(alloc, "not confirmed");
+    };
+    let Ok(None) = file.tend(1) else {
+        return String::from_str(alloc, "not tended");
+    };
+    told(alloc, file.append(alloc, b"abc"))
+}
+
 /// Opens a file. For another call it then reads it to its end, puts one in its place, of a batch where that is to be read, else of
 /// none, and does that, over a disk that refuses a sync or a read once so many have succeeded. It gives how the call ended.
 fn ended(machine: Machine<'_>, call: Call, successes: usize) -> Result<String, Fail> {
@@ -345,6 +359,7 @@ fn ended(machine: Machine<'_>, call: Call, successes: usize) -> Result<String, F
         }
         Call::AppendWithin(most) => append_within(alloc, &mut file, calls, most, true)?,
         Call::AppendBroken => append_within(alloc, &mut file, calls, 0, false)?,
+        Call::AppendAsked => append_asked(alloc, &mut file)?,
         Call::Read => told_bytes(alloc, file.read_batch(alloc, 16))?,
         Call::Replace => told(alloc, file.replace(Frames::new(alloc)?))?,
         Call::PutNext => told(alloc, put_next(&mut file.device))?,
@@ -460,7 +475,7 @@ const UNMADE: &str = "remove other\nMake(InputOutput)";
 #[test]
 fn what_is_acknowledged_is_on_the_disk(rt: HostRuntime) -> Result<(), Fail> {
     let alloc = rt.alloc();
-    let cases: [(Call, usize, &[&str], &str); 32] = [
+    let cases: [(Call, usize, &[&str], &str); 33] = [
         (Call::Open, 9, &OPENED, "done"),
         (Call::Append, 9, &APPENDED, "done"),
         (Call::Append, 0, &APPENDED[..3], FAILED),
@@ -474,6 +489,7 @@ fn what_is_acknowledged_is_on_the_disk(rt: HostRuntime) -> Result<(), Fail> {
         (Call::AppendWithin(56), 9, &JUST_ROOM, "done"),
         (Call::AppendWithin(56), 2, &JUST_ROOM[..6], FAILED),
         (Call::AppendBroken, 9, &NO_ROOM[..1], FAILED),
+        (Call::AppendAsked, 9, &APPENDED, "done"),
         (Call::Read, 9, &READ, "616263"),
         (Call::Read, 0, &READ[..1], FAILED),
         (Call::Read, 1, &READ, FAILED),

@@ -19,6 +19,7 @@ const ASKS: &str =
 /// It keeps nine batches, and has nothing to shorten.
 const PATIENT: Ways = Ways {
     most: 9,
+    confirms: 999,
     slices: 0,
     is_refusing: false,
     pressed_until: 0,
@@ -104,6 +105,8 @@ impl Sockets for OneClient<'_> {
 struct Patient<'t> {
     alloc: Global,
     most: usize,
+    /// How often it confirms still that nobody else has begun.
+    confirms: usize,
     kept: &'t Cell<usize>,
     /// How many changes each batch had.
     changes: Vec<usize>,
@@ -148,6 +151,10 @@ impl Keeper for Patient<'_> {
 
     ghost wants_room = { λ keeper. keeper.is_pressed };
 
+    ghost is_sole = { λ _ _. ⊤ };
+
+    ghost tends = { λ _ _ due _. due ≡ None };
+
     fn keep_moment(&mut self, _now: Moment) -> Result<(), KeepFault> {
         if self.has_failed {
             return Err(KeepFault::Failed);
@@ -171,6 +178,25 @@ impl Keeper for Patient<'_> {
         self.is_pressed = self.changes.len() < self.pressed_until;
         self.has_failed = false;
         Ok(())
+    }
+
+    fn confirm(&mut self) -> Result<(), KeepFault> {
+        if self.has_failed {
+            return Err(KeepFault::Failed);
+        }
+        if self.confirms == 0 {
+            self.has_failed = true;
+            return Err(KeepFault::Failed);
+        }
+        self.confirms -= 1;
+        Ok(())
+    }
+
+    fn tend(&mut self, _now: u64) -> Result<Option<u64>, KeepFault> {
+        if self.has_failed {
+            return Err(KeepFault::Failed);
+        }
+        Ok(None)
     }
 
     #[tactic(auto, using(std::proofs::lemmas::Nat::le_or_l))]
@@ -203,11 +229,12 @@ impl Keeper for Patient<'_> {
     ghost only_now = { λ keeper c left. left };
 }
 
-/// How many batches can be kept, how many slices are to be gone over, whether that is refused, and before how many batches the disk
+/// How many batches can be kept, how often it confirms that nobody else has begun, how many slices are to be gone over, whether that is refused, and before how many batches the disk
 /// refuses room.
 #[derive(Clone, Copy)]
 struct Ways {
     most: usize,
+    confirms: usize,
     slices: usize,
     is_refusing: bool,
     pressed_until: usize,
@@ -244,6 +271,7 @@ fn outcome_of(alloc: Global, requests: &[&str], ways: Ways) -> Result<Outcome, C
         keeper: Patient {
             alloc,
             most: ways.most,
+            confirms: ways.confirms,
             kept: &kept,
             changes: Vec::new(alloc),
             moments: 0,
@@ -285,6 +313,26 @@ fn what_changes_is_kept_before_the_reply(rt: HostRuntime) -> Result<(), Fail> {
         assert_eq!(rt; outcome.changes.as_slice(), changes, "most {most}");
         assert_eq!(rt; outcome.asked, asked, "most {most}");
         assert_eq!(rt; outcome.moments, moments, "most {most}");
+    }
+    Ok(())
+}
+
+#[test]
+fn nobody_else_has_begun_before_a_reply(rt: HostRuntime) -> Result<(), Fail> {
+    // In each round with a request that changes nothing it is asked once, before the reply.
+    let rows: [(usize, LoopFault, &[usize]); 3] = [
+        (2, LoopFault::Wait, &[0, 0]),
+        (1, LoopFault::Keep, &[0]),
+        (0, LoopFault::Keep, &[]),
+    ];
+    for (confirms, fault, writes) in rows {
+        let ways = Ways {
+            confirms,
+            ..PATIENT
+        };
+        let outcome = outcome_of(rt.alloc(), &[STRAYS, STRAYS], ways)?;
+        assert_eq!(rt; outcome.fault, fault, "confirms {confirms}");
+        assert_eq!(rt; outcome.writes.as_slice(), writes, "confirms {confirms}");
     }
     Ok(())
 }
