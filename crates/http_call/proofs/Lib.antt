@@ -1,0 +1,4 @@
+mod Stepped
+mod Came
+mod Spelled
+mod Exchanged
