@@ -1,0 +1,11 @@
+mod Answered
+mod Each
+mod Exchanged
+mod Connected
+mod Numbers
+mod Effected
+mod Found
+mod Ordered
+mod Spelled
+mod Listed
+mod Tried

@@ -1,0 +1,10 @@
+pub mod Keys
+pub mod Effects
+pub mod Asked
+pub mod Told
+pub mod Exchanges
+pub mod Noted
+pub mod Heard
+pub mod Connections
+pub mod Tries
+pub mod Sendings

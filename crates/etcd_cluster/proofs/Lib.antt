@@ -1,0 +1,9 @@
+pub mod Known
+pub mod Made
+mod Moved
+mod Waited
+mod Told
+mod Settled
+pub mod Looked
+mod Again
+pub mod True

@@ -1,0 +1,194 @@
+use Rattle.std.proofs.Common.{◌<◌, ◌≡◌, inl, ◌∙◌, ◌≤◌, refl, ap, arith}
+use Rattle.std.specs.Prelude.{Err, Ok}
+use Rattle.etcd_cluster.specs.Calls.{AskedHead}
+use Rattle.etcd_cluster.specs.Moves.{Moves, rests}
+use Rattle.etcd_cluster.specs.Sides.{IsHeadTold, IsSilent, side_of}
+use Rattle.etcd_cluster.specs.Stands.{Stand}
+use Rattle.etcd_cluster.specs.Worlds.{IsStanding, World, stand_told}
+use Rattle.etcd_cluster.specs.declared.change.CallFault.TheVariants.{Refused, Unclear}
+use Rattle.etcd_cluster.proofs.Again.{last_asked, none_asked, one_more, refused_not, told_not}
+use Rattle.etcd_cluster.proofs.Waited.{head_silent, head_told, meanwhile_on, told_come}
+use Rattle.etcd_cluster.proofs.settling.ask_head.Goals as goal
+
+pub asks-init : goal.asks-init
+asks-init g c = record {
+  moved = λ w may. (w, may, rests);
+  meanwhile = record { nothing_else = λ t w le was. inl was; keeps = λ t w le was. was };
+  sent = λ one is. is;
+  asked = none_asked c.args.more (AskedHead (Err Unclear)) (g.C.Cluster.calls c.args.cluster.now);
+  stand = refl;
+  server = refl;
+  moment = omega arith;
+}
+
+-- nothing was told once more
+pub asks-preserved : goal.asks-preserved
+asks-preserved g c =
+    let D = g.C.Cluster in
+    let old = c.args.cluster.now in
+    let at = c.asks.cluster in
+    let new = c.head.new.self in
+    let was = c.asks.invariant in
+    let follows = c.in-Err-Unclear.ensures.follows in
+    let moved : IsSilent D old new =
+    head_silent (D.server old) (D.moment old) (D.sent old) (D.may_be old) (D.may_be at) (D.may_be new) was.moved
+    (side_of D at) was.server was.moment was.sent (Err Unclear) follows in
+    let stand = c.in-Err-Unclear.ensures.stand in
+    let server : D.server new ≡ D.server old = c.head.ensures.server ∙ was.server in
+    let before = was.moment in
+    let later = c.head.ensures.moment in
+    let moment : D.moment old ≤ D.moment new = omega (arith, before, later) in
+    let called = rw c.in-Err-Unclear.field-0-is at c.in-Err-Unclear.ensures.called in
+    let some : 0 < c.asks.left = omega arith in
+    let asked = one_more c.args.more c.asks.left (AskedHead (Err Unclear)) (D.calls old) (D.calls at) (D.calls new) was.asked some called in
+    record {
+      moved = rw c.pause.ensures moved;
+      asked = rw c.pause.ensures asked;
+      meanwhile = rw c.pause.ensures (meanwhile_on (D.moment old) (D.moment at) (D.may_be old) (D.been_since old) (D.been_since at) (D.been_since new) (D.may_be new)
+          (Moves (D.server old) (D.moment old) (D.sent old)) was.moment was.meanwhile c.head.ensures.time moved);
+      sent = rw c.pause.ensures (λ one it. was.sent one (c.head.ensures.sent one it));
+      stand = rw c.pause.ensures (stand ∙ was.stand);
+      server = rw c.pause.ensures server;
+      moment = rw c.pause.ensures moment;
+    }
+
+-- too often
+pub returns-then-left-eq0-clause-silent : goal.returns-then-left-eq0-clause-silent
+returns-then-left-eq0-clause-silent g c =
+    let D = g.C.Cluster in
+    let old = c.args.cluster.now in
+    let at = c.asks.cluster in
+    let new = c.head.new.self in
+    let was = c.asks.invariant in
+    let follows = c.in-Err-Unclear.ensures.follows in
+    let moved : IsSilent D old new =
+    head_silent (D.server old) (D.moment old) (D.sent old) (D.may_be old) (D.may_be at) (D.may_be new) was.moved
+    (side_of D at) was.server was.moment was.sent (Err Unclear) follows in
+    moved
+
+pub returns-then-left-eq0-clause-meanwhile : goal.returns-then-left-eq0-clause-meanwhile
+returns-then-left-eq0-clause-meanwhile g c =
+    let D = g.C.Cluster in
+    let old = c.args.cluster.now in
+    let at = c.asks.cluster in
+    let new = c.head.new.self in
+    let was = c.asks.invariant in
+    let follows = c.in-Err-Unclear.ensures.follows in
+    let moved : IsSilent D old new =
+    head_silent (D.server old) (D.moment old) (D.sent old) (D.may_be old) (D.may_be at) (D.may_be new) was.moved
+    (side_of D at) was.server was.moment was.sent (Err Unclear) follows in
+    meanwhile_on (D.moment old) (D.moment at) (D.may_be old) (D.been_since old) (D.been_since at) (D.been_since new) (D.may_be new)
+    (Moves (D.server old) (D.moment old) (D.sent old)) was.moment was.meanwhile c.head.ensures.time moved
+
+pub returns-then-left-eq0-clause-sent : goal.returns-then-left-eq0-clause-sent
+returns-then-left-eq0-clause-sent g c = λ one is. c.asks.invariant.sent one (c.head.ensures.sent one is)
+
+pub returns-then-left-eq0-clause-stand : goal.returns-then-left-eq0-clause-stand
+returns-then-left-eq0-clause-stand g c =
+    let stand = c.in-Err-Unclear.ensures.stand in
+    stand ∙ c.asks.invariant.stand
+
+pub returns-then-left-eq0-clause-asked : goal.returns-then-left-eq0-clause-asked
+returns-then-left-eq0-clause-asked g c =
+    let D = g.C.Cluster in
+    let old = c.args.cluster.now in
+    let at = c.asks.cluster in
+    let new = c.head.new.self in
+    let called = rw c.in-Err-Unclear.field-0-is at c.in-Err-Unclear.ensures.called in
+    let none : c.asks.left ≡ 0 = omega arith in
+    last_asked c.args.more c.asks.left (AskedHead) (Err Unclear) (D.calls old) (D.calls at) (D.calls new) c.asks.invariant.asked (λ is. none) called
+
+-- SOMETHING WAS TOLD
+
+pub returns-in-Ok-clause-told : goal.returns-in-Ok-clause-told
+returns-in-Ok-clause-told g c =
+    let D = g.C.Cluster in
+    let old = c.args.cluster.now in
+    let at = c.asks.cluster in
+    let new = c.head.new.self in
+    let was = c.asks.invariant in
+    let follows = c.in-Ok.ensures.follows in
+    let told : IsHeadTold D old new c.in-Ok.found =
+    head_told (D.server old) (D.moment old) (D.sent old) (D.may_be old) (D.may_be at) (D.may_be new) was.moved
+    (side_of D at) was.server was.moment was.sent (Ok c.in-Ok.found) follows in
+    told
+
+pub returns-in-Ok-clause-meanwhile : goal.returns-in-Ok-clause-meanwhile
+returns-in-Ok-clause-meanwhile g c =
+    let D = g.C.Cluster in
+    let old = c.args.cluster.now in
+    let at = c.asks.cluster in
+    let new = c.head.new.self in
+    let was = c.asks.invariant in
+    let follows = c.in-Ok.ensures.follows in
+    let moved : IsSilent D old new =
+    λ w may. told_come (D.server old) (D.moment old) (D.sent old) (D.may_be old) (λ (x : World). IsStanding x.stand c.in-Ok.found) w
+    (head_told (D.server old) (D.moment old) (D.sent old) (D.may_be old) (D.may_be at) (D.may_be new) was.moved
+    (side_of D at) was.server was.moment was.sent (Ok c.in-Ok.found) follows w may) in
+    meanwhile_on (D.moment old) (D.moment at) (D.may_be old) (D.been_since old) (D.been_since at) (D.been_since new) (D.may_be new)
+    (Moves (D.server old) (D.moment old) (D.sent old)) was.moment was.meanwhile c.head.ensures.time moved
+
+pub returns-in-Ok-clause-sent : goal.returns-in-Ok-clause-sent
+returns-in-Ok-clause-sent g c = λ one is. c.asks.invariant.sent one (c.head.ensures.sent one is)
+
+pub returns-in-Ok-clause-stand : goal.returns-in-Ok-clause-stand
+returns-in-Ok-clause-stand g c =
+    let D = g.C.Cluster in
+    let stand : D.stand c.head.new.self ≡ stand_told (Ok c.in-Ok.found) (D.stand c.asks.cluster) = c.in-Ok.ensures.stand in
+    stand ∙ ap (λ (s : Stand). stand_told (Ok c.in-Ok.found) s) c.asks.invariant.stand
+
+pub returns-in-Ok-clause-asked : goal.returns-in-Ok-clause-asked
+returns-in-Ok-clause-asked g c =
+    let D = g.C.Cluster in
+    let old = c.args.cluster.now in
+    let at = c.asks.cluster in
+    let new = c.head.new.self in
+    let called = c.in-Ok.ensures.called in
+    last_asked c.args.more c.asks.left (AskedHead) (Ok c.in-Ok.found) (D.calls old) (D.calls at) (D.calls new) c.asks.invariant.asked (λ is. told_not is) called
+
+-- IT WAS REFUSED
+
+pub returns-in-Err-Refused-clause-silent : goal.returns-in-Err-Refused-clause-silent
+returns-in-Err-Refused-clause-silent g c =
+    let D = g.C.Cluster in
+    let old = c.args.cluster.now in
+    let at = c.asks.cluster in
+    let new = c.head.new.self in
+    let was = c.asks.invariant in
+    let follows = c.in-Err-Refused.ensures.follows in
+    let moved : IsSilent D old new =
+    head_silent (D.server old) (D.moment old) (D.sent old) (D.may_be old) (D.may_be at) (D.may_be new) was.moved
+    (side_of D at) was.server was.moment was.sent (Err Refused) follows in
+    moved
+
+pub returns-in-Err-Refused-clause-meanwhile : goal.returns-in-Err-Refused-clause-meanwhile
+returns-in-Err-Refused-clause-meanwhile g c =
+    let D = g.C.Cluster in
+    let old = c.args.cluster.now in
+    let at = c.asks.cluster in
+    let new = c.head.new.self in
+    let was = c.asks.invariant in
+    let follows = c.in-Err-Refused.ensures.follows in
+    let moved : IsSilent D old new =
+    head_silent (D.server old) (D.moment old) (D.sent old) (D.may_be old) (D.may_be at) (D.may_be new) was.moved
+    (side_of D at) was.server was.moment was.sent (Err Refused) follows in
+    meanwhile_on (D.moment old) (D.moment at) (D.may_be old) (D.been_since old) (D.been_since at) (D.been_since new) (D.may_be new)
+    (Moves (D.server old) (D.moment old) (D.sent old)) was.moment was.meanwhile c.head.ensures.time moved
+
+pub returns-in-Err-Refused-clause-sent : goal.returns-in-Err-Refused-clause-sent
+returns-in-Err-Refused-clause-sent g c = λ one is. c.asks.invariant.sent one (c.head.ensures.sent one is)
+
+pub returns-in-Err-Refused-clause-stand : goal.returns-in-Err-Refused-clause-stand
+returns-in-Err-Refused-clause-stand g c =
+    let D = g.C.Cluster in
+    let stand : D.stand c.head.new.self ≡ D.stand c.asks.cluster = c.in-Err-Refused.ensures.stand in
+    stand ∙ c.asks.invariant.stand
+
+pub returns-in-Err-Refused-clause-asked : goal.returns-in-Err-Refused-clause-asked
+returns-in-Err-Refused-clause-asked g c =
+    let D = g.C.Cluster in
+    let old = c.args.cluster.now in
+    let at = c.asks.cluster in
+    let new = c.head.new.self in
+    let called = rw c.in-Err-Refused.field-0-is at c.in-Err-Refused.ensures.called in
+    last_asked c.args.more c.asks.left (AskedHead) (Err Refused) (D.calls old) (D.calls at) (D.calls new) c.asks.invariant.asked (λ is. refused_not is) called
