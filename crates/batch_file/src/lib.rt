@@ -8,6 +8,7 @@
 
 pub mod appending;
 pub mod device;
+pub mod device_source;
 pub mod frames;
 pub mod framing;
 pub mod laws;

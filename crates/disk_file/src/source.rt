@@ -6,6 +6,7 @@ ghost use Rattle.disk_file.specs.Calls.{content, failures, only_opened};
 use crate::before::{Before, Unknown};
 use crate::file::{DiskFile, SystemFile, opened};
 use batch_file::device::{Device, DeviceFault};
+use batch_file::device_source::DeviceSource;
 use batch_file::source::ByteSource;
 use std::alloc::Global;
 use std::fs::File;
@@ -40,19 +41,9 @@ impl<'r, F: SystemFile, R: Files<File = F> + AllocGlobal, B: Before> DiskSource<
         }
     }
 
-    /// A file that was a device, to be read anew from its beginning, as one that was opened now.
-    pub fn again(device: DiskFile<'r, R, F, B>) -> DiskSource<'r, R, F, B>
-        ensures { ⟦<DiskSource<'r, R, F, B> as ByteSource>⟧.told result ≡ [] }
-    {
-        DiskSource::new(device.as_opened())
-    }
-
-    /// The file as a device: what it has is what was read, where it was read to its end. What a crash may leave of it is what may
-    /// have stood on the disk before.
-    pub fn into_device(self) -> DiskFile<'r, R, F, B>
-        ensures opened { (bytes : List ℕ) × (result.log.calls ≡ only_opened bytes)
-            × (⟦<DiskSource<'r, R, F, B> as ByteSource>⟧.is_over self.entry → bytes ≡ ⟦<DiskSource<'r, R, F, B> as ByteSource>⟧.told self.entry) }
-        ensures faultless { failures result.log.calls ≡ 0 }
+    /// What a crash may leave of the file is what may have stood on the disk before.
+    pub fn into_file(self) -> DiskFile<'r, R, F, B>
+        ensures opened { result.log.calls ≡ only_opened (content self.entry.device.log.calls) }
         ensures before { (c : List ℕ) → ⟦<DiskFile<'r, R, F, B> as Device>⟧.may_leave result c ↔ B.left c }
     {
         self.device
@@ -87,6 +78,21 @@ impl<'r, F: SystemFile, R: Files<File = F> + AllocGlobal, B: Before> ByteSource
     }
 
     ghost told_whole = { λ source all has over. absurd has };
+}
+
+impl<'r, F: SystemFile, R: Files<File = F> + AllocGlobal, B: Before> DeviceSource
+    for DiskSource<'r, R, F, B> {
+    type File = DiskFile<'r, R, F, B>;
+
+    ghost is_opened = { λ device bytes. device.log.calls ≡ only_opened bytes };
+
+    fn into_device(self) -> DiskFile<'r, R, F, B> {
+        self.device
+    }
+
+    fn again(device: DiskFile<'r, R, F, B>) -> DiskSource<'r, R, F, B> {
+        DiskSource::new(device.as_opened())
+    }
 }
 
 /// Reads what the system gives at once: nothing at the end of the file.
