@@ -8,7 +8,7 @@ use Rattle.etcd_cluster.specs.Stands.{ChangeFact, Clears, Forgets, Lays, Pieces,
 use Rattle.etcd_json.specs.Requests.{OperationFact}
 use Rattle.etcd_client.specs.Asked.{change_operations, end_key, write_operations}
 use Rattle.etcd_client.specs.Effects.{AreWritesOfWords, Held, Holds, HoldsPieces, IsWriteOfWords, effect, effects, is_below, with_put, without}
-use Rattle.etcd_client.specs.Keys.{before_key, behind_key, digits, first_key, head_bytes, head_key, last_key, piece_key}
+use Rattle.etcd_keys.specs.Keys.{before_key, behind_key, digits, first_key, head_bytes, head_key, last_key, piece_key}
 use Rattle.etcd_client.proofs.Ordered.{ahead_above, ahead_below, behind_front, digits_ahead, less, not_below_nothing, not_less, not_same, not_same_up, places_below, three}
 use Rattle.etcd_client.proofs.Spelled.{pieces_apart}
 

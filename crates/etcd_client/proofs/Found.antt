@@ -1,15 +1,16 @@
 -- What is read stands there.
-use Rattle.std.proofs.Common.{◌≡◌, ◌≢◌, ◌<◌, ◌^◌, ◌==◌, ◌∙◌, ◌⊎◌, inl, inr, ℕ, List, [], ◌∷◌, true, false, refl, sym, ap, subst}
+use Rattle.std.proofs.Common.{◌≡◌, ◌≢◌, ◌<◌, ◌^◌, ◌==◌, ◌∙◌, ◌⊎◌, inl, inr, ℕ, List, [], ◌∷◌, Bool, true, false, refl, sym, ap, subst}
 use Rattle.std.proofs.lemmas.Bool.Decides.{eqb_tells}
-use Rattle.std.specs.Prelude.{Option, None, Some, option_and_then, option_map}
+use Rattle.std.proofs.lemmas.Slice.Eq.{bytes_eq-Decides}
+use Rattle.std.specs.Prelude.{bytes_eq, if◌then◌else◌, Option, None, Some, option_and_then, option_map}
 use Rattle.etcd_cluster.specs.Stands.{PieceFact, Stand}
 use Rattle.etcd_cluster.specs.Worlds.{AreThere}
 use Rattle.etcd_cluster.specs.declared.change.Head.{Head}
 use Rattle.etcd_cluster.specs.declared.change.Standing.{Standing}
 use Rattle.etcd_json.specs.Replies.{EntryFact}
-use Rattle.etcd_client.specs.Effects.{AreHeld, AreOfKey, ArePlaces, Held, Holds, HoldsPieces}
-use Rattle.etcd_client.specs.Keys.{IsOfWords, before_key, head_bytes, head_key, head_told, piece_key, place_told}
-use Rattle.etcd_client.specs.Told.{each, piece_by, piece_told, pieces_in, standing_by, standing_of}
+use Rattle.etcd_client.specs.Effects.{AreHeld, ArePlaces, Held, Holds, HoldsPieces}
+use Rattle.etcd_keys.specs.Keys.{IsOfWords, before_key, head_bytes, head_key, head_told, piece_key, place_told}
+use Rattle.etcd_client.specs.Told.{each, head_in, piece_by, piece_told, pieces_in, standing_by, standing_of}
 use Rattle.etcd_client.proofs.Spelled.{head_again, head_of_another, place_is}
 
 -- the first of what was read, and the others
@@ -73,6 +74,11 @@ stood version (Some head) standing is =
     let same : standing_by version head ≡ standing = cc in
     record { head = head; told_is = refl; is = ap (λ (s : Standing). s.head) (sym same) }
 
+-- one that is told where a test holds
+where_so : (b : Bool) (told : Option Head) (head : Head) → (if b then told else None) ≡ Some head → (b ≡ true) × (told ≡ Some head)
+where_so true told head is = (refl, is)
+where_so false told head is = absurd cc
+
 same_head : (known cluster : ℕ) (head told : Head) → cluster < 2 ^ 64 → IsOfWords head → head_told known (head_bytes cluster head) ≡ Some told
     → ((cluster == known) ≡ true) × (cluster ≡ known) ⊎ ((cluster == known) ≡ false) × (cluster ≢ known) → (known ≡ cluster) × (told ≡ head)
 same_head known cluster head told fits words is (inl same) =
@@ -84,13 +90,15 @@ same_head known cluster head told fits words is (inr differs) =
     absurd cc
 
 pub head_there : (prefix : List ℕ) (known cluster : ℕ) (entries : List EntryFact) (held : Held) (stand : Stand) (standing : Standing) → cluster < 2 ^ 64 → IsOfWords stand.head
-    → AreHeld held entries → AreOfKey (head_key prefix) entries → Holds prefix cluster held stand → standing_of known entries ≡ Some (Some standing)
+    → AreHeld held entries → Holds prefix cluster held stand → standing_of prefix known entries ≡ Some (Some standing)
     → (known ≡ cluster) × (standing.head ≡ stand.head)
-head_there prefix known cluster [] held stand standing fits words are keys holds told = absurd cc
-head_there prefix known cluster (entry ∷ []) held stand standing fits words are keys holds told =
-    let found = stood entry.written (head_told known entry.value) standing told in
-    let value : Some entry.value ≡ Some (head_bytes cluster stand.head) = sym are.0 ∙ ap held keys.0 ∙ holds.head in
+head_there prefix known cluster [] held stand standing fits words are holds told = absurd cc
+head_there prefix known cluster (entry ∷ []) held stand standing fits words are holds told =
+    let found = stood entry.written (head_in prefix known entry) standing told in
+    let both_are = where_so (bytes_eq entry.key (head_key prefix)) (head_told known entry.value) found.head found.told_is in
+    let key : entry.key ≡ head_key prefix = (bytes_eq-Decides entry.key (head_key prefix)).0 both_are.0 in
+    let value : Some entry.value ≡ Some (head_bytes cluster stand.head) = sym are.0 ∙ ap held key ∙ holds.head in
     let bytes : entry.value ≡ head_bytes cluster stand.head = cc in
-    let both = same_head known cluster stand.head found.head fits words (ap (λ (v : List ℕ). head_told known v) (sym bytes) ∙ found.told_is) (eqb_tells cluster known) in
+    let both = same_head known cluster stand.head found.head fits words (ap (λ (v : List ℕ). head_told known v) (sym bytes) ∙ both_are.1) (eqb_tells cluster known) in
     (both.0, found.is ∙ both.1)
-head_there prefix known cluster (entry ∷ (other ∷ more)) held stand standing fits words are keys holds told = absurd cc
+head_there prefix known cluster (entry ∷ (other ∷ more)) held stand standing fits words are holds told = absurd cc

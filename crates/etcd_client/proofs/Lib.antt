@@ -2,7 +2,6 @@ mod Answered
 mod Each
 mod Exchanged
 mod Connected
-mod Numbers
 mod Effected
 mod Found
 mod Ordered

@@ -6,7 +6,7 @@ use Rattle.std.proofs.lemmas.Nat.{from_be_bytes-to_be_bytes_8}
 use Rattle.std.specs.Int.{from_be_bytes, to_be_bytes, w64}
 use Rattle.hex.specs.Hex.{encode_with, lower_digits}
 use Rattle.etcd_client.specs.Effects.{is_below}
-use Rattle.etcd_client.specs.Keys.{digits}
+use Rattle.etcd_keys.specs.Keys.{digits}
 
 -- at the first place at which they differ, the one has the lesser byte
 pub data Ahead : List ℕ → List ℕ → Type 0 where

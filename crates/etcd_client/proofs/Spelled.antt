@@ -13,7 +13,7 @@ use Rattle.hex.proofs.HexLemmas.{decode_sized-encode_lower, length-encode_with}
 use Rattle.hex.specs.Hex.{IsBytes, lower_digits}
 use Rattle.hex.specs.declared.error.FromHexError.{FromHexError}
 use Rattle.etcd_cluster.specs.declared.change.Head.{Head}
-use Rattle.etcd_client.specs.Keys.{IsOfWords, before_key, digits, first_key, head_at, head_bytes, head_told, number_of, number_told, piece_key, place_told, where_spelled, worth}
+use Rattle.etcd_keys.specs.Keys.{IsOfWords, before_key, digits, first_key, head_at, head_bytes, head_told, number_of, number_told, piece_key, place_told, where_spelled, worth}
 
 -- NUMBERS
 

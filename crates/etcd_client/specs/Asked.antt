@@ -5,7 +5,7 @@ use Rattle.etcd_json.specs.declared.request.Target.{Target}
 use Rattle.etcd_json.specs.declared.request.Target.TheVariants.{Created, Written}
 use Rattle.etcd_cluster.specs.Stands.{ChangeFact, Clears, Forgets, Lays, WriteFact}
 use Rattle.etcd_cluster.specs.declared.change.Wanted.{Wanted}
-use Rattle.etcd_client.specs.Keys.{before_key, behind_key, first_key, head_bytes, head_key, last_key, leader_key, piece_key}
+use Rattle.etcd_keys.specs.Keys.{before_key, behind_key, first_key, head_bytes, head_key, last_key, leader_key, piece_key}
 
 abbrev pub compares : List ℕ → Target → ℕ → CompareFact
 compares key target revision = record { key = key; target = target; revision = revision }

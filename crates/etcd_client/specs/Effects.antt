@@ -5,7 +5,7 @@ use Rattle.etcd_cluster.specs.Stands.{Clears, Forgets, Lays, PieceFact, Pieces, 
 use Rattle.etcd_json.specs.Replies.{EntryFact}
 use Rattle.etcd_json.specs.Requests.{DeleteIn, GetAt, KeysIn, OperationFact, PutAt, PutLeasedAt, RangeIn, TransactionFact}
 use Rattle.etcd_cluster.specs.declared.change.Standing.{Standing}
-use Rattle.etcd_client.specs.Keys.{before_key, head_bytes, head_key, piece_key}
+use Rattle.etcd_keys.specs.Keys.{before_key, head_bytes, head_key, piece_key}
 use Rattle.etcd_client.specs.Told.{pieces_in, standing_of}
 
 -- what stands under each key
@@ -63,11 +63,6 @@ abbrev pub AreHeld : Held → List EntryFact → Type 0
 AreHeld held [] = Unit {0}
 AreHeld held (entry ∷ later) = (held entry.key ≡ Some entry.value) × AreHeld held later
 
--- and under that one
-abbrev pub AreOfKey : List ℕ → List EntryFact → Type 0
-AreOfKey key [] = Unit {0}
-AreOfKey key (entry ∷ later) = (entry.key ≡ key) × AreOfKey key later
-
 abbrev pub ArePlaces : List PieceFact → Type 0
 ArePlaces [] = Unit {0}
 ArePlaces (piece ∷ later) = (piece.at < 0xffffffffffffffff) × ArePlaces later
@@ -83,8 +78,7 @@ pub record AreReadAs (prefix : List ℕ) (generation : ℕ) (held : Held) (entri
   pub places : ArePlaces pieces
   pub told : pieces_in (before_key prefix generation) entries ≡ Some pieces
 
--- of these entries, which stand under the key of the head, this head is read, in that cluster
+-- of these entries, which stand under their keys, this head is read, in that cluster
 pub record IsReadAs (prefix : List ℕ) (cluster : ℕ) (held : Held) (entries : List EntryFact) (standing : Standing) : Type 0 where
   pub are : AreHeld held entries
-  pub keys : AreOfKey (head_key prefix) entries
-  pub told : standing_of cluster entries ≡ Some (Some standing)
+  pub told : standing_of prefix cluster entries ≡ Some (Some standing)

@@ -9,12 +9,13 @@ use Rattle.etcd_cluster.specs.declared.change.CallFault.TheVariants as call
 use Rattle.etcd_cluster.specs.declared.change.Piece.{Piece}
 use Rattle.etcd_cluster.specs.declared.change.Standing.{Standing}
 use Rattle.etcd_cluster.specs.declared.change.Wanted.{Wanted}
-use Rattle.etcd_json.specs.Replies.{ReplyFact, granted_told, keepalive_told, reply_fact, transaction_told}
-use Rattle.etcd_json.specs.Requests.{TransactionFact, grant_text, keepalive_text, transaction_text}
+use Rattle.etcd_json.specs.Replies.{ReplyFact, granted_told, keepalive_told, reply_fact, revision_told, transaction_told}
+use Rattle.etcd_json.specs.Requests.{TransactionFact, compaction_text, grant_text, keepalive_text, transaction_text}
 use Rattle.etcd_json.specs.declared.reply.Granted.{Granted}
+use Rattle.etcd_json.specs.declared.reply.Header.{Header}
 use Rattle.etcd_json.specs.declared.reply.Reply.{Reply}
 use Rattle.etcd_client.specs.Asked.{change_asked, head_asked, lead_asked, leader_asked, pieces_asked}
-use Rattle.etcd_client.specs.Told.{change_told, head_read, leader_told, pieces_seen, pieces_told}
+use Rattle.etcd_client.specs.Told.{change_told, elsewhere_told, head_read, leader_told, pieces_seen, pieces_told}
 use Rattle.etcd_client.specs.declared.leading.Led.{Led}
 use Rattle.etcd_client.specs.declared.members.AskFault.{AskFault}
 use Rattle.etcd_client.specs.declared.members.AskFault.TheVariants.{Refused, Unclear}
@@ -82,10 +83,10 @@ asking known transaction view told =
 
 -- Each is asked in the cluster in which the server leads.
 abbrev pub change_question : List ℕ → Led → ChangeFact → Question Answer Answer
-change_question prefix led change = asking (Some led.cluster) (change_asked prefix led.server led.cluster change) (λ answer. answer) change_told
+change_question prefix led change = asking (Some led.cluster) (change_asked prefix led.server led.cluster change) (λ answer. answer) (change_told prefix)
 
 abbrev pub head_question : List ℕ → Led → Question (Option Standing) (Option Standing)
-head_question prefix led = asking (Some led.cluster) (head_asked prefix) (λ found. found) head_read
+head_question prefix led = asking (Some led.cluster) (head_asked prefix) (λ found. found) (head_read prefix)
 
 abbrev pub pieces_question : List ℕ → Led → Wanted → Question (Option (Vec Piece)) (Option (List PieceFact))
 pieces_question prefix led wanted = asking (Some led.cluster) (pieces_asked prefix wanted) pieces_seen (pieces_told prefix wanted.generation)
@@ -111,6 +112,12 @@ head_by (Err fault) = Err (fault_by fault)
 abbrev pub pieces_by : Result (Option (Vec Piece)) AskFault → Result (Option (Vec Piece)) CallFault
 pieces_by (Ok found) = Ok found
 pieces_by (Err fault) = Err (fault_by fault)
+
+-- OLDER REVISIONS
+
+abbrev pub compaction_question : ℕ → Question Header Header
+compaction_question version =
+    record { path = codes "/v3/kv/compaction"; body = compaction_text version; view = λ header. header; read = revision_told }
 
 -- LEASES
 
@@ -156,6 +163,17 @@ free_told reply = option_map (free_in reply.header.cluster) (leader_told reply)
 
 abbrev pub leader_question : List ℕ → Question (Option ℕ) (Option ℕ)
 leader_question prefix = asking None (leader_asked prefix) (λ free. free) free_told
+
+-- whether the list was begun in another cluster than the one that answers
+abbrev pub elsewhere_question : List ℕ → Question Bool Bool
+elsewhere_question prefix = asking None (head_asked prefix) (λ elsewhere. elsewhere) (elsewhere_told prefix)
+
+-- which cluster answers that, whoever leads there
+abbrev pub cluster_told : ReplyFact → Option ℕ
+cluster_told reply = Some reply.header.cluster
+
+abbrev pub cluster_question : List ℕ → Question ℕ ℕ
+cluster_question prefix = asking None (leader_asked prefix) (λ cluster. cluster) cluster_told
 
 abbrev pub lead_question : List ℕ → ℕ → ℕ → Question Reply ReplyFact
 lead_question prefix cluster lease = reply_question (Some cluster) (transaction_text (lead_asked prefix lease))

@@ -1,4 +1,3 @@
-pub mod Keys
 pub mod Effects
 pub mod Asked
 pub mod Told

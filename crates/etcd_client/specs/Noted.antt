@@ -1,6 +1,6 @@
 -- The calls that a client made, noted one by one in numbers and bytes.
 use Rattle.std.specs.Prelude.{ℕ, List, [], ◌∷◌, ◌++◌, ◌==◌, slice_index, if◌then◌else◌, Option, None, Some, Result, Ok, Err}
-use Rattle.etcd_cluster.specs.Calls.{AskedHead, AskedPieces, Called, Kept, Sent}
+use Rattle.etcd_cluster.specs.Calls.{AskedHead, AskedPieces, Called, Compacted, Forgot, Kept, Sent}
 use Rattle.etcd_cluster.specs.Stands.{ChangeFact, Clears, Forgets, Lays, PieceFact, WriteFact}
 use Rattle.etcd_cluster.specs.declared.change.Answer.TheVariants.{Done, NotDone}
 use Rattle.etcd_cluster.specs.declared.change.CallFault.TheVariants.{Refused, Unclear}
@@ -96,7 +96,9 @@ noted_call kind numbers log =
     else if kind == 14 then AskedPieces (wanted_in numbers) (Ok None)
     else if kind == 15 then AskedPieces (wanted_in numbers) (Err Unclear)
     else if kind == 16 then AskedPieces (wanted_in numbers) (Err Refused)
-    else Kept
+    else if kind == 17 then Kept
+    else if kind == 18 then Compacted (slice_index numbers 1)
+    else Forgot
 
 abbrev pub noted_by : ℕ → List ℕ → List ℕ → Log → Log
 noted_by kind numbers bytes log =

@@ -1,5 +1,5 @@
 -- What is told of a list: each reply is read exactly so, or not at all.
-use Rattle.std.specs.Prelude.{◌≡◌, ◌==◌, ◌||◌, ℕ, List, [], ◌∷◌, Bool, true, false, if◌then◌else◌, Option, None, Some, option_and_then, option_map, map}
+use Rattle.std.specs.Prelude.{◌≡◌, ◌==◌, ◌||◌, ◌&&◌, bytes_eq, ℕ, List, [], ◌∷◌, Bool, true, false, if◌then◌else◌, Option, None, Some, option_and_then, option_map, map}
 use Rattle.etcd_cluster.specs.declared.change.Answer.{Answer}
 use Rattle.etcd_cluster.specs.declared.change.Answer.TheVariants.{Done, NotDone}
 use Rattle.etcd_cluster.specs.declared.change.Head.{Head}
@@ -8,26 +8,29 @@ use Rattle.etcd_cluster.specs.Stands.{PieceFact, piece_fact}
 use Rattle.etcd_cluster.specs.declared.change.Piece.{Piece}
 use Rattle.std.specs.Global.{Vec}
 use Rattle.etcd_json.specs.Replies.{EntryFact, FoundThere, ReplyFact, ResponseFact}
-use Rattle.etcd_client.specs.Keys.{before_key, head_told, place_told}
+use Rattle.etcd_keys.specs.Keys.{before_key, head_key, head_told, is_head_of_other, place_told}
 use Rattle.etcd_client.specs.declared.members.AskFault.{AskFault}
 use Rattle.etcd_client.specs.declared.members.AskFault.TheVariants.{Refused, Unclear}
 
--- the head that stands under a key, and its version
+-- the head that stands under its key, and its version
 abbrev pub standing_by : ℕ → Head → Standing
 standing_by version head = record { version = version; head = head }
 
-abbrev pub standing_in : ℕ → EntryFact → Option Standing
-standing_in cluster entry = option_map (standing_by entry.written) (head_told cluster entry.value)
+abbrev pub head_in : List ℕ → ℕ → EntryFact → Option Head
+head_in prefix cluster entry = if bytes_eq entry.key (head_key prefix) then head_told cluster entry.value else None
+
+abbrev pub standing_in : List ℕ → ℕ → EntryFact → Option Standing
+standing_in prefix cluster entry = option_map (standing_by entry.written) (head_in prefix cluster entry)
 
 -- the head that was found in that cluster: none where no list stands there
-abbrev pub standing_of : ℕ → List EntryFact → Option (Option Standing)
-standing_of cluster [] = Some None
-standing_of cluster (entry ∷ []) = option_map (λ standing. Some standing) (standing_in cluster entry)
-standing_of cluster entries = None
+abbrev pub standing_of : List ℕ → ℕ → List EntryFact → Option (Option Standing)
+standing_of prefix cluster [] = Some None
+standing_of prefix cluster (entry ∷ []) = option_map (λ standing. Some standing) (standing_in prefix cluster entry)
+standing_of prefix cluster entries = None
 
-abbrev pub standing_told : ℕ → ResponseFact → Option (Option Standing)
-standing_told cluster (FoundThere found) = standing_of cluster found.entries
-standing_told cluster other = None
+abbrev pub standing_told : List ℕ → ℕ → ResponseFact → Option (Option Standing)
+standing_told prefix cluster (FoundThere found) = standing_of prefix cluster found.entries
+standing_told prefix cluster other = None
 
 -- the one response that there is
 abbrev pub only_of : List ResponseFact → Option ResponseFact
@@ -35,12 +38,12 @@ only_of (response ∷ []) = Some response
 only_of responses = None
 
 -- the head
-abbrev pub head_read : ReplyFact → Option (Option Standing)
-head_read reply = option_and_then (standing_told reply.header.cluster) (only_of reply.responses)
+abbrev pub head_read : List ℕ → ReplyFact → Option (Option Standing)
+head_read prefix reply = option_and_then (standing_told prefix reply.header.cluster) (only_of reply.responses)
 
 -- what became of a change
-abbrev pub change_told : ReplyFact → Option Answer
-change_told reply = if reply.succeeded then Some (Done reply.header.revision) else option_map (λ told. NotDone told) (head_read reply)
+abbrev pub change_told : List ℕ → ReplyFact → Option Answer
+change_told prefix reply = if reply.succeeded then Some (Done reply.header.revision) else option_map (λ told. NotDone told) (head_read prefix reply)
 
 abbrev pub piece_by : List ℕ → ℕ → PieceFact
 piece_by bytes at = record { at = at; bytes = bytes }
@@ -81,6 +84,18 @@ leader_found other = None
 
 abbrev pub leader_told : ReplyFact → Option Bool
 leader_told reply = option_and_then leader_found (only_of reply.responses)
+
+-- whether the head that was found was put in another cluster than that one
+abbrev pub are_of_other : List ℕ → ℕ → List EntryFact → Bool
+are_of_other prefix cluster (entry ∷ []) = bytes_eq entry.key (head_key prefix) && is_head_of_other cluster entry.value
+are_of_other prefix cluster entries = false
+
+abbrev pub elsewhere_found : List ℕ → ℕ → ResponseFact → Option Bool
+elsewhere_found prefix cluster (FoundThere found) = Some (are_of_other prefix cluster found.entries)
+elsewhere_found prefix cluster other = None
+
+abbrev pub elsewhere_told : List ℕ → ReplyFact → Option Bool
+elsewhere_told prefix reply = option_and_then (elsewhere_found prefix reply.header.cluster) (only_of reply.responses)
 
 -- With these codes etcd tells that nothing was done: the request was wrong as it stands. A full database is told by another one, 8, and
 -- of what was done, too.

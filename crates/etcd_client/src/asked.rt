@@ -4,11 +4,11 @@ ghost use Rattle.std.specs.Prelude.{◌≡◌, ◌++◌, [], ◌∷◌, IfOk, On
 ghost use Rattle.etcd_json.specs.Requests.{DeleteIn, GetAt, PutAt, compare_tokens, list_member, operation_tokens, transaction_text};
 ghost use Rattle.etcd_cluster.specs.Stands.{change_fact, write_fact};
 ghost use Rattle.etcd_client.specs.Asked.{change_asked, change_compares, change_operations, end_key, head_asked, lead_asked, leader_asked, pieces_asked, write_operations};
-ghost use Rattle.etcd_client.specs.Keys.{head_key};
+ghost use Rattle.etcd_keys.specs.Keys.{head_key};
 
-use crate::names::{Names, head_bytes};
 use etcd_cluster::change::{Change, Wanted, Write};
 use etcd_json::{Compare, Operation, Paper, Target, Transaction, transaction_request};
+use etcd_keys::{Names, head_bytes};
 use std::alloc::{AllocError, Global};
 
 /// Behind the pieces that are to go: the last of all places stands behind each piece.

@@ -2,7 +2,7 @@
 
 ghost use Rattle.std.specs.Prelude.{◌≡◌, [], ◌∷◌, Option, Some, map, option_map};
 ghost use Rattle.std.specs.Borrow.{ftrue};
-ghost use Rattle.etcd_cluster.specs.Calls.{AskedHead, AskedPieces, Kept, Sent};
+ghost use Rattle.etcd_cluster.specs.Calls.{AskedHead, AskedPieces, Compacted, Forgot, Kept, Sent};
 ghost use Rattle.etcd_cluster.specs.Stands.{change_fact, piece_fact, write_fact};
 ghost use Rattle.etcd_cluster.specs.Worlds.{seen_pieces};
 ghost use Rattle.etcd_client.specs.Exchanges.{exchange, text_of};
@@ -232,5 +232,19 @@ impl CallLog {
         ensures { self.new.log.calls ≡ Kept ∷ self.old.log.calls }
     {
         self.note(&[17], &[]);
+    }
+
+    /// Notes that what stood there before that version was to be let go of.
+    pub(crate) fn compacted(&mut self, version: u64)
+        ensures { self.new.log.calls ≡ Compacted version ∷ self.old.log.calls }
+    {
+        self.note(&[18, version], &[]);
+    }
+
+    /// Notes that what was told of pieces is not known any more.
+    pub(crate) fn forgot(&mut self)
+        ensures { self.new.log.calls ≡ Forgot ∷ self.old.log.calls }
+    {
+        self.note(&[19], &[]);
     }
 }

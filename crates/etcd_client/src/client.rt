@@ -1,27 +1,26 @@
-//! A list in etcd, as a cluster.
+//! A list in etcd: what is asked of it is noted, and nothing else is. Nobody else has its log.
 
-ghost use Rattle.std.specs.Prelude.{◌≡◌, ◌∷◌, IfOk, Result, length, Option};
+ghost use Rattle.std.specs.Prelude.{◌≡◌, ◌∷◌, IfOk, Result, Option};
 ghost use Rattle.std.specs.Global.{Vec};
 ghost use Rattle.etcd_cluster.specs.declared.change.Answer.{Answer};
 ghost use Rattle.etcd_cluster.specs.declared.change.Piece.{Piece};
 ghost use Rattle.etcd_cluster.specs.declared.change.Standing.{Standing};
 ghost use Rattle.etcd_client.specs.declared.members.AskFault.{AskFault};
-ghost use Rattle.etcd_cluster.specs.CallsLaws.{counts_now_of, earlier_of, only_now_of, true_of};
-ghost use Rattle.etcd_cluster.specs.Calls.{AskedHead, AskedPieces, BeenSince, Kept, MayBe, Sent, WasSent, stand_by};
+ghost use Rattle.etcd_json.specs.declared.reply.Header.{Header};
+ghost use Rattle.etcd_cluster.specs.Calls.{AskedHead, AskedPieces, Compacted, Forgot, Kept, Sent};
 ghost use Rattle.etcd_cluster.specs.Stands.{change_fact};
 ghost use Rattle.etcd_cluster.specs.Worlds.{IsLater, IsVersioned, seen_pieces};
-ghost use Rattle.etcd_client.specs.Exchanges.{KeepsLease, MayAsk, MayKeep, answer_by, change_question, due_at, fault_by, head_by, head_question, keepalive_question, kept_by, pieces_by, pieces_question, third};
+ghost use Rattle.etcd_client.specs.Exchanges.{KeepsLease, MayAsk, MayKeep, answer_by, change_question, compaction_question, due_at, fault_by, head_by, head_question, keepalive_question, kept_by, pieces_by, pieces_question, third};
 ghost use Rattle.etcd_client.specs.Noted.{no_log};
 
 use crate::asked::{change_request, head_request, pieces_request};
 use crate::call_log::CallLog;
 use crate::leading::{Led, transact};
 use crate::members::{AskFault, Members};
-use crate::names::Names;
 use crate::told::{change_told, head_read, pieces_told};
 use etcd_cluster::change::{Answer, CallFault, Change, Piece, Standing, Wanted};
-use etcd_cluster::cluster::Cluster;
-use etcd_json::{keepalive_reply, keepalive_request};
+use etcd_json::{Header, compaction_request, keepalive_reply, keepalive_request, revision_reply};
+use etcd_keys::Names;
 use std::alloc::Global;
 
 /// So long is waited before the same is sent again, in milliseconds.
@@ -156,7 +155,7 @@ impl<M: Members> EtcdCluster<M> {
         let (server, cluster) = (self.led.server, self.led.cluster);
         let text = change_request(self.alloc, &self.names, server, cluster, change)?;
         let reply = transact(self.alloc, &mut self.members, Some(cluster), &text)?;
-        Ok(change_told(&reply)?)
+        Ok(change_told(&self.names, &reply)?)
     }
 
     /// Asks for the head once.
@@ -170,7 +169,7 @@ impl<M: Members> EtcdCluster<M> {
         let cluster = self.led.cluster;
         let text = head_request(self.alloc, &self.names)?;
         let reply = transact(self.alloc, &mut self.members, Some(cluster), &text)?;
-        Ok(head_read(&reply)?)
+        Ok(head_read(&self.names, &reply)?)
     }
 
     /// Asks for pieces once.
@@ -199,9 +198,33 @@ impl<M: Members> EtcdCluster<M> {
         Ok(keepalive_reply(self.alloc, &text)?)
     }
 
+    /// Asks that what keys had before that version be let go of, once.
+    fn ask_compaction(&mut self, version: u64) -> Result<Header, AskFault>
+        ensures asked { MayAsk (compaction_question version) result (M.exchanges self.old.members) (M.exchanges self.new.members) }
+        ensures led { self.new.led ≡ self.old.led }
+        ensures log { self.new.log ≡ self.old.log }
+        ensures names { self.new.names ≡ self.old.names }
+    {
+        let body = compaction_request(self.alloc, version)?;
+        let text = self.members.ask("/v3/kv/compaction", &body)?;
+        Ok(revision_reply(self.alloc, &text)?)
+    }
+
+    /// Asks that, and notes it, whatever is told.
+    pub(crate) fn compact_noted(&mut self, version: u64)
+        ensures noted { self.new.log.log.calls ≡ Compacted version ∷ self.old.log.log.calls }
+        ensures asked { (told : Result Header AskFault)
+            × MayAsk (compaction_question version) told (M.exchanges self.old.members) (M.exchanges self.new.members) }
+        ensures led { self.new.led ≡ self.old.led }
+        ensures names { self.new.names ≡ self.old.names }
+    {
+        let _told = self.ask_compaction(version);
+        self.log.compacted(version);
+    }
+
     /// Lets the lease begin anew where it is time, by the clock: a long list is read for longer than a lease lasts. Where that is
     /// refused, the first change of the server is, too.
-    fn keep_while_reading(&mut self)
+    pub(crate) fn keep_while_reading(&mut self)
         ensures kept { MayKeep self.old.led.lease (M.exchanges self.old.members) (M.exchanges self.new.members) }
         ensures led { self.new.led ≡ self.old.led }
         ensures log { self.new.log ≡ self.old.log }
@@ -218,7 +241,7 @@ impl<M: Members> EtcdCluster<M> {
     }
 
     /// Sends a change once, and notes what is told of it.
-    fn send_noted(&mut self, change: &Change<'_>) -> Result<Answer, CallFault>
+    pub(crate) fn send_noted(&mut self, change: &Change<'_>) -> Result<Answer, CallFault>
         ensures noted { self.new.log.log.calls ≡ Sent (change_fact change.now) result ∷ self.old.log.log.calls }
         ensures asked { (told : Result Answer AskFault) × (result ≡ answer_by (change_fact change.now) told)
             × MayAsk (change_question self.old.names.prefix.items self.old.led (change_fact change.now)) told
@@ -234,7 +257,7 @@ impl<M: Members> EtcdCluster<M> {
     }
 
     /// Asks for the head once, and notes what is told.
-    fn head_noted(&mut self) -> Result<Option<Standing>, CallFault>
+    pub(crate) fn head_noted(&mut self) -> Result<Option<Standing>, CallFault>
         ensures noted { self.new.log.log.calls ≡ AskedHead result ∷ self.old.log.log.calls }
         ensures asked { (told : Result (Option Standing) AskFault) × (result ≡ head_by told)
             × MayAsk (head_question self.old.names.prefix.items self.old.led) told
@@ -250,7 +273,7 @@ impl<M: Members> EtcdCluster<M> {
     }
 
     /// Lets the lease begin anew where it is time, and notes that.
-    fn keep_noted(&mut self, now: u64) -> Result<u64, CallFault>
+    pub(crate) fn keep_noted(&mut self, now: u64) -> Result<u64, CallFault>
         ensures noted { self.new.log.log.calls ≡ Kept ∷ self.old.log.log.calls }
         ensures kept { KeepsLease self.old.led self.old.kept now result (M.exchanges self.old.members) (M.exchanges self.new.members) }
         ensures led { self.new.led ≡ self.old.led }
@@ -279,7 +302,7 @@ impl<M: Members> EtcdCluster<M> {
     }
 
     /// Asks for pieces once, and notes what is told.
-    fn pieces_noted(&mut self, wanted: Wanted) -> Result<Option<Vec<Piece>>, CallFault>
+    pub(crate) fn pieces_noted(&mut self, wanted: Wanted) -> Result<Option<Vec<Piece>>, CallFault>
         ensures noted { self.new.log.log.calls ≡ AskedPieces wanted (seen_pieces result) ∷ self.old.log.log.calls }
         ensures asked { (told : Result (Option (Vec Piece)) AskFault) × (result ≡ pieces_by told)
             × MayAsk (pieces_question self.old.names.prefix.items self.old.led wanted) told
@@ -292,55 +315,19 @@ impl<M: Members> EtcdCluster<M> {
         self.log.asked_pieces(wanted, &found);
         found
     }
-}
 
-impl<M: Members> Cluster for EtcdCluster<M> {
-    ghost use Rattle.std.proofs.Common.{refl};
-
-    ghost server = { λ cluster. cluster.led.server };
-
-    ghost moment = { λ cluster. length cluster.log.log.calls };
-
-    ghost calls = { λ cluster. cluster.log.log.calls };
-
-    ghost sent = { λ cluster. WasSent cluster.log.log.calls };
-
-    ghost may_be = { λ cluster. MayBe cluster.led.server cluster.log.log.calls };
-
-    ghost been_since = { λ cluster. BeenSince cluster.led.server cluster.log.log.calls };
-
-    ghost stand = { λ cluster. stand_by cluster.log.log.calls };
-
-    ghost counts_now = { λ cluster t w le may. counts_now_of cluster.led.server cluster.log.log.calls t w le may };
-
-    ghost earlier = { λ cluster w begun may is. earlier_of cluster.led.server cluster.log.log.calls w may begun is };
-
-    ghost counts_calls = { λ cluster. refl };
-
-    ghost true_calls = { λ cluster w may. true_of cluster.led.server cluster.log.log.calls w may };
-
-    ghost by_calls = { λ cluster. refl };
-
-    ghost only_now = { λ cluster w been. only_now_of cluster.led.server cluster.log.log.calls w been };
-
-    fn send(&mut self, change: &Change<'_>) -> Result<Answer, CallFault> {
-        self.send_noted(change)
+    /// Notes that what was told of pieces is not known any more: nothing is asked.
+    pub(crate) fn forget_noted(&mut self)
+        ensures noted { self.new.log.log.calls ≡ Forgot ∷ self.old.log.log.calls }
+        ensures same { self.new ≡ record self.old { log = self.new.log } }
+    {
+        self.log.forgot();
     }
 
-    fn head(&mut self) -> Result<Option<Standing>, CallFault> {
-        self.head_noted()
-    }
-
-    fn look(&mut self, _alloc: Global, wanted: Wanted) -> Result<Option<Vec<Piece>>, CallFault> {
-        self.keep_while_reading();
-        self.pieces_noted(wanted)
-    }
-
-    fn pause(&mut self) {
+    /// Waits a little.
+    pub(crate) fn wait(&mut self)
+        ensures { self.new ≡ self.old }
+    {
         self.members.pause(PAUSE);
-    }
-
-    fn keep(&mut self, now: u64) -> Result<u64, CallFault> {
-        self.keep_noted(now)
     }
 }

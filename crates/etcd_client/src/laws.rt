@@ -9,7 +9,7 @@ ghost use Rattle.etcd_cluster.specs.Worlds.{AreThere};
 ghost use Rattle.etcd_json.specs.Replies.{EntryFact};
 ghost use Rattle.etcd_client.specs.Asked.{change_asked, change_operations, head_asked, lead_asked, leader_asked, pieces_asked};
 ghost use Rattle.etcd_client.specs.Effects.{AreReadAs, AreWritesOfWords, Held, Holds, HoldsPieces, IsOfQuorum, IsReadAs, effects};
-ghost use Rattle.etcd_client.specs.Keys.{IsOfWords, before_key, head_bytes, head_told, piece_key, place_told};
+ghost use Rattle.etcd_keys.specs.Keys.{IsOfWords, before_key, head_bytes, head_told, piece_key, place_told};
 
 /// A piece is read of its key as of the place at which it was put.
 pub fn pieces_are_found_again()

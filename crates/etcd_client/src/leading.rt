@@ -1,13 +1,13 @@
 //! Who writes a list.
 
 ghost use Rattle.std.specs.Prelude.{◌≡◌, Some};
-ghost use Rattle.etcd_client.specs.Exchanges.{Asks, Leads, MayAsk, grant_question, is_other, lead_question, leader_question, reply_question};
+ghost use Rattle.etcd_client.specs.Exchanges.{Asks, Leads, MayAsk, cluster_question, elsewhere_question, grant_question, is_other, lead_question, leader_question, reply_question};
 
-use crate::asked::{lead_request, leader_request};
+use crate::asked::{head_request, lead_request, leader_request};
 use crate::members::{AskFault, Members};
-use crate::names::Names;
-use crate::told::leader_told;
+use crate::told::{elsewhere_told, leader_told};
 use etcd_json::{Granted, Reply, grant_request, granted_reply, transaction_reply};
+use etcd_keys::Names;
 use std::alloc::Global;
 
 /// A server that leads: in which cluster, its number, and the lease by which it does.
@@ -61,6 +61,32 @@ fn cluster_free<M: Members>(
         return Ok(None);
     }
     Ok(Some(reply.header.cluster))
+}
+
+/// The cluster that answers, whoever leads there.
+pub fn cluster_of<M: Members>(
+    alloc: Global,
+    members: &mut M,
+    names: &Names,
+) -> Result<u64, AskFault>
+    ensures { MayAsk (cluster_question names.now.prefix.items) result (M.exchanges members.old) (M.exchanges members.new) }
+{
+    let text = leader_request(alloc, names)?;
+    let reply = transact(alloc, members, None, &text)?;
+    Ok(reply.header.cluster)
+}
+
+/// Whether the list was begun in another cluster than the one that answers: it was copied there, as a snapshot is.
+pub fn begun_elsewhere<M: Members>(
+    alloc: Global,
+    members: &mut M,
+    names: &Names,
+) -> Result<bool, AskFault>
+    ensures { MayAsk (elsewhere_question names.now.prefix.items) result (M.exchanges members.old) (M.exchanges members.new) }
+{
+    let text = head_request(alloc, names)?;
+    let reply = transact(alloc, members, None, &text)?;
+    Ok(elsewhere_told(names, &reply)?)
 }
 
 /// A lease of so many seconds.

@@ -1,24 +1,38 @@
 //! What is told of a list, read from replies.
 
-ghost use Rattle.std.specs.Prelude.{map};
+ghost use Rattle.std.specs.Prelude.{◌≡◌, map};
 ghost use Rattle.etcd_cluster.specs.Stands.{piece_fact};
 ghost use Rattle.etcd_json.specs.Outcomes.{ReadsAs};
 ghost use Rattle.etcd_json.specs.Replies.{entry_fact, reply_fact};
-ghost use Rattle.etcd_client.specs.Told.{change_told, head_read, leader_told, piece_told, pieces_in, pieces_seen, pieces_told, standing_of};
+ghost use Rattle.etcd_client.specs.Told.{are_of_other, change_told, elsewhere_told, head_in, head_read, leader_told, piece_told, pieces_in, pieces_seen, pieces_told, standing_of};
 
-use crate::names::{Names, head_told, place_told};
-use etcd_cluster::change::{Answer, Piece, Standing};
+use etcd_cluster::change::{Answer, Head, Piece, Standing};
 use etcd_json::ReplyFault::Strange;
 use etcd_json::{Entry, Reply, ReplyFault, Response};
+use etcd_keys::{Names, head_told, is_head_of_other, place_told};
 use std::alloc::Global;
 
+/// The head that stands under its key, if it is one of that cluster.
+fn head_in(names: &Names, cluster: u64, entry: &Entry) -> Option<Head>
+    ensures { result ≡ head_in names.now.prefix.items cluster (entry_fact entry.now) }
+{
+    if !names.is_head(&entry.key) {
+        return None;
+    }
+    head_told(cluster, &entry.value)
+}
+
 /// The head that was found in that cluster: none where no list stands there.
-fn standing_of(cluster: u64, entries: &[Entry]) -> Result<Option<Standing>, ReplyFault>
-    ensures { ReadsAs (λ standing. standing) result (standing_of cluster (map entry_fact entries.now)) }
+fn standing_of(
+    names: &Names,
+    cluster: u64,
+    entries: &[Entry],
+) -> Result<Option<Standing>, ReplyFault>
+    ensures { ReadsAs (λ standing. standing) result (standing_of names.now.prefix.items cluster (map entry_fact entries.now)) }
 {
     match entries {
         [] => Ok(None),
-        [entry] => match head_told(cluster, &entry.value) {
+        [entry] => match head_in(names, cluster, entry) {
             None => Err(Strange),
             Some(head) => Ok(Some(Standing {
                 version: entry.written,
@@ -29,24 +43,44 @@ fn standing_of(cluster: u64, entries: &[Entry]) -> Result<Option<Standing>, Repl
     }
 }
 
-/// The head.
-pub(crate) fn head_read(reply: &Reply) -> Result<Option<Standing>, ReplyFault>
-    ensures { ReadsAs (λ standing. standing) result (head_read (reply_fact reply.now)) }
+/// Whether the head that was found was put in another cluster.
+fn are_of_other(names: &Names, cluster: u64, entries: &[Entry]) -> bool
+    ensures { result ≡ are_of_other names.now.prefix.items cluster (map entry_fact entries.now) }
+{
+    match entries {
+        [entry] => names.is_head(&entry.key) && is_head_of_other(cluster, &entry.value),
+        _ => false,
+    }
+}
+
+/// Whether the list was begun in another cluster than the one that answers.
+pub(crate) fn elsewhere_told(names: &Names, reply: &Reply) -> Result<bool, ReplyFault>
+    ensures { ReadsAs (λ elsewhere. elsewhere) result (elsewhere_told names.now.prefix.items (reply_fact reply.now)) }
 {
     match reply.responses.as_slice() {
-        [Response::Found(found)] => standing_of(reply.header.cluster, &found.entries),
+        [Response::Found(found)] => Ok(are_of_other(names, reply.header.cluster, &found.entries)),
+        _ => Err(Strange),
+    }
+}
+
+/// The head.
+pub(crate) fn head_read(names: &Names, reply: &Reply) -> Result<Option<Standing>, ReplyFault>
+    ensures { ReadsAs (λ standing. standing) result (head_read names.now.prefix.items (reply_fact reply.now)) }
+{
+    match reply.responses.as_slice() {
+        [Response::Found(found)] => standing_of(names, reply.header.cluster, &found.entries),
         _ => Err(Strange),
     }
 }
 
 /// What became of a change.
-pub(crate) fn change_told(reply: &Reply) -> Result<Answer, ReplyFault>
-    ensures { ReadsAs (λ answer. answer) result (change_told (reply_fact reply.now)) }
+pub(crate) fn change_told(names: &Names, reply: &Reply) -> Result<Answer, ReplyFault>
+    ensures { ReadsAs (λ answer. answer) result (change_told names.now.prefix.items (reply_fact reply.now)) }
 {
     if reply.succeeded {
         return Ok(Answer::Done(reply.header.revision));
     }
-    Ok(Answer::NotDone(head_read(reply)?))
+    Ok(Answer::NotDone(head_read(names, reply)?))
 }
 
 /// A piece that was found under a key that begins so.

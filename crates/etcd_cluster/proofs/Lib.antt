@@ -5,5 +5,6 @@ mod Waited
 mod Told
 mod Settled
 pub mod Looked
+mod Forgotten
 mod Again
 pub mod True

@@ -8,13 +8,15 @@ use Rattle.etcd_cluster.specs.declared.change.CallFault.{CallFault}
 use Rattle.etcd_cluster.specs.declared.change.Standing.{Standing}
 use Rattle.etcd_cluster.specs.declared.change.Wanted.{Wanted}
 use Rattle.etcd_cluster.specs.Stands.{ChangeFact, PieceFact, Stand, no_stand}
-use Rattle.etcd_cluster.specs.Worlds.{AreThere, Follows, HeadFollows, PiecesFollow, Side, Unanswered, World, sent_then, side, stand_seen, stand_then, stand_told}
+use Rattle.etcd_cluster.specs.Worlds.{AreThere, Follows, HeadFollows, PiecesFollow, Side, Unanswered, World, forgotten, sent_then, side, stand_seen, stand_then, stand_told}
 
 pub data Called : Type 0 where
   Sent : (change : ChangeFact) → (result : Result Answer CallFault) → Called
   AskedHead : (result : Result (Option Standing) CallFault) → Called
   AskedPieces : (wanted : Wanted) → (result : Result (Option (List PieceFact)) CallFault) → Called
   Kept : Called
+  Compacted : (version : ℕ) → Called
+  Forgot : Called
 
 -- which changes were sent, by these calls, the last of them first
 abbrev pub WasSent : List Called → ChangeFact → Type 0
@@ -32,13 +34,15 @@ stand_by (Sent change result ∷ before) = stand_then change result (stand_by be
 stand_by (AskedHead result ∷ before) = stand_told result (stand_by before)
 stand_by (AskedPieces wanted result ∷ before) = stand_seen wanted result (stand_by before)
 stand_by (Kept ∷ before) = stand_by before
+stand_by (Compacted version ∷ before) = stand_by before
+stand_by (Forgot ∷ before) = forgotten (stand_by before)
 
 -- what was told of the version that is known stands there by what is known
 abbrev pub IsTrueOf : Wanted → Result (Option (List PieceFact)) CallFault → Stand → Type 0
 IsTrueOf wanted (Ok (Some pieces)) stand = wanted.version ≡ stand.version → AreThere wanted.generation pieces (stand_seen wanted (Ok (Some pieces)) stand)
 IsTrueOf wanted told stand = Unit {0}
 
--- what may be the case after them
+-- What may be the case after them. What a server forgets changes nothing there; nor does it when older revisions are let go of.
 abbrev pub MayBe : ℕ → List Called → World → Type 0
 MayBe server [] w = w.begun ≡ None
 MayBe server (Sent change result ∷ before) w = Follows (side_by server before) change result (MayBe server before) w
@@ -46,6 +50,8 @@ MayBe server (AskedHead result ∷ before) w = HeadFollows (side_by server befor
 MayBe server (AskedPieces wanted result ∷ before) w =
     PiecesFollow (side_by server before) wanted result (MayBe server before) w × IsTrueOf wanted result (stand_by before)
 MayBe server (Kept ∷ before) w = Unanswered (side_by server before) (MayBe server before) w
+MayBe server (Compacted version ∷ before) w = Unanswered (side_by server before) (MayBe server before) w
+MayBe server (Forgot ∷ before) w = MayBe server before w
 
 -- or may have been, since so many of them
 abbrev pub BeenSince : ℕ → List Called → ℕ → World → Type 0
@@ -59,3 +65,5 @@ AreTrue (Sent change result ∷ before) = AreTrue before
 AreTrue (AskedHead result ∷ before) = AreTrue before
 AreTrue (AskedPieces wanted result ∷ before) = AreTrue before × IsTrueOf wanted result (stand_by before)
 AreTrue (Kept ∷ before) = AreTrue before
+AreTrue (Compacted version ∷ before) = AreTrue before
+AreTrue (Forgot ∷ before) = AreTrue before

@@ -1,7 +1,7 @@
 -- What the calls of a client say meets what is promised of a cluster.
 use Rattle.std.proofs.Common.{◌≡◌, inl, inr, ◌<◌, ◌≤◌, ◌∙◌, ℕ, suc, List, [], ◌∷◌, length, refl, sym, ap, subst, arith}
 use Rattle.std.specs.Prelude.{Option, None, Some, Result, Ok, Err, unwrap_or}
-use Rattle.etcd_cluster.specs.Calls.{AreTrue, AskedHead, AskedPieces, BeenSince, Called, Kept, MayBe, Sent, side_by}
+use Rattle.etcd_cluster.specs.Calls.{AreTrue, AskedHead, AskedPieces, BeenSince, Called, Compacted, Forgot, Kept, MayBe, Sent, side_by}
 use Rattle.etcd_cluster.specs.Stands.{ChangeFact, Stand}
 use Rattle.etcd_cluster.specs.Worlds.{Answered, Asked, Begun, Goes, Passes, Side, Step, Tells, Unanswered, World, another, comes, goes, sent_then, side, stays, with_sent}
 use Rattle.etcd_cluster.specs.declared.change.Answer.{Answer}
@@ -108,6 +108,10 @@ earlier_of server (AskedPieces wanted (Err fault) ∷ before) w it =
 earlier_of server (Kept ∷ before) w it =
     silent_by (side_by server before) (suc (length before)) (MayBe server before) w (omega arith)
     (λ x may. begun_later (length before) x (earlier_of server before x may)) it
+earlier_of server (Compacted version ∷ before) w it =
+    silent_by (side_by server before) (suc (length before)) (MayBe server before) w (omega arith)
+    (λ x may. begun_later (length before) x (earlier_of server before x may)) it
+earlier_of server (Forgot ∷ before) w it = begun_later (length before) w (earlier_of server before w it)
 
 -- WHAT WAS SENT
 
@@ -130,3 +134,5 @@ true_of server (AskedPieces wanted (Ok (Some pieces)) ∷ before) w may = (true_
 true_of server (AskedPieces wanted (Ok None) ∷ before) w may = (true_of server before (may.0).first (may.0).was, may.1)
 true_of server (AskedPieces wanted (Err fault) ∷ before) w may = (true_of server before (may.0).first (may.0).was, may.1)
 true_of server (Kept ∷ before) w may = true_of server before may.first may.was
+true_of server (Compacted version ∷ before) w may = true_of server before may.first may.was
+true_of server (Forgot ∷ before) w may = true_of server before w may

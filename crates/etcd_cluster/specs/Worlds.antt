@@ -178,6 +178,10 @@ abbrev pub stand_told : Result (Option Standing) CallFault → Stand → Stand
 stand_told (Ok (Some told)) stand = if stand.version == 0 then stand_anew told else stand
 stand_told told stand = stand
 
+-- what was told of pieces is not known any more
+abbrev pub forgotten : Stand → Stand
+forgotten stand = record stand { pieces = λ generation at. None }
+
 -- Time goes on: what may have been since t may have been so before, or is what may be now.
 pub record Passes (before : ℕ) (past since : ℕ → World → Type 0) (may_be : World → Type 0) : Type 0 where
   pub nothing_else : (t : ℕ) (w : World) → t ≤ before → since t w → past t w ⊎ may_be w

@@ -1,8 +1,8 @@
 //! What is promised of a cluster in which a list stands.
 
 ghost use Rattle.std.specs.Prelude.{◌≡◌, ◌<◌, ◌≤◌, ◌∷◌, ℕ, IfOk, List, Some, length};
-ghost use Rattle.etcd_cluster.specs.Calls.{AreTrue, AskedHead, AskedPieces, Called, Kept, Sent, stand_by};
-ghost use Rattle.etcd_cluster.specs.Worlds.{Begun, Follows, HeadFollows, IsLater, IsVersioned, Passes, PiecesFollow, Unanswered, World, seen_pieces, sent_then, side, stand_seen, stand_then, stand_told};
+ghost use Rattle.etcd_cluster.specs.Calls.{AreTrue, AskedHead, AskedPieces, Called, Compacted, Forgot, Kept, Sent, stand_by};
+ghost use Rattle.etcd_cluster.specs.Worlds.{Begun, Follows, HeadFollows, IsLater, IsVersioned, Passes, PiecesFollow, Unanswered, World, forgotten, seen_pieces, sent_then, side, stand_seen, stand_then, stand_told};
 ghost use Rattle.etcd_cluster.specs.Stands.{ChangeFact, Stand, change_fact};
 
 use crate::change::{Answer, CallFault, Change, Piece, Standing, Wanted};
@@ -81,6 +81,27 @@ pub trait Cluster {
         ensures follows { (w : World) → may_be self.new w →
             Unanswered (side (server self.old) (moment self.old) (sent self.old)) (may_be self.old) w }
         ensures stand { stand self.new ≡ stand self.old }
+        ensures time { Passes (moment self.old) (been_since self.old) (been_since self.new) (may_be self.new) };
+
+    /// What stood there before that version may be let go of: nothing of what stands there changes by that, nor where it is refused.
+    fn compact(&mut self, version: u64)
+        ensures called { calls self.new ≡ Compacted version ∷ calls self.old }
+        ensures server { server self.new ≡ server self.old }
+        ensures moment { moment self.old ≤ moment self.new }
+        ensures sent { (one : ChangeFact) → sent self.new one → sent self.old one }
+        ensures follows { (w : World) → may_be self.new w →
+            Unanswered (side (server self.old) (moment self.old) (sent self.old)) (may_be self.old) w }
+        ensures stand { stand self.new ≡ stand self.old }
+        ensures time { Passes (moment self.old) (been_since self.old) (been_since self.new) (may_be self.new) };
+
+    /// What was told of pieces is not known any more: it is to be read anew. Nothing is asked or sent.
+    fn forget(&mut self)
+        ensures called { calls self.new ≡ Forgot ∷ calls self.old }
+        ensures server { server self.new ≡ server self.old }
+        ensures moment { moment self.old ≤ moment self.new }
+        ensures sent { (one : ChangeFact) → sent self.new one → sent self.old one }
+        ensures follows { (w : World) → may_be self.new w → may_be self.old w }
+        ensures stand { stand self.new ≡ forgotten (stand self.old) }
         ensures time { Passes (moment self.old) (been_since self.old) (been_since self.new) (may_be self.new) };
 
     /// This moment is one of those since an earlier one.

@@ -3,12 +3,12 @@
 ghost use Rattle.std.specs.Prelude.{◌≡◌, ◌<◌, ◌≤◌, ◌⊎◌, ◌∷◌, ℕ, IfOk, IfSome, OnErr, OnOk, map};
 ghost use Rattle.std.specs.Result.{result_ok};
 ghost use Rattle.etcd_cluster.specs.Again.{AsksAgain, Confirms, IsConfirmed, IsSettled, fault_told, settled_by};
-ghost use Rattle.etcd_cluster.specs.Calls.{AskedHead, AskedPieces, Kept, Sent};
+ghost use Rattle.etcd_cluster.specs.Calls.{AskedHead, AskedPieces, Compacted, Forgot, Kept, Sent};
 ghost use Rattle.etcd_cluster.specs.Knowing.{HasRead, IsForeignTo, IsUnused, Knows, stand_found, version_of};
 ghost use Rattle.etcd_cluster.specs.Leading.{IsBeginning, IsResting, Pends, StaysSo};
 ghost use Rattle.etcd_cluster.specs.Sides.{ArePiecesTold, Begins, Does, IsFresh, IsHeadTold, IsLeading, IsNew, IsSilent, IsSole, IsToldOf, IsUntold, MayBegin, MayDo, MayHaveBeen, MayHaveMoved, RestsThere, StaysThere, may_come};
 ghost use Rattle.etcd_cluster.specs.Stands.{ChangeFact, change_fact, done_at, piece_fact};
-ghost use Rattle.etcd_cluster.specs.Worlds.{IsHeadOf, IsLater, IsVersioned, is_head, seen_pieces, stand_seen, stand_then, stand_told, version_found, version_told};
+ghost use Rattle.etcd_cluster.specs.Worlds.{IsHeadOf, IsLater, IsVersioned, forgotten, is_head, seen_pieces, stand_seen, stand_then, stand_told, version_found, version_told};
 
 use crate::change::{Answer, CallFault, Change, Head, Piece, Standing, Wanted};
 use crate::cluster::Cluster;
@@ -316,4 +316,33 @@ pub fn keep_lease<C: Cluster>(cluster: &mut C, now: u64) -> Result<u64, CallFaul
     ensures moment { C.moment cluster.old ≤ C.moment cluster.new }
 {
     cluster.keep(now)
+}
+
+/// Lets go of what stood there before that version, for a server that leads. Nothing of what stands there changes by that.
+pub fn compact_older<C: Cluster>(cluster: &mut C, version: u64)
+    ensures called { C.calls cluster.new ≡ Compacted version ∷ C.calls cluster.old }
+    ensures stays { (at : ℕ) → IsLeading C.Cluster cluster.old at → StaysThere C.Cluster cluster.old cluster.new at }
+    ensures leads { (at : ℕ) → IsLeading C.Cluster cluster.old at → IsLeading C.Cluster cluster.new at }
+    ensures knows { (at : ℕ) → IsLeading C.Cluster cluster.old at → Knows C.Cluster cluster.old → Knows C.Cluster cluster.new }
+    ensures stand { C.stand cluster.new ≡ C.stand cluster.old }
+    ensures meanwhile { (at : ℕ) → IsLeading C.Cluster cluster.old at
+        → MayHaveBeen C.Cluster cluster.old cluster.new (StaysSo (C.server cluster.old) (C.moment cluster.old) at) }
+    ensures server { C.server cluster.new ≡ C.server cluster.old }
+    ensures moment { C.moment cluster.old ≤ C.moment cluster.new }
+{
+    cluster.compact(version);
+}
+
+/// What was told of pieces is not known any more: whoever leads still does, and what was read before a server begins is its head.
+pub fn forget_pieces<C: Cluster>(cluster: &mut C)
+    ensures called { C.calls cluster.new ≡ Forgot ∷ C.calls cluster.old }
+    ensures leads { (version : ℕ) → IsLeading C.Cluster cluster.old version → IsLeading C.Cluster cluster.new version }
+    ensures unbegun { (version : ℕ) → IsNew C.Cluster cluster.old version → IsNew C.Cluster cluster.new version }
+    ensures read { HasRead C.Cluster cluster.old → HasRead C.Cluster cluster.new }
+    ensures knows { Knows C.Cluster cluster.old → Knows C.Cluster cluster.new }
+    ensures stand { C.stand cluster.new ≡ forgotten (C.stand cluster.old) }
+    ensures server { C.server cluster.new ≡ C.server cluster.old }
+    ensures moment { C.moment cluster.old ≤ C.moment cluster.new }
+{
+    cluster.forget();
 }

@@ -3,7 +3,7 @@ use Rattle.json.specs.Token.{Token}
 use Rattle.etcd_json.specs.Requests.{compare_tokens}
 use Rattle.etcd_json.specs.declared.request.Target.TheVariants.{Created, Written}
 use Rattle.etcd_client.specs.Asked.{compares}
-use Rattle.etcd_client.specs.Keys.{head_key, leader_key}
+use Rattle.etcd_keys.specs.Keys.{head_key, leader_key}
 use Rattle.etcd_client.proofs.Listed.{listed, more_none, on_then}
 use Rattle.etcd_client.proofs.asked.write_compares.Goals as goal
 

@@ -3,7 +3,7 @@ use Rattle.json.specs.Token.{Token}
 use Rattle.etcd_cluster.specs.Stands.{change_fact}
 use Rattle.etcd_json.specs.Requests.{PutAt, operation_tokens}
 use Rattle.etcd_client.specs.Asked.{write_operations}
-use Rattle.etcd_client.specs.Keys.{head_bytes, head_key}
+use Rattle.etcd_keys.specs.Keys.{head_bytes, head_key}
 use Rattle.etcd_client.proofs.Listed.{listed, on_then}
 use Rattle.etcd_client.proofs.asked.write_success.Goals as goal
 

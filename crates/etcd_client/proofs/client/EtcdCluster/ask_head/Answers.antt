@@ -25,7 +25,7 @@ returns-in_err-reply-clause-asked g c =
     let after = D.exchanges c.transact.new.members in
     let fault = c.in_err-reply.field-0.0 in
     let is : c.from_residual-in_err-reply.result ≡ Err fault = search rules in
-    rw is (inl (asks_fault known transaction (λ (found : Option Standing). found) head_read before after fault
+    rw is (inl (asks_fault known transaction (λ (found : Option Standing). found) (head_read old.names.prefix.items) before after fault
     (subst (λ (t : List ℕ). Asks (reply_question known t) (Err fault) before after) text c.in_err-reply.ensures)))
 
 pub returns-in_err-head_read-clause-asked : goal.returns-in_err-head_read-clause-asked
@@ -39,7 +39,7 @@ returns-in_err-head_read-clause-asked g c =
     let after = D.exchanges c.transact.new.members in
     let reply = c.in_ok-reply.reply in
     let is : c.from_residual-in_err-head_read.result ≡ Err Unclear = search rules in
-    rw is (inl (asks_strange known transaction (λ (found : Option Standing). found) head_read before after reply
+    rw is (inl (asks_strange known transaction (λ (found : Option Standing). found) (head_read old.names.prefix.items) before after reply
     (subst (λ (t : List ℕ). Asks (reply_question known t) (Ok reply) before after) text c.in_ok-reply.ensures)))
 
 pub returns-clause-asked : goal.returns-clause-asked
@@ -52,5 +52,5 @@ returns-clause-asked g c =
     let before = D.exchanges old.members in
     let after = D.exchanges c.transact.new.members in
     let reply = c.in_ok-reply.reply in
-    inl (asks_given known transaction (λ (found : Option Standing). found) head_read before after reply c.in_ok-head_read.field-0 c.in_ok-head_read.ensures
+    inl (asks_given known transaction (λ (found : Option Standing). found) (head_read old.names.prefix.items) before after reply c.in_ok-head_read.field-0 c.in_ok-head_read.ensures
     (subst (λ (t : List ℕ). Asks (reply_question known t) (Ok reply) before after) text c.in_ok-reply.ensures))

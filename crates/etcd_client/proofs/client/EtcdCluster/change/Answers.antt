@@ -26,7 +26,7 @@ returns-in_err-reply-clause-asked g c =
     let after = D.exchanges c.transact.new.members in
     let fault = c.in_err-reply.field-0.0 in
     let is : c.from_residual-in_err-reply.result ≡ Err fault = search rules in
-    rw is (inl (asks_fault known transaction (λ (answer : Answer). answer) change_told before after fault
+    rw is (inl (asks_fault known transaction (λ (answer : Answer). answer) (change_told old.names.prefix.items) before after fault
     (subst (λ (t : List ℕ). Asks (reply_question known t) (Err fault) before after) text c.in_err-reply.ensures)))
 
 pub returns-in_err-change_told-clause-asked : goal.returns-in_err-change_told-clause-asked
@@ -40,7 +40,7 @@ returns-in_err-change_told-clause-asked g c =
     let after = D.exchanges c.transact.new.members in
     let reply = c.in_ok-reply.reply in
     let is : c.from_residual-in_err-change_told.result ≡ Err Unclear = search rules in
-    rw is (inl (asks_strange known transaction (λ (answer : Answer). answer) change_told before after reply
+    rw is (inl (asks_strange known transaction (λ (answer : Answer). answer) (change_told old.names.prefix.items) before after reply
     (subst (λ (t : List ℕ). Asks (reply_question known t) (Ok reply) before after) text c.in_ok-reply.ensures)))
 
 pub returns-clause-asked : goal.returns-clause-asked
@@ -53,5 +53,5 @@ returns-clause-asked g c =
     let before = D.exchanges old.members in
     let after = D.exchanges c.transact.new.members in
     let reply = c.in_ok-reply.reply in
-    inl (asks_given known transaction (λ (answer : Answer). answer) change_told before after reply c.in_ok-change_told.field-0 c.in_ok-change_told.ensures
+    inl (asks_given known transaction (λ (answer : Answer). answer) (change_told old.names.prefix.items) before after reply c.in_ok-change_told.field-0 c.in_ok-change_told.ensures
     (subst (λ (t : List ℕ). Asks (reply_question known t) (Ok reply) before after) text c.in_ok-reply.ensures))

@@ -3,7 +3,7 @@ use Rattle.std.proofs.Common.{◌≡◌, List, ℕ, refl, ap}
 use Rattle.std.specs.Prelude.{None, Some, Result, Ok, Err, MatchResult}
 use Rattle.std.specs.Int.{from_be_bytes, w64}
 use Rattle.hex.specs.declared.error.FromHexError.{FromHexError}
-use Rattle.etcd_client.specs.Keys.{number_of}
+use Rattle.etcd_keys.specs.Keys.{number_of}
 
 abbrev Decodes : Result (List ℕ) FromHexError → Result (Unit {0}) FromHexError → List ℕ → Type 0
 Decodes decoded result bytes = MatchResult decoded (λ is. (result ≡ Ok tt) × (bytes ≡ is)) (λ fault. result ≡ Err fault)

@@ -4,7 +4,7 @@ use Rattle.etcd_cluster.specs.Worlds.{seen_pieces}
 use Rattle.etcd_client.specs.declared.call_log.CallLog.{CallLog}
 use Rattle.etcd_client.specs.declared.leading.Led.{Led}
 use Rattle.etcd_client.proofs.Answered.{may_be_by, moment_by, sent_by, stand_is, time_by}
-use Rattle.etcd_client.proofs.client.EtcdClusterCluster.look.Goals as goal
+use Rattle.etcd_client.proofs.cluster.EtcdClusterCluster.look.Goals as goal
 
 pub returns-clause-server : goal.returns-clause-server
 returns-clause-server g c =

@@ -3,7 +3,7 @@ use Rattle.etcd_cluster.specs.Calls.{Sent, Called}
 use Rattle.etcd_cluster.specs.Stands.{change_fact}
 use Rattle.etcd_client.specs.declared.leading.Led.{Led}
 use Rattle.etcd_client.proofs.Answered.{may_be_by, moment_by, sent_change, stand_is, time_by}
-use Rattle.etcd_client.proofs.client.EtcdClusterCluster.send.Goals as goal
+use Rattle.etcd_client.proofs.cluster.EtcdClusterCluster.send.Goals as goal
 
 pub returns-clause-server : goal.returns-clause-server
 returns-clause-server g c =

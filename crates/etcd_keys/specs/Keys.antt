@@ -1,5 +1,5 @@
 -- The keys of a list that stands under a prefix, and what its head says as bytes.
-use Rattle.std.specs.Prelude.{ℕ, List, ◌++◌, ◌==◌, ◌&&◌, ◌<◌, ◌^◌, length, nat_eq, bytes_eq, take, drop, codes, if◌then◌else◌, Option, None, Some, option_and_then, Result, Ok, Err}
+use Rattle.std.specs.Prelude.{ℕ, List, ◌++◌, ◌==◌, ◌&&◌, ◌<◌, ◌^◌, length, nat_eq, bytes_eq, take, drop, codes, if◌then◌else◌, Option, None, Some, option_and_then, Result, Ok, Err, Bool, not}
 use Rattle.std.specs.List.{starts_with}
 use Rattle.std.specs.Int.{w64, to_be_bytes, from_be_bytes}
 use Rattle.hex.specs.Hex.{decode_sized, encode_lower}
@@ -81,6 +81,10 @@ head_at bytes = record {
 -- A list that was copied to another cluster, as a snapshot is, has a head of the first one: it is none there.
 abbrev pub head_told : ℕ → List ℕ → Option Head
 head_told cluster bytes = if length bytes == 48 && number_at bytes 0 == cluster then Some (head_at bytes) else None
+
+-- bytes are a head, of another cluster than that one
+abbrev pub is_head_of_other : ℕ → List ℕ → Bool
+is_head_of_other cluster bytes = length bytes == 48 && not (number_at bytes 0 == cluster)
 
 -- each number of it is one of 64 bits
 pub record IsOfWords (head : Head) : Type 0 where

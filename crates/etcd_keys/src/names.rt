@@ -1,7 +1,7 @@
 //! The keys of a list, and what its head says as bytes.
 
-ghost use Rattle.std.specs.Prelude.{◌≡◌, ◌≤◌, ◌+◌, ◌++◌, IfOk, OnOk, bytes_eq, length};
-ghost use Rattle.etcd_client.specs.Keys.{before_key, behind_key, digits, first_key, head_bytes, head_key, head_told, last_key, leader_key, number_at, number_told, piece_key, place_told, worth};
+ghost use Rattle.std.specs.Prelude.{◌≡◌, ◌≤◌, ◌+◌, ◌++◌, IfOk, OnOk, bytes_eq, codes, length};
+ghost use Rattle.etcd_keys.specs.Keys.{before_key, behind_key, digits, first_key, head_bytes, head_key, head_told, is_head_of_other, last_key, leader_key, number_at, number_told, piece_key, place_told, worth};
 
 use etcd_cluster::change::Head;
 use hex::{decode_to_slice, encode, encode_to_slice};
@@ -56,6 +56,13 @@ fn number_told(text: &[u8]) -> Option<u64>
     }
 }
 
+/// Whether these bytes stand behind a prefix in the key of a head.
+fn is_of_head(rest: &[u8]) -> bool
+    ensures { result ≡ bytes_eq rest.now (codes "/head") }
+{
+    rest == b"/head".as_slice()
+}
+
 impl Names {
     /// Those of a list under this name.
     pub fn new(alloc: Global, name: &str) -> Result<Names, AllocError>
@@ -77,35 +84,45 @@ impl Names {
     }
 
     /// Who writes.
-    pub(crate) fn leader(&self, alloc: Global) -> Result<Vec<u8>, AllocError>
+    pub fn leader(&self, alloc: Global) -> Result<Vec<u8>, AllocError>
         ensures { IfOk result (λ key. key.items ≡ leader_key self.now.prefix.items) }
     {
         self.key(alloc, b"/leader")
     }
 
     /// The head.
-    pub(crate) fn head(&self, alloc: Global) -> Result<Vec<u8>, AllocError>
+    pub fn head(&self, alloc: Global) -> Result<Vec<u8>, AllocError>
         ensures { IfOk result (λ key. key.items ≡ head_key self.now.prefix.items) }
     {
         self.key(alloc, b"/head")
     }
 
+    /// Whether it is the key of the head.
+    pub fn is_head(&self, key: &[u8]) -> bool
+        ensures { result ≡ bytes_eq key.now (head_key self.now.prefix.items) }
+    {
+        if !key.starts_with(&self.prefix) {
+            return false;
+        }
+        is_of_head(&key[self.prefix.len()..])
+    }
+
     /// What the keys of all pieces begin with.
-    pub(crate) fn first(&self, alloc: Global) -> Result<Vec<u8>, AllocError>
+    pub fn first(&self, alloc: Global) -> Result<Vec<u8>, AllocError>
         ensures { IfOk result (λ key. key.items ≡ first_key self.now.prefix.items) }
     {
         self.key(alloc, b"/at/")
     }
 
     /// What stands behind them all.
-    pub(crate) fn last(&self, alloc: Global) -> Result<Vec<u8>, AllocError>
+    pub fn last(&self, alloc: Global) -> Result<Vec<u8>, AllocError>
         ensures { IfOk result (λ key. key.items ≡ last_key self.now.prefix.items) }
     {
         self.key(alloc, b"/at0")
     }
 
     /// What the keys of a generation begin with.
-    pub(crate) fn before(&self, alloc: Global, generation: u64) -> Result<Vec<u8>, AllocError>
+    pub fn before(&self, alloc: Global, generation: u64) -> Result<Vec<u8>, AllocError>
         ensures { IfOk result (λ key. key.items ≡ before_key self.now.prefix.items generation) }
     {
         let mut key = self.first(alloc)?;
@@ -115,7 +132,7 @@ impl Names {
     }
 
     /// What stands behind them.
-    pub(crate) fn behind(&self, alloc: Global, generation: u64) -> Result<Vec<u8>, AllocError>
+    pub fn behind(&self, alloc: Global, generation: u64) -> Result<Vec<u8>, AllocError>
         ensures { IfOk result (λ key. key.items ≡ behind_key self.now.prefix.items generation) }
     {
         let mut key = self.first(alloc)?;
@@ -125,12 +142,7 @@ impl Names {
     }
 
     /// The piece of a generation at that place.
-    pub(crate) fn piece(
-        &self,
-        alloc: Global,
-        generation: u64,
-        at: u64,
-    ) -> Result<Vec<u8>, AllocError>
+    pub fn piece(&self, alloc: Global, generation: u64, at: u64) -> Result<Vec<u8>, AllocError>
         ensures { IfOk result (λ key. key.items ≡ piece_key self.now.prefix.items generation at) }
     {
         let mut key = self.before(alloc, generation)?;
@@ -140,7 +152,7 @@ impl Names {
 }
 
 /// The place of a piece, by its key and what those of its generation begin with.
-pub(crate) fn place_told(before: &[u8], key: &[u8]) -> Option<u64>
+pub fn place_told(before: &[u8], key: &[u8]) -> Option<u64>
     ensures { result ≡ place_told before.now key.now }
 {
     if !key.starts_with(before) {
@@ -150,7 +162,7 @@ pub(crate) fn place_told(before: &[u8], key: &[u8]) -> Option<u64>
 }
 
 /// What a head says, as 48 bytes, in that cluster.
-pub(crate) fn head_bytes(alloc: Global, cluster: u64, head: &Head) -> Result<Vec<u8>, AllocError>
+pub fn head_bytes(alloc: Global, cluster: u64, head: &Head) -> Result<Vec<u8>, AllocError>
     ensures { IfOk result (λ bytes. bytes.items ≡ head_bytes cluster head.now) }
 {
     let mut bytes = Vec::new(alloc);
@@ -173,8 +185,15 @@ fn number_at(bytes: &[u8], at: usize) -> u64
     u64::from_be_bytes(part)
 }
 
+/// Whether bytes are a head that was put in another cluster than that one.
+pub fn is_head_of_other(cluster: u64, bytes: &[u8]) -> bool
+    ensures { result ≡ is_head_of_other cluster bytes.now }
+{
+    bytes.len() == 48 && number_at(bytes, 0) != cluster
+}
+
 /// The head that bytes say, if they are one of that cluster.
-pub(crate) fn head_told(cluster: u64, bytes: &[u8]) -> Option<Head>
+pub fn head_told(cluster: u64, bytes: &[u8]) -> Option<Head>
     ensures { result ≡ head_told cluster bytes.now }
 {
     if bytes.len() != 48 || number_at(bytes, 0) != cluster {

@@ -1,8 +1,8 @@
 use Rattle.std.proofs.Common.{◌∙◌, ap}
 use Rattle.std.specs.Prelude.{Some}
 use Rattle.hex.specs.Hex.{decode_sized}
-use Rattle.etcd_client.proofs.Numbers.{number_err, number_ok}
-use Rattle.etcd_client.proofs.names.worth.Goals as goal
+use Rattle.etcd_keys.proofs.Numbers.{number_err, number_ok}
+use Rattle.etcd_keys.proofs.names.worth.Goals as goal
 
 pub returns-in-Ok : goal.returns-in-Ok
 returns-in-Ok c =

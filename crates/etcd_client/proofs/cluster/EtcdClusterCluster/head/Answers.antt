@@ -2,7 +2,7 @@ use Rattle.std.proofs.Common.{◌≡◌, ◌∷◌, ap}
 use Rattle.etcd_cluster.specs.Calls.{AskedHead, Called}
 use Rattle.etcd_client.specs.declared.leading.Led.{Led}
 use Rattle.etcd_client.proofs.Answered.{may_be_by, moment_by, sent_by, stand_is, time_by}
-use Rattle.etcd_client.proofs.client.EtcdClusterCluster.head.Goals as goal
+use Rattle.etcd_client.proofs.cluster.EtcdClusterCluster.head.Goals as goal
 
 pub returns-clause-server : goal.returns-clause-server
 returns-clause-server g c =

@@ -1,0 +1,38 @@
+use Rattle.std.proofs.Common.{rules, ◌≡◌, ◌∙◌, inl, inr, List, ℕ, refl, subst}
+use Rattle.std.specs.Prelude.{Err, Ok, Option, None}
+use Rattle.etcd_json.specs.Requests.{TransactionFact, transaction_text}
+use Rattle.etcd_client.specs.Asked.{leader_asked}
+use Rattle.etcd_client.specs.Exchanges.{Asks, cluster_told, reply_question}
+use Rattle.etcd_client.specs.declared.members.AskFault.TheVariants.{Unclear}
+use Rattle.etcd_client.proofs.Exchanged.{asks_fault, asks_given}
+use Rattle.etcd_client.proofs.leading.cluster_of.Goals as goal
+
+pub returns-in_err-text : goal.returns-in_err-text
+returns-in_err-text g c =
+    let is : c.from_residual.result ≡ Err Unclear = search rules in
+    inr (is, refl)
+
+pub returns-in_err-reply : goal.returns-in_err-reply
+returns-in_err-reply g c =
+    let D = g.M.Members in
+    let known : Option ℕ = None in
+    let transaction : TransactionFact = leader_asked c.args.names.now.prefix.items in
+    let text : c.deref.result.now ≡ transaction_text transaction = c.deref.ensures.value ∙ c.in_ok-text.ensures in
+    let before = D.exchanges c.args.members.now in
+    let after = D.exchanges c.transact.new.members in
+    let fault = c.in_err-reply.field-0.0 in
+    let is : c.from_residual-in_err-reply.result ≡ Err fault = search rules in
+    rw is (inl (asks_fault known transaction (λ (cluster : ℕ). cluster) cluster_told before after fault
+    (subst (λ (t : List ℕ). Asks (reply_question known t) (Err fault) before after) text c.in_err-reply.ensures)))
+
+pub returns : goal.returns
+returns g c =
+    let D = g.M.Members in
+    let known : Option ℕ = None in
+    let transaction : TransactionFact = leader_asked c.args.names.now.prefix.items in
+    let text : c.deref.result.now ≡ transaction_text transaction = c.deref.ensures.value ∙ c.in_ok-text.ensures in
+    let before = D.exchanges c.args.members.now in
+    let after = D.exchanges c.transact.new.members in
+    let reply = c.in_ok-reply.reply in
+    inl (asks_given known transaction (λ (cluster : ℕ). cluster) cluster_told before after reply reply.header.cluster refl
+    (subst (λ (t : List ℕ). Asks (reply_question known t) (Ok reply) before after) text c.in_ok-reply.ensures))
