@@ -1,0 +1,80 @@
+use Rattle.std.proofs.Common.{◌≡◌, ◌≤◌, ℕ, List, subst}
+use Rattle.std.specs.Prelude.{OnOk}
+use Rattle.batch_file.specs.Crashes.{Elapses, HasCause, IsBeside, IsFailure}
+use Rattle.cluster_device.proofs.Counted.{beside_ok, counted_works, on_ok}
+use Rattle.cluster_file.specs.Devices.{has_left, leaves}
+use Rattle.cluster_device.specs.Failing.{Failing}
+use Rattle.cluster_file.specs.Files.{IsSoleBy, next_of, seen_of}
+use Rattle.etcd_cluster.specs.Calls.{AreTrue}
+use Rattle.batch_file.specs.declared.device.DeviceFault.TheVariants.{Memory}
+use Rattle.cluster_device.proofs.device.ClusterDeviceDevice.confirm.Goals as goal
+
+pub ask_head-told-requires : goal.ask_head-told-requires
+ask_head-told-requires g c =
+    c.self.invariant.0
+
+pub invariant_of-self : goal.invariant_of-self
+invariant_of-self g c =
+    let D = g.C.Cluster in
+    let o = c.self.inside.file in
+    let n = c.self.inside.failures in
+    let f = c.ask_head-told.new.self in
+    let m = c.counted.new.failures in
+    let r = c.counted.result in
+    let k = c.counted.ensures in
+    counted_works IsFailure Memory D o f n m c.ask_head-told.result r c.self.invariant c.ask_head-told.ensures.goes_on c.ask_head-told.ensures.loses k
+
+pub returns-clause-sole : goal.returns-clause-sole
+returns-clause-sole g c =
+    let D = g.C.Cluster in
+    let n = c.self.inside.failures in
+    let f = c.ask_head-told.new.self in
+    let m = c.counted.new.failures in
+    let r = c.counted.result in
+    let k = c.counted.ensures in
+    subst (λ (v : Failing _). OnOk r ((t : ℕ) → t ≤ D.moment v.file.cluster → IsSoleBy D f.cluster t)) c.self.view_is
+    (on_ok IsFailure Memory n m c.ask_head-told.result r _ k c.ask_head-told.ensures.sole)
+
+pub returns-clause-beside : goal.returns-clause-beside
+returns-clause-beside g c =
+    let D = g.C.Cluster in
+    let o = c.self.inside.file in
+    let n = c.self.inside.failures in
+    let f = c.ask_head-told.new.self in
+    let m = c.counted.new.failures in
+    let r = c.counted.result in
+    let k = c.counted.ensures in
+    subst (λ (v : Failing _). OnOk r (IsBeside (λ (d : Failing _). seen_of D d.file) (λ d. leaves D d.file) (λ d. d.failures) v (record { file = f; failures = m })))
+    c.self.view_is (beside_ok D o f n m c.ask_head-told.result r k c.ask_head-told.ensures.seen)
+
+pub returns-clause-crash : goal.returns-clause-crash
+returns-clause-crash g c =
+    let D = g.C.Cluster in
+    let f = c.ask_head-told.new.self in
+    subst (λ (v : Failing _). (left : List ℕ) → leaves D f left → leaves D v.file left) c.self.view_is (c.ask_head-told.ensures.seen.crash)
+
+pub returns-clause-time : goal.returns-clause-time
+returns-clause-time g c =
+    let D = g.C.Cluster in
+    let f = c.ask_head-told.new.self in
+    subst (λ (v : Failing _). Elapses (D.moment v.file.cluster) (D.moment f.cluster) (has_left D v.file) (has_left D f) (leaves D f)) c.self.view_is
+    (c.ask_head-told.ensures.goes_on.time)
+
+pub returns-clause-cause : goal.returns-clause-cause
+returns-clause-cause g c =
+    let m = c.counted.new.failures in
+    let r = c.counted.result in
+    let k = c.counted.ensures in
+    subst (λ (v : Failing _). HasCause IsFailure v.failures m r) c.self.view_is (k.cause)
+
+pub returns-clause-next : goal.returns-clause-next
+returns-clause-next g c =
+    let D = g.C.Cluster in
+    let f = c.ask_head-told.new.self in
+    subst (λ (v : Failing _). next_of D f ≡ next_of D v.file) c.self.view_is (c.ask_head-told.ensures.next)
+
+pub returns-clause-truth : goal.returns-clause-truth
+returns-clause-truth g c =
+    let D = g.C.Cluster in
+    let f = c.ask_head-told.new.self in
+    subst (λ (v : Failing _). AreTrue (D.calls f.cluster) → AreTrue (D.calls v.file.cluster)) c.self.view_is (c.ask_head-told.ensures.goes_on.truth)

@@ -1,0 +1,9 @@
+pub mod Files
+pub mod Moments
+pub mod Runs
+pub mod Nexts
+pub mod Places
+pub mod Devices
+pub mod Looks
+pub mod Opened
+pub mod Causes
