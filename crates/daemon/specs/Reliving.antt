@@ -1,6 +1,5 @@
 -- One life behind another.
 use Rattle.std.specs.Prelude.{◌≡◌, ℕ, List, [], ◌∷◌, Option, None, IfSome, Ok}
-use Rattle.batch_file.specs.declared.device.Device.{Ghosts as Device}
 use Rattle.clients.specs.Registry.{registry_in}
 use Rattle.clients.specs.RegistryRecord.{RegistryRecord}
 use Rattle.outside.specs.declared.journal.Journal.{Ghosts as Journal}
@@ -8,12 +7,10 @@ use Rattle.daemon.specs.declared.starting.Pace.{Pace}
 use Rattle.lifetime.specs.declared.life.LifeEnd.{LifeEnd}
 use Rattle.lifetime.specs.declared.life.LifeEnd.TheVariants.{ClockAhead, Refused, Stopped, Unopened}
 use Rattle.state_file.specs.declared.fault.StateFault.{StateFault}
-use Rattle.std.specs.declared.fs.File.{File}
 use Rattle.desk.specs.Replies.{IsGrantedReply, IsStateReply}
-use Rattle.disk_file.specs.declared.file.DiskFile.{DiskFile}
 use Rattle.daemon.specs.Calls.{Logged, Replied}
 use Rattle.daemon.specs.Reloading.{reloaded_by}
-use Rattle.daemon.specs.Starts.{LivesOn, MachineLife, handed_on, lived_of}
+use Rattle.daemon.specs.Starts.{LivesOn, MachineLife, Opens, handed_on, lived_of}
 use Rattle.line_journal.specs.declared.line_journal.LineJournal.{LineJournal}
 use Rattle.daemon.specs.declared.machine_random.MachineRandom.{MachineRandom}
 use Rattle.ports.specs.Passing.{KeepsWaiting}
@@ -23,7 +20,7 @@ use Rattle.daemon.specs.declared.reloads.Heirs.{Heirs}
 use Rattle.daemon.specs.declared.reloads.Reloads.{Reloads}
 
 -- what a life leaves to another one
-abbrev pub estate_of : {R E B : Type 0} → MachineLife R E B → Estate R E B
+abbrev pub estate_of : {R E D : Type 0} → MachineLife R E D → Estate E D
 estate_of life = record { device = life.device.device; ports = life.sockets.ports; config = life.sockets.reloads.config; journal = life.journal }
 
 -- A server is to be reloaded by the operator's key of its registry, beside a text that says that registry; and no reload is wanted yet.
@@ -34,8 +31,8 @@ pub record AreOf {R : Type 0} (registry : RegistryRecord) (reloads : Reloads R) 
 
 -- A life goes by an heir's registry, which its text says, with no hooks but those of its state. All connections that were handed on
 -- wait to be accepted, and it is to be reloaded from the same file. That its state is the one that was left, this does not say.
-pub record LivesAs {R E B : Type 0} (disk : Device (DiskFile R File B)) (journal : Journal (LineJournal E)) (pace : Pace) (heir : Heir R) (estate : Estate R E B)
-    (life : MachineLife R E B) : Type 0 where
+pub record LivesAs {R E D : Type 0} (disk : Opens D) (journal : Journal (LineJournal E)) (pace : Pace) (heir : Heir R) (estate : Estate E D)
+    (life : MachineLife R E D) : Type 0 where
   pub random : MachineRandom R
   pub lives : LivesOn disk journal (handed_on heir.candidate.registry [] pace) (lived_of life random)
   pub passed : KeepsWaiting estate.ports lives.means.sockets.ports
@@ -53,8 +50,8 @@ IsToldOf registry old new Unopened = ⊥
 
 -- It goes on by the next heir's registry; or that life is refused, and it goes back, with the connections that it handed on, to the
 -- former one's. Who asked is told of the next one's end.
-pub data Relives {R E B : Type 0} (disk : Device (DiskFile R File B)) (journal : Journal (LineJournal E)) (pace : Pace) (heirs : Heirs R) (estate : Estate R E B)
-    (Tells : LifeEnd → Type 0) : MachineLife R E B → Type 0 where
-  by_next : (life : MachineLife R E B) → LivesAs disk journal pace heirs.next estate life → Tells life.end → Relives disk journal pace heirs estate Tells life
-  by_former : (tried life : MachineLife R E B) (fault : StateFault) → LivesAs disk journal pace heirs.next estate tried → tried.end ≡ Refused fault → Tells tried.end →
+pub data Relives {R E D : Type 0} (disk : Opens D) (journal : Journal (LineJournal E)) (pace : Pace) (heirs : Heirs R) (estate : Estate E D)
+    (Tells : LifeEnd → Type 0) : MachineLife R E D → Type 0 where
+  by_next : (life : MachineLife R E D) → LivesAs disk journal pace heirs.next estate life → Tells life.end → Relives disk journal pace heirs estate Tells life
+  by_former : (tried life : MachineLife R E D) (fault : StateFault) → LivesAs disk journal pace heirs.next estate tried → tried.end ≡ Refused fault → Tells tried.end →
       LivesAs disk journal pace heirs.former (estate_of tried) life → Relives disk journal pace heirs estate Tells life

@@ -1,10 +1,7 @@
 -- What comes of a server that is started on the machine.
-use Rattle.std.specs.Prelude.{◌≡◌, ℕ, List, []}
+use Rattle.std.specs.Prelude.{◌≡◌, ℕ, List, [], map}
 use Rattle.lifetime.specs.declared.life.LifeEnd.{LifeEnd}
-use Rattle.std.specs.declared.fs.File.{File}
-use Rattle.disk_file.specs.Calls.{only_opened}
 use Rattle.batch_file.specs.declared.device.Device.{Ghosts as Device}
-use Rattle.disk_file.specs.declared.file.DiskFile.{DiskFile}
 use Rattle.clients.specs.RegistryRecord.{RegistryRecord}
 use Rattle.endpoints.specs.Server.{outset_of}
 use Rattle.event_loop.specs.LoopStates.{promises}
@@ -13,7 +10,7 @@ use Rattle.outside.specs.declared.journal.Journal.{Ghosts as Journal}
 use Rattle.outside.specs.declared.sockets.Sockets.{Ghosts as Sockets}
 use Rattle.hook_chain.specs.Chains.{Named}
 use Rattle.hook_chain.specs.contracts.chain.ChainHookHost.TheImpl as chain
-use Rattle.rules_codec.specs.Facts.{HookFact}
+use Rattle.rules_codec.specs.Facts.{HookFact, hook_fact}
 use Rattle.lifetime.specs.Anew.{IsLifeAnew, keeping_nothing}
 use Rattle.lifetime.specs.Given.{given, life_promises}
 use Rattle.lifetime.specs.Lives.{IsLife}
@@ -30,6 +27,8 @@ use Rattle.daemon.specs.declared.sockets.MachineSockets.{MachineSockets}
 use Rattle.line_journal.specs.Reporting.{due_each}
 use Rattle.daemon.specs.declared.starting.Pace.{Pace}
 use Rattle.daemon.specs.declared.starting.Served.{Served}
+use Rattle.daemon.specs.declared.starting.StateTerms.{StateTerms}
+use Rattle.daemon.specs.declared.starting.Terms.{Terms}
 
 -- the machine's sockets note all that they do, and its clocks all that they tell
 abbrev pub noting_sockets : {R : Type 0} → Sockets (MachineSockets R)
@@ -65,7 +64,7 @@ pub record ServesAnew {R E : Type 0} (journal : Journal (LineJournal E)) (handed
   pub life : IsLifeAnew (promises noting_sockets noting_clocks journal keeping_nothing chain.ghosts) (outset_of handed.registry handed.hooks) means
       (record { fault = served.fault; sockets = served.sockets; clocks = served.clocks; journal = lines })
 
--- ON THE FILE OF ITS STATE
+-- ON WHAT KEEPS ITS STATE
 
 -- what a server is started with: its registry, the code of each hook, and its pace
 pub record HandedOn : Type 0 where
@@ -76,34 +75,46 @@ pub record HandedOn : Type 0 where
 abbrev pub handed_on : RegistryRecord → List HookFact → Pace → HandedOn
 handed_on registry hooks pace = record { registry = registry; hooks = hooks; pace = pace }
 
+-- by a registry, by where and how it serves, and by the hooks that it is to have
+abbrev pub handed_by : RegistryRecord → Terms → StateTerms → HandedOn
+handed_by registry terms state = handed_on registry (map hook_fact state.hooks.now) terms.pace
+
+-- what keeps a server's state, as a device, and when it was opened, and asked for nothing else: it had these bytes, or begins with them,
+-- where it was not read to its end
+pub record Opens (D : Type 0) : Type 1 where
+  pub device : Device D
+  pub is_opened : D → List ℕ → Type 0
+
+abbrev pub opens : {D : Type 0} → Device D → (D → List ℕ → Type 0) → Opens D
+opens device is_opened = record { device = device; is_opened = is_opened }
+
 -- what is left of a life: how it ended, and what it was handed by the machine
-pub record Lived (R B : Type 0) : Type 0 where
+pub record Lived (R D : Type 0) : Type 0 where
   pub end : LifeEnd
-  pub device : TimedDisk R (DiskFile R File B)
+  pub device : TimedDisk R D
   pub sockets : MachineSockets R
   pub clocks : MachineClocks R
   pub random : MachineRandom R
 
 -- a life over the machine
 abbrev pub MachineLife : Type 0 → Type 0 → Type 0 → Type 0
-MachineLife R E B = Life (TimedDisk R (DiskFile R File B)) (MachineSockets R) (MachineClocks R) (LineJournal E)
+MachineLife R E D = Life (TimedDisk R D) (MachineSockets R) (MachineClocks R) (LineJournal E)
 
-abbrev pub lived_of : {R E B : Type 0} → MachineLife R E B → MachineRandom R → Lived R B
+abbrev pub lived_of : {R E D : Type 0} → MachineLife R E D → MachineRandom R → Lived R D
 lived_of life random = record { end = life.end; device = life.device; sockets = life.sockets; clocks = life.clocks; random = random }
 
--- the file was opened, and asked for nothing else: it had these bytes, or begins with them, where it was not read to its end. Over
--- it, the machine's sockets and clocks, and with some journal, the server lived
-pub record LivesOn {R E B : Type 0} (disk : Device (DiskFile R File B)) (journal : Journal (LineJournal E)) (handed : HandedOn) (lived : Lived R B) : Type 0 where
-  pub file : TimedDisk R (DiskFile R File B)
+-- What keeps the state was opened. Over it, the machine's sockets and clocks, and with some journal, the server lived.
+pub record LivesOn {R E D : Type 0} (disk : Opens D) (journal : Journal (LineJournal E)) (handed : HandedOn) (lived : Lived R D) : Type 0 where
+  pub file : TimedDisk R D
   pub bytes : List ℕ
-  pub is_opened : file.device.log.calls ≡ only_opened bytes
+  pub is_opened : disk.is_opened file.device bytes
   pub means : Means (MachineSockets R) (MachineClocks R) (LineJournal E)
   pub fresh : IsFresh means handed.pace
   pub seeded : IsSeeded lived.random means.generator
   pub lines : LineJournal E
-  pub life : IsLife (life_promises (timed disk) noting_sockets noting_clocks journal) (given file bytes handed.registry handed.hooks means)
+  pub life : IsLife (life_promises (timed disk.device) noting_sockets noting_clocks journal) (given file bytes handed.registry handed.hooks means)
       (record { end = lived.end; device = lived.device; sockets = lived.sockets; clocks = lived.clocks; journal = lines })
 
 -- a life went so, on the file as it was found
-abbrev pub HasLivedBy : {R E B : Type 0} → Device (DiskFile R File B) → Journal (LineJournal E) → HandedOn → MachineLife R E B → Type 0
+abbrev pub HasLivedBy : {R E D : Type 0} → Opens D → Journal (LineJournal E) → HandedOn → MachineLife R E D → Type 0
 HasLivedBy {R} disk journal handed life = (random : MachineRandom R) × LivesOn disk journal handed (lived_of life random)

@@ -27,5 +27,7 @@ pub use machine_random::MachineRandom;
 pub use ports::{ListenFault, SocketFault};
 pub use reports::report_text;
 pub use sockets::MachineSockets;
-pub use starting::{Pace, Served, ServedOn, StateTerms, Terms, start, start_on};
+pub use starting::{
+    Opened, Pace, Served, ServedOn, StateTerms, Terms, start, start_on, start_on_file,
+};
 pub use timed_disk::TimedDisk;

@@ -1,10 +1,11 @@
-//! One life behind another, on the same file and by the same sockets.
+//! One life behind another, on what keeps the state, and by the same sockets.
 
 ghost use Rattle.std.specs.Prelude.{◌≡◌, ◌↔◌, None, IsTrue, IfOk, IfErr};
 ghost use Rattle.lifetime.specs.Openings.{IsOpenedBy};
 ghost use Rattle.daemon.specs.Onward.{EndsForReload, Follows, LivesTo};
 ghost use Rattle.daemon.specs.Reloading.{IsGranted};
 ghost use Rattle.daemon.specs.Reliving.{IsToldOf, LivesAs, Relives, estate_of};
+ghost use Rattle.daemon.specs.Starts.{opens};
 
 use crate::call_log::CallLog;
 use crate::machine_clocks::MachineClocks;
@@ -13,9 +14,8 @@ use crate::resumption::Resumption;
 use crate::sockets::{Left, MachineSockets};
 use crate::starting::{Begun, Pace, means_of};
 use crate::timed_disk::TimedDisk;
-use batch_file::device::Device;
+use batch_file::device_source::DeviceSource;
 use desk::{Candidate, Reloaded};
-use disk_file::{Before, DiskFile, DiskSource};
 use event_loop::{Journal, LoopFault};
 use lifetime::{Life, LifeEnd, Planned, live, plan_of};
 use line_journal::LineJournal;
@@ -26,12 +26,9 @@ use std::net::Net;
 use std::random::RandomSource;
 use std::rt::{Clock, Files};
 
-/// The file of a server's state, and how long its syncs take.
-type Disk<'r, R, B> = TimedDisk<'r, R, DiskFile<'r, R, File, B>>;
-
 /// A life over the machine.
-type MachineLife<'r, 'w, 'e, R, E, B> = Life<
-    Disk<'r, R, B>,
+type MachineLife<'r, 'w, 'e, R, E, D> = Life<
+    TimedDisk<'r, R, D>,
     MachineSockets<'r, 'w, R>,
     MachineClocks<'r, R>,
     LineJournal<'e, E>,
@@ -39,8 +36,8 @@ type MachineLife<'r, 'w, 'e, R, E, B> = Life<
 
 /// What a life leaves to another one.
 #[derive(Drop)]
-struct Estate<'r, 'w, 'e, R, E, B> {
-    device: DiskFile<'r, R, File, B>,
+struct Estate<'w, 'e, E, D> {
+    device: D,
     ports: Ports,
     config: Option<&'w str>,
     journal: LineJournal<'e, E>,
@@ -48,8 +45,8 @@ struct Estate<'r, 'w, 'e, R, E, B> {
 
 /// A life, and what those were replied who asked for the reloads before it.
 #[derive(Drop)]
-pub(crate) struct Relived<'r, 'w, 'e, R, E, B> {
-    pub life: MachineLife<'r, 'w, 'e, R, E, B>,
+pub(crate) struct Relived<'r, 'w, 'e, R, E, D> {
+    pub life: MachineLife<'r, 'w, 'e, R, E, D>,
     pub replies: CallLog,
 }
 
@@ -67,9 +64,7 @@ fn is_for_reload(end: &LifeEnd) -> bool
 }
 
 /// What a life leaves to another one.
-fn estate_of<'r, 'w, 'e, R, E, B>(
-    life: MachineLife<'r, 'w, 'e, R, E, B>,
-) -> Estate<'r, 'w, 'e, R, E, B>
+fn estate_of<'r, 'w, 'e, R, E, D>(life: MachineLife<'r, 'w, 'e, R, E, D>) -> Estate<'w, 'e, E, D>
     ensures { result ≡ estate_of life.entry }
 {
     let Life {
@@ -95,21 +90,21 @@ fn live_by<
     'e,
     R: Files<File = File> + Net + Clock + RandomSource + AllocGlobal,
     E: Write,
-    B: Before,
+    S: DeviceSource,
 >(
     rt: &'r R,
     pace: Pace,
     heir: Heir<'r, R>,
-    estate: Estate<'r, 'w, 'e, R, E, B>,
+    estate: Estate<'w, 'e, E, S::File>,
     opening: &mut Resumption,
-) -> MachineLife<'r, 'w, 'e, R, E, B>
-    ensures lives { LivesAs ⟦<DiskFile<'r, R, File, B> as Device>⟧ ⟦<LineJournal<'e, E> as Journal>⟧ pace heir.entry estate.entry result }
+) -> MachineLife<'r, 'w, 'e, R, E, S::File>
+    ensures lives { LivesAs (opens S.File.Device S.is_opened) ⟦<LineJournal<'e, E> as Journal>⟧ pace heir.entry estate.entry result }
     ensures opened { IsOpenedBy IsGranted opening.old result.end opening.new }
 {
     let Heir { candidate, drawn } = heir;
     let Candidate { text, registry } = candidate;
     let reloads = Reloads::new(rt, estate.config, registry.operator_key(), text);
-    let file = DiskSource::again(estate.device);
+    let file = S::again(estate.device);
     let Planned { source, plan } = plan_of(rt.alloc(), file, registry, &[]);
     let mut ports = estate.ports;
     ports.ask();
@@ -131,21 +126,21 @@ fn follow<
     'e,
     R: Files<File = File> + Net + Clock + RandomSource + AllocGlobal,
     E: Write,
-    B: Before,
+    S: DeviceSource,
 >(
     rt: &'r R,
     pace: Pace,
-    estate: Estate<'r, 'w, 'e, R, E, B>,
+    estate: Estate<'w, 'e, E, S::File>,
     wanted: Wanted<'r, R>,
     replies: CallLog,
-) -> Relived<'r, 'w, 'e, R, E, B>
-    ensures { Relives ⟦<DiskFile<'r, R, File, B> as Device>⟧ ⟦<LineJournal<'e, E> as Journal>⟧ pace wanted.entry.heirs
+) -> Relived<'r, 'w, 'e, R, E, S::File>
+    ensures { Relives (opens S.File.Device S.is_opened) ⟦<LineJournal<'e, E> as Journal>⟧ pace wanted.entry.heirs
         estate.entry (IsToldOf wanted.entry.heirs.next.candidate.registry replies.calls result.replies.calls) result.life }
 {
     let Heirs { next, former } = wanted.heirs;
     let reloaded = Reloaded::of(&next.candidate.registry);
     let mut opening = Resumption::new(rt.alloc(), wanted.asker, reloaded, replies);
-    let tried = live_by::<R, E, B>(rt, pace, next, estate, &mut opening);
+    let tried = live_by::<R, E, S>(rt, pace, next, estate, &mut opening);
     let LifeEnd::Refused(fault) = &tried.end else {
         let replies = opening.into_log();
         return Relived {
@@ -154,7 +149,7 @@ fn follow<
         };
     };
     opening.refuse(fault);
-    let life = live_by::<R, E, B>(rt, pace, former, estate_of(tried), &mut opening);
+    let life = live_by::<R, E, S>(rt, pace, former, estate_of(tried), &mut opening);
     let replies = opening.into_log();
     Relived { life, replies }
 }
@@ -166,14 +161,14 @@ fn relive<
     'e,
     R: Files<File = File> + Net + Clock + RandomSource + AllocGlobal,
     E: Write,
-    B: Before,
+    S: DeviceSource,
 >(
     rt: &'r R,
     pace: Pace,
-    one: Relived<'r, 'w, 'e, R, E, B>,
-) -> Result<Relived<'r, 'w, 'e, R, E, B>, Relived<'r, 'w, 'e, R, E, B>>
+    one: Relived<'r, 'w, 'e, R, E, S::File>,
+) -> Result<Relived<'r, 'w, 'e, R, E, S::File>, Relived<'r, 'w, 'e, R, E, S::File>>
     ensures follows { IfOk result
-        (Follows ⟦<DiskFile<'r, R, File, B> as Device>⟧ ⟦<LineJournal<'e, E> as Journal>⟧ pace one.entry) }
+        (Follows (opens S.File.Device S.is_opened) ⟦<LineJournal<'e, E> as Journal>⟧ pace one.entry) }
     ensures same { IfErr result (λ last. last ≡ one.entry) }
     ensures over { IfErr result (λ last. EndsForReload last.life.end → last.life.sockets.reloads.wanted ≡ None) }
 {
@@ -184,7 +179,7 @@ fn relive<
     let Some(wanted) = life.sockets.take_wanted() else {
         return Err(Relived { life, replies });
     };
-    Ok(follow::<R, E, B>(rt, pace, estate_of(life), wanted, replies))
+    Ok(follow::<R, E, S>(rt, pace, estate_of(life), wanted, replies))
 }
 
 /// Lives on behind a first life, as long as reloads are wanted. It gives the last life.
@@ -194,16 +189,20 @@ pub(crate) fn live_on<
     'e,
     R: Files<File = File> + Net + Clock + RandomSource + AllocGlobal,
     E: Write,
-    B: Before,
->(rt: &'r R, pace: Pace, first: MachineLife<'r, 'w, 'e, R, E, B>) -> Relived<'r, 'w, 'e, R, E, B>
-    ensures { LivesTo ⟦<DiskFile<'r, R, File, B> as Device>⟧ ⟦<LineJournal<'e, E> as Journal>⟧ pace first.entry result }
+    S: DeviceSource,
+>(
+    rt: &'r R,
+    pace: Pace,
+    first: MachineLife<'r, 'w, 'e, R, E, S::File>,
+) -> Relived<'r, 'w, 'e, R, E, S::File>
+    ensures { LivesTo (opens S.File.Device S.is_opened) ⟦<LineJournal<'e, E> as Journal>⟧ pace first.entry result }
 {
     let mut one = Relived {
         life: first,
         replies: CallLog::new(),
     };
     for _nth in 0..u64::MAX {
-        one = match relive::<R, E, B>(rt, pace, one) {
+        one = match relive::<R, E, S>(rt, pace, one) {
             Ok(next) => next,
             Err(last) => return last,
         };

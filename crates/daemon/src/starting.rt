@@ -1,17 +1,16 @@
 //! Connections until the program is stopped.
 
-ghost use Rattle.std.specs.Prelude.{◌≡◌, ◌≢◌, ◌⊎◌, [], OnOk, OnErr, IfOk, IfErr, map};
+ghost use Rattle.std.specs.Prelude.{◌≡◌, ◌≢◌, ◌⊎◌, [], OnOk, OnErr, IfOk, IfErr, IfSome, IsSome};
 ghost use Rattle.daemon.specs.Listening.{IsToldBy};
 ghost use Rattle.ports.specs.Listening.{Announces};
 ghost use Rattle.daemon.specs.Seeds.{IsSeeded};
 ghost use Rattle.daemon.specs.Onward.{LivesInRow};
-ghost use Rattle.daemon.specs.Starts.{IsFresh, ServesAnew, handed_anew, handed_on};
-ghost use Rattle.ports.specs.declared.fault.ListenFault.TheVariants.{Unwritten};
+ghost use Rattle.daemon.specs.Starts.{IsFresh, ServesAnew, handed_anew, handed_by, opens};
+ghost use Rattle.ports.specs.declared.fault.ListenFault.TheVariants.{NoSeed, Unwritten};
 ghost use Rattle.outside.specs.declared.fault.LoopFault.TheVariants.{Keep};
 ghost use Rattle.lifetime.specs.Given.{life_promises};
 ghost use Rattle.lifetime.specs.Lives.{LivesBy};
 ghost use Rattle.state_keeper.specs.Starting.{HasFront};
-ghost use Rattle.rules_codec.specs.Facts.{hook_fact};
 ghost use Rattle.line_journal.specs.Auditing.{IsTold, MayBeUntold};
 
 use crate::announcement::Announcement;
@@ -25,9 +24,10 @@ use crate::reloads::Reloads;
 use crate::sockets::MachineSockets;
 use crate::timed_disk::TimedDisk;
 use batch_file::device::Device;
+use batch_file::device_source::DeviceSource;
 use clients::Registry;
 use desk::Candidate;
-use disk_file::{Before, DiskFile};
+use disk_file::{Before, DiskFile, DiskSource};
 use event_loop::{Clocks, Journal, Limits, LoopFault, Sockets};
 use hook_chain::Chain;
 use lifetime::{AnewEnd, Life, LifeEnd, Means, Opening, Plan, Planned, live, live_anew, plan_of};
@@ -58,10 +58,10 @@ pub struct Terms<'w> {
     pub pace: Pace,
 }
 
-/// The file on which a server is started, by its path, and that of its registry; and the hooks that it is to have.
+/// What keeps the state on which a server is started, by its name, the path of its registry's file, and the hooks that it is to have.
 #[derive(Clone, Copy)]
 pub struct StateTerms<'p, 'w, 'h> {
-    pub path: &'p str,
+    pub name: &'p str,
     pub config: &'w str,
     pub hooks: &'h [KeptHook<'h>],
 }
@@ -76,12 +76,20 @@ pub struct Served<'r, R> {
     pub random: MachineRandom<'r, R>,
 }
 
-/// What is left of a server that was started on the file of its state and can't go on: how its last life ended, and what that was
-/// handed by the machine.
+/// What a server is started with: its registry, what is read of its state, and where it listens, if it does by then.
 #[derive(Drop)]
-pub struct ServedOn<'r, 'w, R, B> {
+pub struct Opened<S> {
+    pub candidate: Candidate,
+    pub source: S,
+    pub ports: Option<Ports>,
+}
+
+/// What is left of a server that was started on its state and can't go on: how its last life ended, and what that was handed by the
+/// machine.
+#[derive(Drop)]
+pub struct ServedOn<'r, 'w, R, D> {
     pub end: LifeEnd,
-    pub device: TimedDisk<'r, R, DiskFile<'r, R, File, B>>,
+    pub device: TimedDisk<'r, R, D>,
     pub sockets: MachineSockets<'r, 'w, R>,
     pub clocks: MachineClocks<'r, R>,
     /// What those were replied who asked for a reload that then began.
@@ -95,19 +103,26 @@ pub(crate) struct Begun {
     pub generator: ChaCha20Rng,
 }
 
-/// Draws by bytes of a random source that gave none yet, and a listener at an address.
+/// Draws by bytes of a random source that gave none yet, and a listener at an address, unless there is one.
 fn begin<R: Net + RandomSource + AllocGlobal>(
     rt: &R,
     address: &str,
+    ports: Option<Ports>,
     random: &mut MachineRandom<'_, R>,
 ) -> Result<Begun, ListenFault>
-    ensures { random.old.log.calls ≡ [] → IfOk result (λ begun. IsSeeded random.new begun.generator) }
+    ensures drawn { random.old.log.calls ≡ [] → IfOk result (λ begun. IsSeeded random.new begun.generator) }
+    ensures there { IfOk result (λ begun. IfSome ports (λ there. begun.ports ≡ there)) }
+    ensures unbarred { IfErr result (λ why. IsSome ports → why ≡ NoSeed) }
 {
     let Some(seed) = random.seed() else {
         return Err(ListenFault::NoSeed);
     };
+    let ports = match ports {
+        Some(ports) => ports,
+        None => Ports::listen(rt, rt.alloc(), address)?,
+    };
     Ok(Begun {
-        ports: Ports::listen(rt, rt.alloc(), address)?,
+        ports,
         generator: ChaCha20Rng::from_seed(seed),
     })
 }
@@ -165,7 +180,7 @@ pub fn start<
     ensures quiet { OnErr result (err.new ≡ err.old) }
 {
     let mut random = MachineRandom::new(rt);
-    let begun = begin(rt, terms.address, &mut random)?;
+    let begun = begin(rt, terms.address, None, &mut random)?;
     let mut told = Announcement {
         address: begun.ports.address(),
         out,
@@ -212,12 +227,12 @@ fn live_told<D: Device + Drop, N: Sockets, C: Clocks, J: Journal, W: Write>(
     live(alloc, device, planned, means, &mut told)
 }
 
-/// Listens at an address, opens, locks and reads the file of a server's state, and starts the server on what stands there, with
+/// Reads the state of a server, listens at an address, unless it does so, and starts the server on what stands there, with
 /// those of the hooks that it lacks. Once it is known that the start goes on it is told where it listens, and up to 64 connections are
 /// served at once, by changes that are kept before a reply tells of them, until the program is stopped, or a reload is wanted: then
 /// another life begins by the registry's file as it is then, or, where that is refused, by the registry as it was. What is told to
 /// `err` is what the start ends or puts aside, and the faults of connections, in at most one line a second; each request that was
-/// answered is told to `audit`, if there is one. `B` names what may have been on the file's disk before.
+/// answered is told to `audit`, if there is one.
 pub fn start_on<
     'r,
     'w,
@@ -225,35 +240,41 @@ pub fn start_on<
     R: Files<File = File> + Net + Clock + RandomSource + AllocGlobal,
     W: Write,
     E: Write,
-    B: Before,
+    S: DeviceSource,
 >(
     rt: &'r R,
     terms: Terms<'_>,
     state: StateTerms<'e, 'w, '_>,
-    candidate: Candidate,
+    opened: Opened<S>,
     audit: Option<AuditLog>,
     out: &mut W,
     err: &'e mut E,
-) -> Result<ServedOn<'r, 'w, R, B>, OpeningFault>
-    ensures lives { IfOk result (LivesInRow ⟦<DiskFile<'r, R, File, B> as Device>⟧ ⟦<LineJournal<'e, E> as Journal>⟧
-        (handed_on candidate.registry (map hook_fact state.entry.hooks.now) terms.entry.pace)
+) -> Result<ServedOn<'r, 'w, R, S::File>, ListenFault>
+    requires begun { S.told opened.source ≡ [] }
+    ensures lives { IfOk result (LivesInRow (opens S.File.Device S.is_opened) ⟦<LineJournal<'e, E> as Journal>⟧
+        (handed_by opened.candidate.registry terms.entry state.entry)
         (λ first. IsToldBy W.contents out.old first out.new)) }
+    ensures unbarred { IfErr result (λ why. IsSome opened.ports → why ≡ NoSeed) }
     ensures silent { OnErr result (out.new ≡ out.old) }
     ensures quiet { OnErr result (err.new ≡ err.old) }
 {
+    let Opened {
+        candidate,
+        source,
+        ports,
+    } = opened;
     let mut random = MachineRandom::new(rt);
-    let begun = begin(rt, terms.address, &mut random)?;
-    let file = DiskFile::<'r, R, File, B>::open(rt, state.path)?;
+    let begun = begin(rt, terms.address, ports, &mut random)?;
     let Candidate { text, registry } = candidate;
     let reloads = Reloads::new(rt, Some(state.config), registry.operator_key(), text);
-    let Planned { source, plan } = plan_of(rt.alloc(), file, registry, state.hooks);
+    let Planned { source, plan } = plan_of(rt.alloc(), source, registry, state.hooks);
     let address = begun.ports.address();
     let hearers = Hearers::new(rt.alloc(), moment_now(rt), audit);
-    let journal = LineJournal::new(rt, state.path, err, hearers);
+    let journal = LineJournal::new(rt, state.name, err, hearers);
     let disk = TimedDisk::new(rt, source.into_device(), journal.measures());
     let means = means_of(rt, begun, reloads, terms.pace, journal);
     let first = live_told(rt.alloc(), disk, plan, means, address, out);
-    let Relived { life, replies } = live_on(rt, terms.pace, first);
+    let Relived { life, replies } = live_on::<R, E, S>(rt, terms.pace, first);
     let Life {
         end,
         device,
@@ -269,4 +290,40 @@ pub fn start_on<
         clocks,
         replies,
     })
+}
+
+/// Listens at an address, opens and locks the file of a server's state, and starts the server on it. `B` names what may have been on
+/// the file's disk before.
+pub fn start_on_file<
+    'r,
+    'p,
+    'w,
+    'e,
+    R: Files<File = File> + Net + Clock + RandomSource + AllocGlobal,
+    W: Write,
+    E: Write + 'e,
+    B: Before,
+>(
+    rt: &'r R,
+    terms: Terms<'_>,
+    state: StateTerms<'p, 'w, '_>,
+    candidate: Candidate,
+    audit: Option<AuditLog>,
+    out: &mut W,
+    err: &mut E,
+) -> Result<ServedOn<'r, 'w, R, DiskFile<'r, R, File, B>>, OpeningFault>
+    ensures lives { IfOk result (LivesInRow (opens ⟦<DiskFile<'r, R, File, B> as Device>⟧ ⟦<DiskSource<'r, R, File, B> as DeviceSource>⟧.is_opened)
+        ⟦<LineJournal<'e, E> as Journal>⟧ (handed_by candidate.registry terms.entry state.entry)
+        (λ first. IsToldBy W.contents out.old first out.new)) }
+    ensures silent { OnErr result (out.new ≡ out.old) }
+    ensures quiet { OnErr result (err.new ≡ err.old) }
+{
+    let ports = Ports::listen(rt, rt.alloc(), terms.address)?;
+    let source = DiskFile::<'r, R, File, B>::open(rt, state.name)?;
+    let opened = Opened {
+        candidate,
+        source,
+        ports: Some(ports),
+    };
+    Ok(start_on(rt, terms, state, opened, audit, out, err)?)
 }

@@ -5,6 +5,7 @@ ghost use Rattle.batch_file.specs.Frames.{IsOnDisk};
 
 use batch_file::appending::BatchFile;
 use batch_file::device::{Device, ReplaceFault};
+use batch_file::device_source::DeviceSource;
 use batch_file::frames::Frames;
 use batch_file::source::read_whole;
 use disk_file::{DiskFile, SystemFile, Unknown, make};

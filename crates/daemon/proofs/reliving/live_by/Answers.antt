@@ -1,6 +1,4 @@
 use Rattle.std.proofs.Common.{◌≡◌, ◌∙◌, [], ap, subst, sym}
-use Rattle.disk_file.specs.Calls.{content, failures}
-use Rattle.disk_file.specs.declared.file.DiskFile.{DiskFile}
 use Rattle.lifetime.specs.PlansLaws.{front_of, planned_of}
 use Rattle.ports.specs.Passing.{KeepsWaiting}
 use Rattle.ports.specs.declared.seats.Ports.{Ports}
@@ -9,13 +7,12 @@ use Rattle.daemon.proofs.Relived.{are_of}
 use Rattle.daemon.proofs.reliving.live_by.Goals as goal
 
 pub live-requires-clause-faultless : goal.live-requires-clause-faultless
-live-requires-clause-faultless g c = ap (λ (d : DiskFile _ _ _). failures d.log.calls) c.new-disk.ensures ∙ c.into_device.ensures.faultless
+live-requires-clause-faultless g c = ap (λ d. g.S.File.Device.faults d) c.new-disk.ensures ∙ c.into_device.ensures.faultless
 
 pub live-requires-clause-front : goal.live-requires-clause-front
 live-requires-clause-front g c =
-    let opened = c.into_device.ensures.opened in
-    let calls = ap (λ (d : DiskFile _ _ _). d.log.calls) c.new-disk.ensures in
-    front_of _ _ _ (λ over. ap content (calls ∙ opened.1) ∙ opened.2 over) c.plan_of-source.result.plan c.plan_of-source.ensures.over c.plan_of-source.ensures.front
+    front_of _ _ _ (λ over. ap (λ d. g.S.File.Device.seen d) c.new-disk.ensures ∙ c.into_device.ensures.seen over) c.plan_of-source.result.plan
+    c.plan_of-source.ensures.over c.plan_of-source.ensures.front
 
 pub returns-clause-lives : goal.returns-clause-lives
 returns-clause-lives g c =
@@ -26,7 +23,7 @@ returns-clause-lives g c =
       lives = record {
         file = c.new-disk.result;
         bytes = opened.0;
-        is_opened = ap (λ (d : DiskFile _ _ _). d.log.calls) c.new-disk.ensures ∙ opened.1;
+        is_opened = subst (λ d. g.S.DeviceSource.is_opened d opened.0) (sym c.new-disk.ensures) opened.1;
         means = c.means_of-means.result;
         fresh = c.means_of-means.ensures.fresh;
         seeded = rw c.means_of-means.ensures.drawn seeded.1;
