@@ -19,6 +19,16 @@ pub enum WordFault {
     BadValue,
     /// The option was given before.
     Twice,
+    /// It does not go with `--state`.
+    BesideState,
+    /// It says something only beside `--etcd`.
+    NoEtcd,
+    /// The prefix of the list's keys is missing.
+    NoPrefix,
+    /// The user is missing whose password stands in a file.
+    NoUser,
+    /// The file of the user's password is missing.
+    NoPassword,
 }
 
 impl Display for WordFault {
@@ -29,6 +39,11 @@ impl Display for WordFault {
             WordFault::NoValue => write!(f, "wants a value"),
             WordFault::BadValue => write!(f, "has a bad value"),
             WordFault::Twice => write!(f, "is given twice"),
+            WordFault::BesideState => write!(f, "does not go with --state"),
+            WordFault::NoEtcd => write!(f, "wants --etcd"),
+            WordFault::NoPrefix => write!(f, "wants --prefix"),
+            WordFault::NoUser => write!(f, "wants --etcd-user"),
+            WordFault::NoPassword => write!(f, "wants --etcd-password-file"),
         }
     }
 }

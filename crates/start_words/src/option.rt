@@ -2,7 +2,7 @@
 
 ghost use Rattle.std.specs.Prelude.{◌≡◌, option_map};
 ghost use Rattle.std.specs.Option.{option_copied};
-ghost use Rattle.start_words.specs.Options.{above_0, accepts_clock, clock_limit, hook_in, hook_said, option_named, path_in};
+ghost use Rattle.start_words.specs.Options.{above_0, above_1, clock_limit, flag_named, hook_in, hook_said, option_named, path_in};
 
 use crate::number::number_said;
 use insn::layout::Layout;
@@ -42,6 +42,39 @@ impl FarClock {
     }
 }
 
+/// What who waits to lead tells those who come.
+#[derive(Clone, Copy, Debug, PartialEq, Eq)]
+pub enum Waiting {
+    /// It does not listen.
+    Deaf,
+    /// It answers that it does not serve.
+    Answers,
+}
+
+/// An option that has no value.
+#[derive(Clone, Copy, Debug)]
+pub enum FlagName {
+    /// `--accept-clock`.
+    AcceptClock,
+    /// `--standby-answers`.
+    StandbyAnswers,
+}
+
+/// An option that says something of a list in etcd.
+#[derive(Clone, Copy, Debug)]
+pub enum ListOption {
+    /// `--etcd URL[,URL..]`.
+    Etcd,
+    /// `--prefix NAME`.
+    Prefix,
+    /// `--etcd-user NAME`.
+    User,
+    /// `--etcd-password-file FILE`.
+    Password,
+    /// `--lease SECONDS`.
+    Lease,
+}
+
 /// An option that has a value.
 #[derive(Clone, Copy, Debug)]
 pub enum OptionName {
@@ -55,6 +88,8 @@ pub enum OptionName {
     Audit,
     /// `--state FILE`.
     State,
+    /// One that says something of a list in etcd.
+    List(ListOption),
     /// `--hook NAME=FILE`, and `--hook2 NAME=FILE` for a hook that reads records of version 2.
     Hook(Layout),
 }
@@ -69,17 +104,26 @@ pub fn option_named(word: &str) -> Option<OptionName>
         "--report" => Some(OptionName::Report),
         "--audit" => Some(OptionName::Audit),
         "--state" => Some(OptionName::State),
+        "--etcd" => Some(OptionName::List(ListOption::Etcd)),
+        "--prefix" => Some(OptionName::List(ListOption::Prefix)),
+        "--etcd-user" => Some(OptionName::List(ListOption::User)),
+        "--etcd-password-file" => Some(OptionName::List(ListOption::Password)),
+        "--lease" => Some(OptionName::List(ListOption::Lease)),
         "--hook" => Some(OptionName::Hook(Layout::V1)),
         "--hook2" => Some(OptionName::Hook(Layout::V2)),
         _ => None,
     }
 }
 
-/// Whether a word is the option that has no value, `--accept-clock`.
-pub fn accepts_clock(word: &str) -> bool
-    ensures { result ≡ accepts_clock word.now }
+/// The option of a name that has no value.
+pub fn flag_named(word: &str) -> Option<FlagName>
+    ensures { result ≡ flag_named word.now }
 {
-    word == "--accept-clock"
+    match word {
+        "--accept-clock" => Some(FlagName::AcceptClock),
+        "--standby-answers" => Some(FlagName::StandbyAnswers),
+        _ => None,
+    }
 }
 
 /// The number, of seconds, that a text says, where it is not 0.
@@ -88,6 +132,16 @@ pub fn above_0(text: &str) -> Option<u32>
 {
     match number_said(text) {
         Some(0) | None => None,
+        Some(seconds) => Some(seconds),
+    }
+}
+
+/// The number, of seconds, that a text says, where it is 2 at least.
+pub fn above_1(text: &str) -> Option<u32>
+    ensures { result ≡ above_1 text.now }
+{
+    match number_said(text) {
+        Some(0 | 1) | None => None,
         Some(seconds) => Some(seconds),
     }
 }

@@ -2,13 +2,16 @@
 
 ghost use Rattle.std.specs.Prelude.{◌≡◌, ◌∷◌, ◌++◌, [], Ok, Err, OnOk, IfOk, IfErr, IfSome, IfNone, map, string_bytes, unwrap_or, option_map, length, ◌≤◌};
 ghost use Rattle.std.specs.Option.{option_copied};
-ghost use Rattle.start_words.specs.Options.{bad_words, blamed, by_place, clock_limit, hook_said, is_option, IsWhyRefused, lone_fault, nothing_said, once, options_after, options_in, placed_after, with_clock, with_option};
+ghost use Rattle.start_words.specs.Options.{bad_words, blamed, by_place, clock_limit, flag_taken, hook_said, is_option, IsWhyRefused, listless, lone_fault, lone_option, nothing_said, once, options_after, options_in, placed_after, with_list_value, with_option};
+ghost use Rattle.start_words.specs.Lists.{place_of, place_said, user_of, user_said};
 ghost use Rattle.start_words.specs.declared.fault.StartFault.TheVariants.{Memory};
 
 use crate::fault::{StartFault, WordFault};
+use crate::list::{ListWords, StatePlace, UserWords};
 use crate::number::number_said;
 use crate::option::{
-    FarClock, HookFile, OptionName, above_0, accepts_clock, hook_in, option_named, path_in,
+    FarClock, FlagName, HookFile, ListOption, OptionName, Waiting, above_0, above_1, flag_named,
+    hook_in, option_named, path_in,
 };
 use std::alloc::Global;
 use std::marker::Model;
@@ -21,6 +24,12 @@ pub struct Options<'w> {
     report: Option<u32>,
     audit: Option<&'w str>,
     state: Option<&'w str>,
+    etcd: Option<&'w str>,
+    prefix: Option<&'w str>,
+    user: Option<&'w str>,
+    password: Option<&'w str>,
+    lease: Option<u32>,
+    waiting: Waiting,
     clock: FarClock,
     hooks: Vec<HookFile<'w>>,
 }
@@ -32,7 +41,7 @@ impl<'w> Model for Options<'w> {
 
     ghost Value = { Said };
 
-    ghost view = { λ o. record { silence = o.silence; full = o.full; report = o.report; audit = option_copied o.audit; state = option_copied o.state; clock = o.clock; hooks = map hook_said o.hooks.items } };
+    ghost view = { λ o. record { silence = o.silence; full = o.full; report = o.report; audit = option_copied o.audit; state = option_copied o.state; etcd = option_copied o.etcd; prefix = option_copied o.prefix; user = option_copied o.user; password = option_copied o.password; lease = o.lease; waiting = o.waiting; clock = o.clock; hooks = map hook_said o.hooks.items } };
 }
 
 /// The first word, where it counts by its place, and those behind it.
@@ -86,6 +95,12 @@ impl<'w> Options<'w> {
             report: None,
             audit: None,
             state: None,
+            etcd: None,
+            prefix: None,
+            user: None,
+            password: None,
+            lease: None,
+            waiting: Waiting::Deaf,
             clock: FarClock::Refused,
             hooks: Vec::new(alloc),
         }
@@ -120,11 +135,53 @@ impl<'w> Options<'w> {
         self.audit
     }
 
-    /// The path of the file in which the server keeps its state, where there is one.
-    pub fn state(&self) -> Option<&'w str>
-        ensures { option_copied result ≡ self.now.state }
+    /// Where the server keeps its state.
+    pub fn place(&self) -> StatePlace<'w>
+        ensures { place_said result ≡ place_of self.now }
     {
-        self.state
+        match (self.state, self.etcd, self.prefix) {
+            (Some(path), _, _) => StatePlace::File(path),
+            (None, Some(members), Some(prefix)) => StatePlace::Etcd(ListWords {
+                members,
+                prefix,
+                user: self.user(),
+            }),
+            _ => StatePlace::Nowhere,
+        }
+    }
+
+    /// As whom the members are asked, where there are users.
+    fn user(&self) -> Option<UserWords<'w>>
+        ensures { option_map user_said result ≡ user_of self.now }
+    {
+        match (self.user, self.password) {
+            (Some(name), Some(password_file)) => Some(UserWords {
+                name,
+                password_file,
+            }),
+            _ => None,
+        }
+    }
+
+    /// The path of the file in which the user's password stands, where there is one.
+    pub fn password(&self) -> Option<&'w str>
+        ensures { option_copied result ≡ self.now.password }
+    {
+        self.password
+    }
+
+    /// For how many seconds the server leads, unless it goes on leading: 3, where that is left out.
+    pub fn lease(&self) -> u32
+        ensures { result ≡ unwrap_or self.now.lease 3 }
+    {
+        self.lease.unwrap_or(3)
+    }
+
+    /// What it tells those who come while it waits to lead.
+    pub fn waiting(&self) -> Waiting
+        ensures { result ≡ self.now.waiting }
+    {
+        self.waiting
     }
 
     /// By how many seconds the clock may be ahead of the moment that the state has, where that is limited.
@@ -152,6 +209,21 @@ impl<'w> Options<'w> {
         Ok(())
     }
 
+    // Takes what an option says of a list in etcd.
+    fn take_of_list(&mut self, option: ListOption, value: &'w str) -> Result<(), WordFault>
+        ensures done { OnOk result (with_list_value self.old option value.now ≡ Ok self.new) }
+        ensures refused { IfErr result (λ fault. with_list_value self.old option value.now ≡ Err fault) }
+    {
+        match option {
+            ListOption::Etcd => self.etcd = once(self.etcd, path_in(value))?,
+            ListOption::Prefix => self.prefix = once(self.prefix, path_in(value))?,
+            ListOption::User => self.user = once(self.user, path_in(value))?,
+            ListOption::Password => self.password = once(self.password, path_in(value))?,
+            ListOption::Lease => self.lease = once(self.lease, above_1(value))?,
+        }
+        Ok(())
+    }
+
     // Takes an option and its value.
     fn take(&mut self, word: &'w str, value: &'w str) -> Result<(), StartFault<'w>>
         ensures done { OnOk result (with_option self.old word.now value.now ≡ Ok self.new) }
@@ -166,6 +238,7 @@ impl<'w> Options<'w> {
             OptionName::Report => self.report = once(self.report, above_0(value)).map_err(blame)?,
             OptionName::Audit => self.audit = once(self.audit, path_in(value)).map_err(blame)?,
             OptionName::State => self.state = once(self.state, path_in(value)).map_err(blame)?,
+            OptionName::List(option) => self.take_of_list(option, value).map_err(blame)?,
             OptionName::Hook(layout) => {
                 let hook = hook_in(layout, value)
                     .ok_or(WordFault::BadValue)
@@ -176,16 +249,19 @@ impl<'w> Options<'w> {
         Ok(())
     }
 
-    // Takes the option that has no value.
-    fn accept_clock(&mut self, word: &'w str) -> Result<(), StartFault<'w>>
-        ensures done { OnOk result (with_clock self.old ≡ Ok self.new) }
-        ensures refused { IfErr result (λ fault. IsWhyRefused (blamed word.now (with_clock self.old)) fault) }
+    // Takes an option that has no value.
+    fn take_flag(&mut self, word: &'w str, flag: FlagName) -> Result<(), StartFault<'w>>
+        ensures done { OnOk result (flag_taken self.old flag ≡ Ok self.new) }
+        ensures refused { IfErr result (λ fault. IsWhyRefused (blamed word.now (flag_taken self.old flag)) fault) }
     {
-        if let FarClock::Accepted = self.clock {
-            let fault = WordFault::Twice;
-            return Err(StartFault::Word { word, fault });
+        match (flag, self.clock, self.waiting) {
+            (FlagName::AcceptClock, FarClock::Refused, _) => self.clock = FarClock::Accepted,
+            (FlagName::StandbyAnswers, _, Waiting::Deaf) => self.waiting = Waiting::Answers,
+            _ => {
+                let fault = WordFault::Twice;
+                return Err(StartFault::Word { word, fault });
+            }
         }
-        self.clock = FarClock::Accepted;
         Ok(())
     }
 
@@ -199,8 +275,8 @@ impl<'w> Options<'w> {
         ensures behind { IfOk result (λ rest. length rest.now ≤ length behind.now) }
         ensures refused { IfErr result (IsWhyRefused (options_after self.old (word.now ∷ map string_bytes behind.now))) }
     {
-        if accepts_clock(word) {
-            self.accept_clock(word)?;
+        if let Some(flag) = flag_named(word) {
+            self.take_flag(word, flag)?;
             return Ok(behind);
         }
         let Some((value, behind)) = behind.split_first() else {
@@ -221,6 +297,48 @@ impl<'w> Options<'w> {
             rest = self.take_first(word.as_str(), behind)?;
         }
         Ok(())
+    }
+
+    // The option that lacks another one, or stands beside one that it does not go with.
+    fn lone(&self) -> Option<(&'static str, WordFault)>
+        ensures { option_map (λ p. (p.0.now, p.1)) result ≡ lone_option self.now }
+    {
+        if self.etcd.is_none() {
+            return self.listless();
+        }
+        if self.state.is_some() {
+            return Some(("--etcd", WordFault::BesideState));
+        }
+        if self.prefix.is_none() {
+            return Some(("--etcd", WordFault::NoPrefix));
+        }
+        match (self.user, self.password) {
+            (Some(_), None) => Some(("--etcd-user", WordFault::NoPassword)),
+            (None, Some(_)) => Some(("--etcd-password-file", WordFault::NoUser)),
+            _ => None,
+        }
+    }
+
+    // The option that says something of a list in etcd alone.
+    fn listless(&self) -> Option<(&'static str, WordFault)>
+        ensures { option_map (λ p. (p.0.now, p.1)) result ≡ listless self.now }
+    {
+        if self.prefix.is_some() {
+            return Some(("--prefix", WordFault::NoEtcd));
+        }
+        if self.user.is_some() {
+            return Some(("--etcd-user", WordFault::NoEtcd));
+        }
+        if self.password.is_some() {
+            return Some(("--etcd-password-file", WordFault::NoEtcd));
+        }
+        if self.lease.is_some() {
+            return Some(("--lease", WordFault::NoEtcd));
+        }
+        match self.waiting {
+            Waiting::Answers => Some(("--standby-answers", WordFault::NoEtcd)),
+            Waiting::Deaf => None,
+        }
     }
 
     // Takes the numbers that count by their places, and gives the words behind them.
@@ -252,6 +370,9 @@ impl<'w> Options<'w> {
             return Err(StartFault::BadWords);
         };
         options.take_all(rest)?;
-        Ok(options)
+        match options.lone() {
+            Some((word, fault)) => Err(StartFault::Word { word, fault }),
+            None => Ok(options),
+        }
     }
 }
