@@ -1,10 +1,11 @@
 -- What the words of a command line call for, and the file that is read for it.
 use Rattle.std.specs.Prelude.{◌≡◌, ⊤, ℕ, ◌-◌, Bool, false, ◌||◌, if◌then◌else◌, List, [], ◌∷◌, codes, length, map, Option, None, Some, option_map, unwrap_or, slice_get, Result, Ok, Err}
-use Rattle.command_line.specs.Names.{string_bytes, Call, Command, State, CommandFault, BadArguments, BadCommand, OutOfMemory, HookSaid, file_named_by, IsCommand, Arguments}
+use Rattle.command_line.specs.Names.{string_bytes, Call, Command, OnList, State, CommandFault, BadArguments, BadCommand, OutOfMemory, HookSaid, file_named_by, IsCommand, Arguments}
 use Rattle.std.specs.Str.{bytes_eq}
 use Rattle.command_line.specs.declared.call.Call.TheVariants.{Service}
 use Rattle.commands.specs.declared.command.Command.TheVariants.{Explain}
-use Rattle.command_line.specs.Services.{config_of, hooks_installed, IsService, ServiceFails}
+use Rattle.command_line.specs.ListCommands.{NameList, file_of_list, password_of_list}
+use Rattle.command_line.specs.Services.{config_of, hooks_installed, password_of, IsService, ServiceFails}
 use Rattle.command_line.specs.StateCommands.{config_of_trial, IsStateCommand}
 
 -- a word asks for help
@@ -20,6 +21,7 @@ helped_by (name ∷ words) = if unwrap_or (option_map asks_help (slice_get words
 abbrev pub NameCall : Arguments → Call → Type 0
 NameCall words (Command command) = IsCommand words command
 NameCall words (State command) = IsStateCommand words command
+NameCall words (OnList command) = NameList (map string_bytes words) command
 NameCall words (Service service) = IsService words service
 
 -- words name no call
@@ -70,10 +72,19 @@ IsCall words call = AreWordsRead words (Ok call)
 abbrev pub file_of : Call → Option (List ℕ)
 file_of (Command command) = file_named_by command
 file_of (State command) = config_of_trial command
+file_of (OnList command) = file_of_list command
 file_of (Service service) = Some (config_of service)
 
 -- the hooks whose files are read for it, too
 abbrev pub hooks_named_by : Call → List HookSaid
 hooks_named_by (Command command) = []
 hooks_named_by (State command) = []
+hooks_named_by (OnList command) = []
 hooks_named_by (Service service) = hooks_installed service
+
+-- the path of the file in which the password of a user of etcd stands, where there is one
+abbrev pub password_named_by : Call → Option (List ℕ)
+password_named_by (Command command) = None
+password_named_by (State command) = None
+password_named_by (OnList command) = password_of_list command
+password_named_by (Service service) = password_of service

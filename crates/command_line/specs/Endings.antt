@@ -1,17 +1,19 @@
 -- How a command line ends.
 use Rattle.std.specs.Prelude.{◌≡◌, ◌⊎◌, ℕ, Option, Err}
-use Rattle.command_line.specs.Names.{Call, Command, State, Status, Outputs, IsUntouched, EndsCommand, TellsFault, Arguments}
+use Rattle.command_line.specs.Names.{Call, Command, OnList, State, Status, Outputs, IsUntouched, EndsCommand, TellsFault, Arguments}
 use Rattle.command_line.specs.declared.call.Call.TheVariants.{Service}
 use Rattle.command_line.specs.Calls.{hooks_named_by, IsCall, AreWordsRead}
 use Rattle.command_line.specs.Hooks.{said_of}
 use Rattle.command_line.specs.Listening.{EndsService, ServiceFiles, registry_bytes}
 use Rattle.command_line.specs.StateEndings.{EndsStateCommand}
+use Rattle.command_line.specs.ListEndings.{EndsListCommand}
 use Rattle.command_line.specs.Startings.{Startings}
 
 -- a call ends on the file that it names, at some moment and, where it serves, on the files of its hooks
 abbrev pub EndsCall : {W E : Type 0} → Startings → Call → ServiceFiles → Status → Outputs W E → Type 0
 EndsCall starts (Command command) files status to = (now : Option ℕ) × EndsCommand command files.named now status to
 EndsCall starts (State command) files status to = EndsStateCommand command (registry_bytes files) status to
+EndsCall starts (OnList command) files status to = EndsListCommand command (registry_bytes files) status to
 EndsCall starts (Service service) files status to = EndsService starts service files status to
 
 -- words call for something, which ends on some files, those of the hooks that it names among them

@@ -11,7 +11,9 @@ use Rattle.command_line.specs.Faults.{IsNotOpened, IsOfService, IsUnaudited}
 use Rattle.daemon.specs.ByCount.{handed_count}
 use Rattle.hook_commands.specs.File.{File}
 use Rattle.command_line.specs.Hooks.{AreFactsOf, HookInFile, in_file, RefusesHooks, TakesHooks}
+use Rattle.command_line.specs.ListFaults.{FailsList}
 use Rattle.command_line.specs.Services.{address_of, config_of}
+use Rattle.start_words.specs.Lists.{Place, at_file, at_list, nowhere, place_of}
 use Rattle.command_line.specs.Startings.{EndsStart, Handed, Startings}
 use Rattle.commands.specs.Statuses.{status_of_command_fault}
 
@@ -79,12 +81,17 @@ pub record IsDeaf {W : Type 0} (service : Service) (files : ServiceFiles) (out :
   pub fault_is : IsOfService service cause fault
   pub mute : IsMute service fault out
 
--- `start` has all, and no socket, or the file of its state is not opened; or memory is refused before
+-- what the state of a server is to stand in is not had: the file is not opened, or the list in etcd is not had; or memory is refused
+-- before
+abbrev pub LacksPlace : List ℕ → Place → CommandFault → Type 0
+LacksPlace address nowhere fault = ⊥
+LacksPlace address (at_file path) fault = (fault ≡ OutOfMemory) ⊎ IsNotOpened address path fault
+LacksPlace address (at_list list) fault = FailsList list.prefix fault
+
+-- `start` has all, but for that
 pub record LacksState (service : Service) (files : ServiceFiles) (fault : CommandFault) : Type 0 where
   pub all : HasAll service files
-  pub path : List ℕ
-  pub named : all.given.options.state ≡ Some path
-  pub refused : (fault ≡ OutOfMemory) ⊎ IsNotOpened (address_of service) path fault
+  pub refused : LacksPlace (address_of service) (place_of all.given.options) fault
 
 -- `start` has all, and the file in which it is to be told of each request is not opened; or memory is refused before
 pub record LacksAudit (service : Service) (files : ServiceFiles) (fault : CommandFault) : Type 0 where
@@ -93,21 +100,21 @@ pub record LacksAudit (service : Service) (files : ServiceFiles) (fault : Comman
   pub named : all.given.options.audit ≡ Some path
   pub refused : IsUnaudited path fault
 
--- a service has no registry, not all of its hooks, no file to tell of requests, or no file of its state
+-- a service has no registry, not all of its hooks, no file to tell of requests, or nothing in which its state is to stand
 abbrev pub LacksFile : Service → ServiceFiles → CommandFault → Type 0
 LacksFile service files fault =
     HoldsNoRegistry (config_of service) (registry_bytes files) fault ⊎ LacksHook service files fault ⊎ LacksAudit service files fault
     ⊎ LacksState service files fault
 
--- why a service serves nothing: its registry comes first, then its hooks, then the file in which it is told of each request, then its
--- socket, and then the file of its state. Where it lacks a file, it prints nothing.
+-- why a service serves nothing: its registry comes first, then its hooks, then the file in which it is told of each request, and then
+-- its socket, and the file or the list of its state. Where it lacks one of the others, it prints nothing.
 abbrev pub CannotServe : {W : Type 0} → Service → ServiceFiles → Output W → CommandFault → Type 0
 CannotServe service files out fault = (IsUntouched out × LacksFile service files fault) ⊎ IsDeaf service files out fault
 
--- `start` had all, and its server, on the file of its state where one is named, ended with this fault
+-- `start` had all, and its server ended with this fault, on its state where that is to stand
 pub record HasEnded {W : Type 0} (starts : Startings) (service : Service) (files : ServiceFiles) (fault : CommandFault) (out : Output W) : Type 0 where
   pub all : HasAll service files
-  pub ends : EndsStart starts all.given.options.state (handed all) fault out
+  pub ends : EndsStart starts (place_of all.given.options) (handed all) fault out
 
 -- A service ends with a fault: it serves nothing, and has told nothing, or its server ended.
 abbrev pub FailsService : {W E : Type 0} → Startings → Service → ServiceFiles → CommandFault → Outputs W E → Type 0

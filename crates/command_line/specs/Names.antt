@@ -2,6 +2,7 @@
 pub use Rattle.clients.specs.RegistryRecord.{RegistryRecord}
 pub use Rattle.command_line.specs.declared.call.Call.{Call}
 pub use Rattle.command_line.specs.declared.call.Call.TheVariants.{Command, State}
+pub use Rattle.command_line.specs.declared.call.Call.TheVariants.{List as OnList}
 pub use Rattle.command_line.specs.declared.service.Service.TheVariants.{Serve, Start}
 pub use Rattle.command_line.specs.declared.state_command.StateCommand.{StateCommand}
 pub use Rattle.command_line.specs.declared.state_command.StateCommand.TheVariants.{New, Trial}

@@ -1,5 +1,5 @@
 -- The commands that serve connections: their words, and the file that they name.
-use Rattle.std.specs.Prelude.{◌≡◌, ⊤, ℕ, List, [], ◌∷◌, map, codes, length, Some, unwrap_or, Ok, Err}
+use Rattle.std.specs.Prelude.{◌≡◌, ⊤, ℕ, List, [], ◌∷◌, map, codes, length, None, Option, Some, unwrap_or, Ok, Err}
 use Rattle.command_line.specs.Names.{string_bytes, HookSaid, Said, clock_limit, wrong, StartWords, CommandFault, BadWord, NoAddress, NoConfig, OutOfMemory, Serve, Start, IsHexOf, Arguments}
 use Rattle.start_words.specs.Numbers.{number_said}
 use Rattle.start_words.specs.Options.{no_address, no_config}
@@ -76,3 +76,8 @@ config_of (Start given) = given.config.now
 abbrev pub address_of : Service → List ℕ
 address_of (Serve given) = given.address.now
 address_of (Start given) = given.address.now
+
+-- the path of the file in which the password of a user of etcd stands, where there is one
+abbrev pub password_of : Service → Option (List ℕ)
+password_of (Serve given) = None
+password_of (Start given) = given.options.password

@@ -1,6 +1,6 @@
 -- How the commands on a state file end.
 use Rattle.std.specs.Prelude.{◌≡◌, ◌⊎◌, ⊤, ℕ, List, [], unwrap_or}
-use Rattle.command_line.specs.Names.{RegistryRecord, HoldsNoRegistry, HoldsRegistry, IsUntouched, Output, Outputs, Prints, TellsFault, CommandFault, Status, Done, StateCommand, New, Trial}
+use Rattle.command_line.specs.Names.{RegistryRecord, HoldsNoRegistry, HoldsRegistry, IsUntouched, Outputs, Prints, TellsFault, CommandFault, Status, Done, StateCommand, New, Trial}
 use Rattle.hook_commands.specs.File.{File}
 use Rattle.commands.specs.declared.fault.CommandFault.TheVariants as faults
 use Rattle.command_line.specs.Makings.{FailsMaking}
@@ -9,6 +9,10 @@ use Rattle.lifetime.specs.declared.plan.Plan.{Plan}
 use Rattle.state_file.specs.declared.fault.StateFault.{StateFault}
 use Rattle.state_file.specs.declared.fault.StateFault.TheVariants as state
 use Rattle.command_line.specs.declared.state_performing.WouldEnd.{WouldEnd}
+
+-- so many codes and tokens would end by a start on these bytes
+abbrev pub WouldEndSo : RegistryRecord → List ℕ → ℕ → Type 0
+WouldEndSo registry bytes ended = (plan : Plan) × IsPlanOf registry [] bytes plan × (ended ≡ unwrap_or plan.ended 0)
 
 -- So many codes and tokens would end: those that the narrowing to the registry ends, of the bytes that stood in the state file, and
 -- none where it is not narrower. A start on these bytes would go on.

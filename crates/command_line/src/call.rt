@@ -3,8 +3,9 @@
 ghost use Rattle.std.specs.Prelude.{◌≡◌, map, string_bytes};
 ghost use Rattle.std.specs.Option.{option_copied};
 ghost use Rattle.start_words.specs.Options.{hook_said};
-ghost use Rattle.command_line.specs.Calls.{asks_help, command_in, file_of, helped_by, hooks_named_by, is_command, AreNamesRead, AreWordsRead};
+ghost use Rattle.command_line.specs.Calls.{asks_help, command_in, file_of, helped_by, hooks_named_by, is_command, password_named_by, AreNamesRead, AreWordsRead};
 
+use crate::list_command::ListCommand;
 use crate::service::Service;
 use crate::state_command::StateCommand;
 use commands::{Command, CommandFault};
@@ -18,6 +19,8 @@ pub enum Call<'w> {
     Command(Command<'w>),
     /// A command on the file of a server's state.
     State(StateCommand<'w>),
+    /// A command on a list in etcd.
+    List(ListCommand<'w>),
     /// A command that serves connections.
     Service(Service<'w>),
 }
@@ -90,6 +93,9 @@ impl<'w> Call<'w> {
         if let Some(command) = StateCommand::from_words(words) {
             return Ok(Call::State(command));
         }
+        if let Some(command) = ListCommand::from_words(words) {
+            return Ok(Call::List(command));
+        }
         match Command::from_words(words) {
             Some(command) => Ok(Call::Command(command)),
             None => match command_in(words) {
@@ -106,6 +112,7 @@ impl<'w> Call<'w> {
         match self {
             Call::Command(command) => command.file(),
             Call::State(command) => command.config(),
+            Call::List(command) => command.file(),
             Call::Service(service) => Some(service.config()),
         }
     }
@@ -115,8 +122,19 @@ impl<'w> Call<'w> {
         ensures { map hook_said result.now ≡ hooks_named_by self.now }
     {
         match self {
-            Call::Command(_) | Call::State(_) => &[],
+            Call::Command(_) | Call::State(_) | Call::List(_) => &[],
             Call::Service(service) => service.hooks(),
+        }
+    }
+
+    /// The path of the file in which the password of a user of etcd stands, where there is one.
+    pub fn password(&self) -> Option<&'w str>
+        ensures { option_copied result ≡ password_named_by self.now }
+    {
+        match self {
+            Call::Command(_) | Call::State(_) => None,
+            Call::List(command) => command.password(),
+            Call::Service(service) => service.password(),
         }
     }
 }

@@ -16,6 +16,8 @@ use std::rt::Files;
 pub struct CallFiles<'w> {
     /// The file that it is about: `None` where it names none, or that cannot be read.
     pub named: Option<NamedFile>,
+    /// That of a password: `None` where it names none, or that cannot be read.
+    pub password: Option<NamedFile>,
     /// What stands in those of its hooks.
     pub hooks: Vec<HookRead<'w>>,
 }
@@ -29,6 +31,11 @@ pub fn read_files<'w>(
     ensures memory { IfErr result (λ fault. fault ≡ OutOfMemory) }
 {
     let named = file_at(rt, call.file())?;
+    let password = file_at(rt, call.password())?;
     let hooks = read_hooks(rt, call.hooks())?;
-    Ok(CallFiles { named, hooks })
+    Ok(CallFiles {
+        named,
+        password,
+        hooks,
+    })
 }

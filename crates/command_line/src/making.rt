@@ -11,7 +11,7 @@ use std::fs::File;
 use std::rt::Files;
 
 /// Makes a file of a path, with these bytes, and gives them back.
-fn write_new<'w, R: Files<File = File> + AllocGlobal>(
+pub(crate) fn write_new<'w, R: Files<File = File> + AllocGlobal>(
     rt: &R,
     path: &'w str,
     bytes: Vec<u8>,

@@ -2,7 +2,8 @@
 
 ghost use Rattle.std.specs.Prelude.{◌≡◌, ℕ, List, map, IfOk, IfErr, IfSome, IfNone, string_bytes};
 ghost use Rattle.start_words.specs.Options.{hook_said};
-ghost use Rattle.command_line.specs.Services.{config_of, GiveServe, GiveStart, hooks_installed, IsNoService, IsSeed, IsService, ServiceFails, StartFails};
+ghost use Rattle.command_line.specs.Services.{config_of, GiveServe, GiveStart, hooks_installed, IsNoService, IsSeed, IsService, ServiceFails, StartFails, password_of};
+ghost use Rattle.std.specs.Option.{option_copied};
 
 use commands::CommandFault;
 use hook_commands::bytes_of_hex;
@@ -126,6 +127,16 @@ impl<'w> Service<'w> {
         match self {
             Service::Serve(_) => &[],
             Service::Start(given) => given.options.hooks(),
+        }
+    }
+
+    /// The path of the file in which the password of a user of etcd stands, where there is one.
+    pub fn password(&self) -> Option<&'w str>
+        ensures { option_copied result ≡ password_of self.now }
+    {
+        match self {
+            Service::Serve(_) => None,
+            Service::Start(given) => given.options.password(),
         }
     }
 }

@@ -1,18 +1,20 @@
 //! The commands on a state file, from their words' meaning to what is written and how the program then ends.
 
-ghost use Rattle.std.specs.Prelude.{◌≡◌, ◌⊎◌, ◌↔◌, IfOk, IfErr, IsTrue};
+ghost use Rattle.std.specs.Prelude.{◌≡◌, ◌⊎◌, ◌↔◌, ℕ, List, IfOk, IfErr, IsTrue};
 ghost use Rattle.commands.specs.Faults.{IsOfState};
 ghost use Rattle.commands.specs.NamedFiles.{bytes_in};
 ghost use Rattle.commands.specs.Outputs.{output, outputs, IsUntouched, Prints};
 ghost use Rattle.commands.specs.Performed.{IsUnwritten};
-ghost use Rattle.command_line.specs.StateEndings.{would_end, EndsStateCommand, FailsTrial, IsCannotRead, IsTrial, IsUnread};
+ghost use Rattle.command_line.specs.StateEndings.{would_end, EndsStateCommand, FailsTrial, IsCannotRead, IsTrial, IsUnread, RefusesTrial, WouldEndSo};
 
 use crate::making::make_new;
 use crate::state_command::StateCommand;
 use batch_file::source::Bytes;
+use clients::Registry;
 use commands::{CommandFault, NamedFile, Printer, Status, bytes_at, registry_of, told};
 use lifetime::plan_of;
 use state_file::StateFault;
+use std::alloc::Global;
 use std::fmt::{self, Display, Formatter, Write};
 use std::fs::File;
 use std::rt::Files;
@@ -51,6 +53,23 @@ fn untried<'w>(path: &'w str, fault: StateFault) -> CommandFault<'w>
     CommandFault::of_state(path, fault)
 }
 
+/// How many codes and tokens a start would end on these bytes, which stand at a path.
+pub(crate) fn tried<'w>(
+    alloc: Global,
+    bytes: &[u8],
+    registry: Registry,
+    path: &'w str,
+) -> Result<usize, CommandFault<'w>>
+    ensures done { IfOk result (λ ended. (read : List ℕ) × WouldEndSo registry read ended) }
+    ensures refused { IfErr result (RefusesTrial registry path.now) }
+{
+    let plan = plan_of(alloc, Bytes::new(bytes), registry, &[]).plan;
+    match plan {
+        Ok(plan) => Ok(plan.ended.unwrap_or(0)),
+        Err(fault) => Err(untried(path, fault)),
+    }
+}
+
 /// How many codes and tokens a start on the state file of a path would end, under the registry of a file. Nothing is written.
 fn ended_by<'w, R: Files<File = File> + AllocGlobal>(
     rt: &R,
@@ -66,15 +85,11 @@ fn ended_by<'w, R: Files<File = File> + AllocGlobal>(
     let Some(bytes) = bytes_at(rt, path)? else {
         return Err(CommandFault::CannotRead(path));
     };
-    let plan = plan_of(alloc, Bytes::new(&bytes), registry, &[]).plan;
-    match plan {
-        Ok(plan) => Ok(plan.ended.unwrap_or(0)),
-        Err(fault) => Err(untried(path, fault)),
-    }
+    tried(alloc, &bytes, registry, path)
 }
 
 /// Tells how many codes and tokens a start would end, and says how the program then ends. A write that fails is bad use.
-fn told_trial<W: Printer, E: Printer>(ended: usize, out: &mut W, err: &mut E) -> Status
+pub(crate) fn told_trial<W: Printer, E: Printer>(ended: usize, out: &mut W, err: &mut E) -> Status
     ensures { let to = outputs (output W.contents W.writes out.old out.new) (output E.contents E.writes err.old err.new) in
         IsUnwritten result to ⊎ ((result ≡ Status.Done) × IsUntouched to.err × Prints to.out (would_end ended)) }
 {

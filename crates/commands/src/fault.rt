@@ -16,10 +16,12 @@ use hook_commands::HookCommandFault;
 use hook_host::HookFault;
 use insn::fault::InsnFault;
 use insn::verify_fault::VerifyFault;
+use standby::ListFault;
 use start_words::WordFault;
 use state_file::StateFault;
 use std::alloc::AllocError;
 use std::fmt::{self, Display, Formatter};
+use system_faults::SystemFault;
 use transcript::ReplayFault;
 
 /// What helps where it is not known which command is meant.
@@ -65,6 +67,8 @@ pub enum CommandFault<'w> {
     Unaudited(&'w str, OpenFault),
     /// No state file is made at this path.
     Unmade(&'w str, MakeFault),
+    /// The list in etcd with this prefix is not had.
+    List(&'w str, ListFault),
     /// The clock is so many seconds ahead of the state in the file of this path.
     ClockAhead(&'w str, u64),
     /// The hook of this name is refused.
@@ -146,6 +150,10 @@ impl<'w> CommandFault<'w> {
             }
             CommandFault::Unaudited(path, fault) => write!(f, "audit {fault}: {path}"),
             CommandFault::Unmade(path, fault) => write!(f, "State {fault}: {path}"),
+            CommandFault::List(prefix, fault) => {
+                let advice = advice_on_list(fault);
+                write!(f, "State {fault}: {prefix}{advice}")
+            }
             CommandFault::ClockAhead(path, seconds) => {
                 let advice = "; --accept-clock takes it";
                 write!(f, "State ClockAhead {seconds}: {path}{advice}")
@@ -170,6 +178,12 @@ fn write_stop<W: fmt::Write>(
     f: &mut Formatter<W>,
 ) -> fmt::Result {
     match (fault, why) {
+        (LoopFault::Keep, Some(BatchFault::Failed(SystemFault::Overtaken))) => {
+            write!(f, "State Overtaken: another server leads")
+        }
+        (LoopFault::Keep, Some(BatchFault::Failed(SystemFault::Unclear))) => {
+            write!(f, "State Unclear: etcd told nothing in time")
+        }
         (LoopFault::Keep, Some(BatchFault::Failed(reason))) => {
             write!(f, "stopped: State: {reason}")
         }
@@ -194,6 +208,17 @@ fn advice_on(fault: &StateFault) -> &'static str {
         StateFault::NotState => "; oauthd state --new FILE makes one",
         StateFault::Version(version) if *version > 3 => "; a newer oauthd wrote it",
         StateFault::Version(_) => "; an older oauthd wrote it",
+        _ => "",
+    }
+}
+
+/// What helps where a list is not had, where that is known.
+fn advice_on_list(fault: &ListFault) -> &'static str {
+    match fault {
+        ListFault::Missing => "; oauthd state --new --etcd makes one",
+        ListFault::OtherCluster => "; a snapshot of another cluster was restored",
+        ListFault::Unread => "; it is read while nobody writes, or by a start",
+        ListFault::Led => "; a server runs on it",
         _ => "",
     }
 }

@@ -31,5 +31,6 @@ pub use moment::moment_now;
 pub use named_file::{NamedFile, Readers, bytes_at, file_at};
 pub use output::{Printer, told};
 pub use perform::perform_command;
+pub use state::told_state;
 pub use status::Status;
 pub use words::program_words;

@@ -2,8 +2,8 @@
 use Rattle.std.specs.Prelude.{ℕ, List, [], ◌∷◌, codes}
 
 -- those of the commands; of the faults that a command has however its files are; of those of a state file that are told
--- with its path; of those of the text of a hook, and of its code; of the verdicts on it; of the faults of a registry, and
--- of an event; and of those of a start and of a server that are told behind another one's name
+-- with its path, and of those of a list in etcd; of those of the text of a hook, and of its code; of the verdicts on it; of
+-- the faults of a registry, and of an event; and of those of a start and of a server that are told behind another one's name
 unfoldable pub all_words : List (List ℕ)
 all_words =
     codes "run" ∷ codes "ask" ∷ codes "ask2" ∷ codes "asm" ∷ codes "list" ∷ codes "check" ∷ codes "check2" ∷
@@ -14,6 +14,8 @@ all_words =
     codes "Missing" ∷ codes "NotState" ∷ codes "Version" ∷ codes "Damaged" ∷ codes "Device" ∷ codes "InUse" ∷
     codes "Open" ∷ codes "Link" ∷ codes "NotAFile" ∷ codes "SecondLink" ∷ codes "WritableByOthers" ∷ codes "ClockAhead" ∷
     codes "Exists" ∷ codes "Make" ∷
+    codes "Overtaken" ∷ codes "Unclear" ∷ codes "OtherCluster" ∷ codes "Denied" ∷ codes "Led" ∷ codes "Unread" ∷
+    codes "Unplaced" ∷ codes "NoMember" ∷ codes "Unresolved" ∷ codes "NoPassword" ∷ codes "NoSocket" ∷
     codes "UnknownWord" ∷ codes "BadOperand" ∷ codes "OutOfRange" ∷ codes "UnknownLabel" ∷ codes "DoubleLabel" ∷
     codes "TooLong" ∷ codes "NoInstruction" ∷
     codes "Empty" ∷ codes "BadLength" ∷ codes "UnknownOpcode" ∷ codes "BadRegister" ∷ codes "NonzeroField" ∷

@@ -40,6 +40,9 @@ oauthd state --front FILE  the same of a damaged one, up to the damage
     oauthd state --front damaged-state
 oauthd state --new FILE    makes an empty file for a server's state
     oauthd state --new /var/lib/oauthd/state
+oauthd state --etcd URLS --prefix NAME
+                           lists what a list in etcd stands for; --new, --from FILE and --to FILE before it make one, or a file of it
+    oauthd state --etcd http://127.0.0.1:2379 --prefix oauthd
 oauthd replay FILE         prints what the server of a transcript sends to each connection
     oauthd replay transcript.txt
 oauthd help NAME           says what a command or a fault means

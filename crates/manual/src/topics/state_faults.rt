@@ -3,13 +3,15 @@
 use crate::topic::Topic;
 
 /// What the faults of a state file mean that are told with its path.
-pub const STATE_FAULTS: [Topic; 14] = [
+pub const STATE_FAULTS: [Topic; 25] = [
     Topic {
         name: "Missing",
         text: "\
 State Missing: FILE: there is no file at the path of --state; none was made. Look at the path, and whether its disk is mounted: a server on a new file knows nothing of the codes, tokens and hooks of the old one. At the first start of all, make the file:
 
   oauthd state --new /var/lib/oauthd/state
+
+State Missing: NAME: no list in etcd has keys that begin with the NAME of --prefix. Look at --etcd and --prefix; state --new --etcd .. makes one.
 ",
     },
     Topic {
@@ -105,7 +107,7 @@ State ClockAhead N: FILE: the machine's clock is N seconds ahead of the last mom
     Topic {
         name: "Exists",
         text: "\
-State Exists: FILE: state --new was to make the file, and something is there already. It was left as it is. Name another path, or move away what is there.
+State Exists: FILE: state --new or --to was to make the file, and something is there already. It was left as it is. Name another path, or move away what is there. State Exists: NAME: so it is of a list in etcd, and of its prefix.
 
   oauthd state --new /var/lib/oauthd/new-state
 ",
@@ -116,6 +118,78 @@ State Exists: FILE: state --new was to make the file, and something is there alr
 State Make: WHY: FILE: state --new was to make the file, and the system refuses it, for its reason WHY: not found (a folder of the path), permission denied, not a directory, read-only filesystem, no storage space, quota exceeded, and others. Nothing is left there.
 
   ls -ld /var/lib/oauthd
+",
+    },
+    Topic {
+        name: "Overtaken",
+        text: "\
+State Overtaken: another server leads, or may: this one was not heard of for longer than its lease, or its cluster was not. What it has acknowledged is in the list. Started again it waits. Where that comes often look why it stalls, or give it a longer --lease.
+
+  journalctl -u etcd
+",
+    },
+    Topic {
+        name: "Unclear",
+        text: "\
+State Unclear: the members of etcd told nothing for half a minute: whether the last change was done is not known, and who asked for it got no reply. Started again the server waits until it leads, and finds it or not. State Unclear: NAME: no list was found in that time.
+
+  etcdctl endpoint status --cluster
+",
+    },
+    Topic {
+        name: "OtherCluster",
+        text: "\
+State OtherCluster: NAME: the list was begun in another cluster than the one that answers: --etcd names other members, or a snapshot was restored under another token. Restored with the old names, URLs and token it is taken; what came behind it is lost.
+",
+    },
+    Topic {
+        name: "Denied",
+        text: "\
+State Denied N: NAME: etcd refuses what is asked, with this code: 3 a wrong name or password, 7 what the user may not do, 9 a user where there are none. Look at --etcd-user and at the user's rights on the prefix.
+
+  etcdctl user get oauthd
+",
+    },
+    Topic {
+        name: "Led",
+        text: "\
+State Led: NAME: a server leads on this list, so that none is made there. Stop it, and wait until its lease ends.
+",
+    },
+    Topic {
+        name: "Unread",
+        text: "\
+State Unread: NAME: the list could not be read to its end, or it was changed meanwhile, sixteen times. Read it where few changes come.
+",
+    },
+    Topic {
+        name: "Unplaced",
+        text: "\
+State Unplaced: NAME: the list could not be made. Where it is there by now, it is whole.
+",
+    },
+    Topic {
+        name: "NoMember",
+        text: "\
+State NoMember: NAME: --etcd names no member: URLs that begin with http://, with commas between them. TLS is spoken by a proxy beside the server (docs/MACHINES.md).
+",
+    },
+    Topic {
+        name: "Unresolved",
+        text: "\
+State Unresolved: NAME: a host's name in --etcd is not known.
+",
+    },
+    Topic {
+        name: "NoPassword",
+        text: "\
+State NoPassword: NAME: the file of --etcd-password-file can't be read, or is no text.
+",
+    },
+    Topic {
+        name: "NoSocket",
+        text: "\
+State NoSocket: NAME: there is no socket at ADDR where those who come are to be answered while the server waits.
 ",
     },
 ];

@@ -7,7 +7,7 @@ pub const USE_FAULTS: [Topic; 15] = [
     Topic {
         name: "bad arguments",
         text: "\
-bad arguments: the words are no command, or HEX of run is no hex, or a word of ask no number of its range. Hex is digits in pairs; blanks and line feeds may part them. help prints the commands, and help NAME the words of one. Behind start the word is named that is wrong: an address without a port, or an option that is not known, wants a value, has a bad one or is given twice.
+bad arguments: the words are no command, or HEX of run is no hex, or a word of ask no number of its range. Hex is digits in pairs; blanks and line feeds may part them. help prints the commands, and help NAME the words of one. Behind start the word is named that is wrong: an address without a port, or an option that is not known, wants a value or another option, has a bad one or is given twice.
 
   oauthd run 9 00          (one digit is no byte)
 ",
