@@ -68,6 +68,7 @@ class Client:
         self.server = server
         self.random = random.Random(number)
         self.connection = None
+        self.timeout = 10
         # a refresh token and the access tokens of one grant
         self.grants = []
         self.ended = []
@@ -81,7 +82,7 @@ class Client:
             headers["Content-Type"] = "application/x-www-form-urlencoded"
         try:
             if self.connection is None:
-                self.connection = http.client.HTTPConnection(*self.server.address, timeout=10)
+                self.connection = http.client.HTTPConnection(*self.server.address, timeout=self.timeout)
             self.connection.request(method, path, body, headers)
             reply = self.connection.getresponse()
             return reply.status, reply.getheader("Location"), reply.read()
@@ -133,9 +134,15 @@ class Client:
         assert status == 200, (status, body)
         self.ended.append(grant)
 
+    def forget_old(self):
+        """A grant that began a quarter of a life ago is used no more: behind a restart the server may be a minute ahead, and its tokens
+        expired."""
+        self.grants = [grant for grant in self.grants if time.monotonic() - grant["since"] < LIFE / 4]
+
     def work(self):
         try:
             while True:
+                self.forget_old()
                 choice = self.random.random()
                 try:
                     if choice < 0.4 or len(self.grants) < 3:
@@ -156,9 +163,8 @@ class Client:
         return json.loads(body)["active"]
 
     def faults(self):
-        """What the server answers otherwise than it acknowledged, of what is remembered; and forgets what is older. A grant
-        that began a quarter of a life ago is not asked for: behind a restart the server may be a minute ahead, and its tokens expired."""
-        self.grants = [grant for grant in self.grants if time.monotonic() - grant["since"] < LIFE / 4]
+        """What the server answers otherwise than it acknowledged, of what is remembered; and forgets what is older."""
+        self.forget_old()
         live = [it for grant in self.grants for it in [grant["refresh"], *grant["access"]]]
         dead = [it for grant in self.ended for it in [grant["refresh"], *grant["access"]]] + self.used
         told = [f"lost {it}" for it in live if not self.is_active(it)] + [f"revived {it}" for it in dead if self.is_active(it)]

@@ -105,6 +105,15 @@ for words in '127.0.0.1=wants a port' '127.0.0.1:0 c --frob 1=--frob is not know
     [ "$why" = 'wants a port' ] && why='127.0.0.1 wants a port'
     ends "start ${words%=*}" 2 '' "oauthd: bad arguments: $why\n" start ${words%=*}
 done
+on='start 127.0.0.1:0 c --etcd http://127.0.0.1:1'
+for words in "$on=--etcd wants --prefix" "$on --prefix p --state s=--etcd does not go with --state" 'start 127.0.0.1:0 c --prefix p=--prefix wants --etcd' \
+    'start 127.0.0.1:0 c --lease 3=--lease wants --etcd' "$on --prefix p --lease 1=--lease has a bad value" \
+    "$on --prefix p --etcd-user u=--etcd-user wants --etcd-password-file" "$on --prefix p --etcd-password-file f=--etcd-password-file wants --etcd-user" \
+    'start 127.0.0.1:0 c --standby-answers=--standby-answers wants --etcd' "$on --prefix p --standby-answers --standby-answers=--standby-answers is given twice"; do
+    ends "${words%=*}" 2 '' "oauthd: bad arguments: ${words##*=}\n" ${words%=*}
+done
+ends 'etcd over TLS' 2 '' 'oauthd: State NoMember: p\n' state --etcd https://127.0.0.1:1 --prefix p
+ends 'a password that is not there' 2 '' 'oauthd: State NoPassword: p\n' state --etcd http://127.0.0.1:1 --prefix p --etcd-user u --etcd-password-file nowhere
 ends 'a number by place that is none' 2 '' 'oauthd: bad arguments for start; oauthd help start has its words\n' start 127.0.0.1:0 "$registry" x
 ends 'a hook that is not there' 2 '' 'oauthd: cannot read nowhere\n' start 127.0.0.1:0 "$registry" --hook a=nowhere
 ends 'a hook that is refused' 2 '' 'oauthd: hook b: Verify JumpBack(0)\n' start 127.0.0.1:0 "$registry" --hook a=hook.hex --hook b=back.hex
