@@ -80,7 +80,7 @@ pub struct ClusterFile<C: Cluster> {
 pub(crate) const FAILED: DeviceFault = DeviceFault::Failed(SystemFault::Other);
 
 /// As which fault it is told that a file is lost.
-fn failed_of(fault: SettleFault) -> DeviceFault
+pub(crate) fn failed_of(fault: SettleFault) -> DeviceFault
     ensures { result ≡ failed_by fault }
 {
     match fault {

@@ -11,11 +11,11 @@ ghost use Rattle.cluster_file.specs.Opened.{IsOpened, IsToldAnew};
 ghost use Rattle.cluster_file.specs.Places.{HasByte, ReachesBehind, TellsPart, unpieced_from, IsOneOf, IsOver, IsPartOf, IsRead, IsSeenAt, IsTold, KeepsFront, MayLook, unpieced};
 
 use crate::beside::push_one;
-use crate::file::{ClusterFile, FAILED, MORE};
+use crate::file::{ClusterFile, FAILED, MORE, failed_of};
 use batch_file::device::DeviceFault;
 use etcd_cluster::change::{CallFault, Piece, Wanted};
 use etcd_cluster::cluster::Cluster;
-use etcd_cluster::settling::{look_up, read_pieces};
+use etcd_cluster::settling::{SettleFault, look_up, read_pieces};
 use std::alloc::Global;
 
 /// The last of these places that is no greater, if there is one.
@@ -70,6 +70,14 @@ fn look<C: Cluster>(
     }
 }
 
+/// As which fault it is told that pieces were not told.
+fn untold(fault: CallFault) -> DeviceFault {
+    match fault {
+        CallFault::Unclear => failed_of(SettleFault::Unclear),
+        CallFault::Refused => failed_of(SettleFault::Refused),
+    }
+}
+
 impl<C: Cluster> ClusterFile<C> {
     /// The piece of this version that begins there.
     fn piece_at(&mut self, place: u64) -> Result<Piece, DeviceFault>
@@ -89,8 +97,8 @@ impl<C: Cluster> ClusterFile<C> {
         };
         match look(&mut self.cluster, self.alloc, wanted, self.has_begun) {
             Ok(Some(pieces)) => only_of(pieces, place),
-            Ok(None) => Err(FAILED),
-            Err(_) => Err(FAILED),
+            Ok(None) => Err(failed_of(SettleFault::Overtaken)),
+            Err(fault) => Err(untold(fault)),
         }
     }
 
