@@ -19,7 +19,7 @@ impl KnownBits {
 
     /// The words of which a width sees the same as of one of these.
     #[tactic(auto, using(crate::proofs::Refining::alike_apart))]
-    fn seen_alike(self, width: Width) -> KnownBits
+    pub fn seen_alike(self, width: Width) -> KnownBits
         ensures alike { (x y : ℕ) → y < 2 ^ 64 → HasBits self x → seen width x ≡ seen width y → HasBits result y }
         ensures partner { (y : ℕ) → HasBits result y → HasPartner width self y }
     {

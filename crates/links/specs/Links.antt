@@ -231,6 +231,12 @@ abbrev pub links_in : Option Links → ℕ → Option Link
 links_in None k = None
 links_in (Some links) k = link_at links k
 
+-- the first register that has one of some links is register k
+pub record IsFirstLink (links : ℕ → Option Link) (k : ℕ) (link : Link) : Type 0 where
+  pub inside : k < 11
+  pub own : links k ≡ Some link
+  pub before : (j : ℕ) → j < k → links j ≡ None
+
 -- ---- what is there behind an instruction
 
 -- what a register has, if it is given some, and else what it had

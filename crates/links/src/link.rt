@@ -1,9 +1,9 @@
 //! Registers whose number is another's plus a constant, or a constant less another's, or stands in a block of the stack, too.
 
 ghost use Rattle.std.specs.Option.{option_or};
-ghost use Rattle.std.specs.Prelude.{◌≡◌, ◌↔◌, ◌<◌, ℕ, None, Some, if◌then◌else◌, IfSome, length, slice_index_or, false, true};
+ghost use Rattle.std.specs.Prelude.{◌≡◌, ◌↔◌, ◌<◌, ℕ, None, Some, if◌then◌else◌, IfNone, IfSome, length, slice_index_or, false, true};
 ghost use Rattle.insn.specs.Instruction.{reg_number};
-ghost use Rattle.links.specs.Links.{AddsOrMasks, AreHomeless, AreHomesLeft, AreLeft, AreLinksJoined, AreMade, IsLinkJoin, bits_masked, bits_moved, is_equal as spec_is_equal, is_whole as spec_is_whole, mask_of as spec_mask_of, home_at, home_unless as spec_home_unless, link_moved, links_in, moved_by, moved_from as spec_moved_from, plus_moved as spec_plus_moved, bits_after, copied, difference_made, has_turn as spec_has_turn, joins as spec_joins, less, lesser, link_after, link_at, link_kept, link_left, link_made, link_of as spec_link_of, with_turn as spec_with_turn};
+ghost use Rattle.links.specs.Links.{AddsOrMasks, AreHomeless, AreHomesLeft, AreLeft, AreLinksJoined, AreMade, IsFirstLink, IsLinkJoin, bits_masked, bits_moved, is_equal as spec_is_equal, is_whole as spec_is_whole, mask_of as spec_mask_of, home_at, home_unless as spec_home_unless, link_moved, links_in, moved_by, moved_from as spec_moved_from, plus_moved as spec_plus_moved, bits_after, copied, difference_made, has_turn as spec_has_turn, joins as spec_joins, less, lesser, link_after, link_at, link_kept, link_left, link_made, link_of as spec_link_of, with_turn as spec_with_turn};
 ghost use Rattle.links.specs.LinksParts.{AreNumbersRefined, AreSameKept, IsEqualKept, IsLinkRefined};
 ghost use Rattle.links.specs.Narrowed.{AreLinkNarrowed, AreLowestNarrowed, AreMaskNarrowed, IsMixed, AreSameNarrowed, IsDerived, IsLinkNarrowed, IsNarrowedTo, IsTraced};
 
@@ -497,6 +497,30 @@ impl Links {
         ensures { result ≡ self.now.any }
     {
         self.any
+    }
+
+    /// The first register that has one of the links that are moved, and that.
+    pub fn first_in(moved: &Option<Links>) -> Option<(usize, Link)>
+        ensures some { IfSome result (λ first. IsFirstLink (links_in moved.now) first.0 first.1) }
+        ensures none { IfNone result ((k : ℕ) → k < 11 → links_in moved.now k ≡ None) }
+    {
+        match moved {
+            Some(moved) => moved.first(),
+            None => None,
+        }
+    }
+
+    /// The first register that has a link, and that.
+    fn first(&self) -> Option<(usize, Link)>
+        ensures some { IfSome result (λ first. IsFirstLink (link_at self.now) first.0 first.1) }
+        ensures none { IfNone result ((k : ℕ) → k < 11 → link_at self.now k ≡ None) }
+    {
+        for i in 0..11 {
+            if let Some(link) = self.at(i) {
+                return Some((i, link));
+            }
+        }
+        None
     }
 
     /// The link of the register of a number, where it has its turn in a test of two numbers.

@@ -94,7 +94,7 @@ impl HalfRange {
     }
 
     /// The low halves as words, with 0 in the upper half, and all of them where they have both signs.
-    fn words(self) -> URange
+    pub fn words(self) -> URange
         ensures has { (x : ℕ) → InHalfRange self x → InRange result (x % 2 ^ 32) }
         ensures fits { result.greatest < 2 ^ 32 }
     {

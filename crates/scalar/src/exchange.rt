@@ -54,7 +54,8 @@ impl Scalar {
         })
     }
 
-    /// Its low halves narrowed by its numbers and its bits, and its ranges by them where they say all of a word.
+    /// Its low halves narrowed by its numbers and its bits, and its bits by them, and its ranges where they say all of a
+    /// word.
     fn with_halves_exchanged(self) -> Option<Scalar>
         ensures { HasSame self result }
     {
@@ -62,10 +63,12 @@ impl Scalar {
         let half = HalfRange::meet(half, low_halves(self.bits))?;
         let unsigned = URange::meet(self.unsigned, half.words_within(self.unsigned))?;
         let signed = SRange::meet(self.signed, half.numbers_within(self.signed))?;
+        let low = KnownBits::shared(half.words()).seen_alike(Width::W32);
+        let bits = KnownBits::meet(self.bits, low)?;
         Some(Scalar {
             unsigned,
             signed,
-            bits: self.bits,
+            bits,
             half,
         })
     }

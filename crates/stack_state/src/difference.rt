@@ -11,7 +11,7 @@ use scalar::Scalar;
 /// How much it counts where a join loses something.
 #[derive(Clone, Copy)]
 struct Weights {
-    /// A pointer, or where in the stack it points.
+    /// A pointer, or where it points.
     pointer: u32,
     /// An exact number, or that bytes are set.
     number: u32,
@@ -47,7 +47,7 @@ fn of_numbers(a: Scalar, b: Scalar, weights: Weights) -> u32 {
     }
 }
 
-/// Of two spans of the stack: much where they have nothing in common.
+/// Of two spans of the stack, or of the record: much where they have nothing in common.
 fn of_spans(a: Span, b: Span, weights: Weights) -> u32 {
     if a.greatest < b.least || b.greatest < a.least {
         weights.pointer
@@ -61,7 +61,7 @@ fn of_values(a: Reg, b: Reg, weights: Weights) -> u32 {
     match (a, b) {
         (Reg::Number(a), Reg::Number(b)) => of_numbers(a, b, weights),
         (Reg::Stack(a), Reg::Stack(b)) => of_spans(a, b, weights),
-        (Reg::Record(_), Reg::Record(_)) => 0,
+        (Reg::Record(a), Reg::Record(b)) => of_spans(a, b, weights),
         (Reg::Record(_) | Reg::Stack(_), _) | (_, Reg::Record(_) | Reg::Stack(_)) => {
             weights.pointer
         }

@@ -58,11 +58,11 @@ pub use Rattle.verifier.specs.Fits.{InStates, AsShape, IsWholePointer, Reading, 
 pub use Rattle.verifier.specs.Follows.{FlowFits, FlowIs, Follows, WritesNoR10, reg_of, FlowOf, comparison_of, FlowTo, IsOperand, IsEntry, IsJoined, test_answer, IsFaulty, goes_behind}
 pub use Rattle.verifier.specs.Kinds.{LeavesKnown, IsLinked, LeavesRow, IsSoundRow, Receives, flow_where, test_of, Extends, GivenAt, StoredAt, StoredOf, StoredWhere, kept_in_record, put_at}
 pub use Rattle.verifier.specs.Kinds.{GivenIn, Put, StoredIn, IsWide, Loads, OfOperand}
-pub use Rattle.verifier.specs.Learnt.{operand_set, IsSpreadToAll, IsCompared, IsSpreadBelow, IsSpread, IsTested, KeepsAnswered, MaySpread, SpreadOne, IsLearnt, answer_of}
+pub use Rattle.verifier.specs.Learnt.{operand_set, IsSpreadToAll, IsCompared, IsSpreadBelow, IsSpread, IsTested, KeepsAnswered, MaySpread, SpreadOne, IsLearnt, answer_of, IsNarrowed}
 pub use Rattle.links.specs.Links.{AreLeft, AreLinked, AreLinksJoined, AreMade, AreRelated, IsLinkJoin, LinkHolds, LinksHold, bits_after, lesser, link_at, link_left, plus_after, AreValuesLinked}
 pub use Rattle.links.specs.Links.{copied, difference_from, less, link_kept, link_made, link_of, with_turn}
 pub use Rattle.links.specs.LinksParts.{AreNumbersRefined, IsEqualKept, IsLinkRefined}
-pub use Rattle.verifier.specs.LearntParts.{IsNarrowed, IsNarrowedOrNone}
+pub use Rattle.verifier.specs.LearntParts.{IsNarrowedOrNone}
 pub use Rattle.verifier.specs.Shapes.{effects, shape_of, MovesNone, NoMovedPointer, both_ways, branch_in, blank_cell, blank_value, OnWay, shape_config, IsStuckShape, Uniform, ways, ways_from}
 pub use Rattle.verifier.specs.Typing.{IsNoMoreThan, HasTyping, IsTyping, GoesTyped, MayCome, IsNeverStuck, UniformIsTyped}
 pub use Rattle.verifier.specs.Waits.{AreBothPushed, IsTestSettled, IsPassed, IsPushed, IsRefusedAt, IsRefusedHere, IsTaken, IsToldOnward, IsVisited, PassesEach}

@@ -1,6 +1,6 @@
 -- The links that instructions make, and the rows of the table: what they leave follows, and what they refuse is the first test that fails.
 use Rattle.std.proofs.Common.{◌≡◌, ◌≢◌, ℕ, ◌+◌, ◌*◌, ◌/◌, ◌%◌, ◌^◌, ◌<◌, ◌≤◌, ◌==◌, if◌then◌else◌, Bool, true, false, List, ℤ, Option, Some, None, Ok, get_or, set, length, refl, sym, ap, ◌∙◌, subst, arith, ◌⊎◌, Result, Err, inl, inr}
-use Rattle.verifier.proofs.Names.{InStates, AsShape, WhereSet, Reading, RegIs, is_exact, IsSome, fault_at, stuck_is_named, AreLinked, left_operand, cast_unsigned, Decides-eqb, get_or-set_other, get_or-set_same, Insn, Reg, Imm, Action, Operate, Convert, LoadWord, LoadFrom, StoreAt, Go, End}
+use Rattle.verifier.proofs.Names.{InStates, AsShape, WhereSet, Reading, RegIs, is_exact, IsSome, fault_at, stuck_is_named, AreLinked, left_operand, cast_unsigned, Decides-eqb, get_or-set_other, get_or-set_same, Insn, Reg, Imm, Action, Operate, Convert, LoadWord, LoadFrom, StoreAt, Go, End, IsNarrowed}
 use Rattle.verifier.proofs.Names.{ExitsWithPointer, BinOp, Layout, Sub, Mov, Width, RegNo, R10, R0, Value, Number, Address, reg_number}
 use Rattle.verifier.proofs.Names.{State, at, value_of, Kind, RegFits, ValueFits, IsKindResult, number_in_reg, Scalar, InScalar-words, InScalar}
 use Rattle.verifier.proofs.Names.{Effect, Exits, Falls, Jumps, word_of, register_written_by, distance_in, action_of, Fails, Tested, action_outcome, and_then, effect, operation_result}
@@ -412,6 +412,17 @@ with_link layout i old between new flow other linked row h = record {
   shape = λ s plain f. flow_to (StateFits AsShape layout) (StateFits AsShape layout) between new (λ t g. same_fits AsShape layout between new t linked.registers linked.stack tt g) flow (effects layout i s) (h.shape s plain f);
 }
 
+-- and with what spreads behind it
+flow_narrowed : (layout : Layout) (a b : Known) → ((s : State) → StateFits InStates layout a s → StateFits InStates layout b s) → (flow : Flow) (o : Option Effect) → FlowFits InStates layout a flow o → FlowFits InStates layout b flow o
+flow_narrowed layout a b h1 flow o h2 = grind (arith)
+
+with_spread : (layout : Layout) (i : Insn) (old linked new : Known) (flow : Flow) → IsNarrowed linked new → Follows layout i old linked flow → Follows layout i old new flow
+with_spread layout i old linked new flow narrowed h = record {
+  own = h.own;
+  states = λ s f. flow_narrowed layout linked new (narrowed.states layout) flow (effect layout i s) (h.states s f);
+  shape = λ s plain f. flow_to (StateFits AsShape layout) (StateFits AsShape layout) linked new (narrowed.shapes AsShape refl layout) flow (effects layout i s) (h.shape s plain f);
+}
+
 -- ==== rows
 
 module _ (layout : Layout) (old new : Known) where
@@ -496,11 +507,11 @@ passed_to layout action old new s flow (Passes e) own same f h = passed_is AsSha
 passed_to layout action old new s flow t own same f h = absurd h
 
 pub rows_sound : (layout : Layout) (i : Insn) (old new : Known) (r : Result Flow WalkFault) → WritesNoR10 i → LeavesKnown layout i old new r → IsSoundRow layout i old new r
-rows_sound layout i old new (Ok flow) other h = with_link layout i old h.0 new flow other h.2 h.1 (record {
+rows_sound layout i old new (Ok flow) other h = with_spread layout i old h.2.0 new flow h.2.2.narrowed (with_link layout i old h.0 h.2.0 flow other h.2.1 h.1 (record {
   own = own_of i flow own.0;
   states = λ s f. passed_fits layout h.0 flow (outcome layout i s) (row.right InStates s f tt);
   shape = λ s plain f. passed_to layout (action_of i) old h.0 s flow (outcome layout i s) own.0 own.1 f (row.right AsShape s f plain);
-}) where
+})) where
   row : IsRowRight layout old h.0 (action_of i) (Ok flow)
   row = row_right layout old h.0 (action_of i) (Ok flow) other h.1
 
@@ -540,5 +551,5 @@ module _ (layout : Layout) (old : Known) (s : State) (f : StateFits WhereSet lay
 
   -- a link that is made changes nothing of it
   pub outcome_shown : (new : Known) (r : Result Flow WalkFault) → LeavesKnown layout i old new r → IsShownBy layout new r (effects layout i s)
-  outcome_shown new (Ok flow) h = flow_to (StateFits WhereSet layout) (StateFits WhereSet layout) h.0 new (λ t g. same_fits WhereSet layout h.0 new t h.2.registers h.2.stack tt g) flow (effects layout i s) (row_shown h.0 (Ok flow) h.1)
+  outcome_shown new (Ok flow) h = flow_to (StateFits WhereSet layout) (StateFits WhereSet layout) h.0 new (λ t g. h.2.2.narrowed.shapes WhereSet refl layout t (same_fits WhereSet layout h.0 h.2.0 t h.2.1.registers h.2.1.stack tt g)) flow (effects layout i s) (row_shown h.0 (Ok flow) h.1)
   outcome_shown new (Err fault) h = row_shown new (Err fault) h

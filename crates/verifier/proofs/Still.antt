@@ -6,6 +6,8 @@ use Rattle.links.proofs.Linked.{moved_so, not_chosen}
 use Rattle.links.specs.Links.{AddsOrMasks, home_at, links_in, made_at, moved_by}
 use Rattle.verifier.proofs.Rows.{made_unmoved}
 use Rattle.verifier.specs.Kinds.{LeavesRow, home_made}
+use Rattle.verifier.specs.Learnt.{ByNone, IsNarrowed, IsSpreadByFirst}
+use Rattle.verifier.proofs.States.{own_narrowed, spread_so}
 use Rattle.verifier.specs.LearntParts.{LeavesStill}
 use Rattle.insn.specs.declared.operation.BinOp.TheVariants.{And}
 
@@ -14,12 +16,19 @@ pub still_known : (layout : Layout) (i : Insn) (old new : Known) (r : Result Flo
 still_known layout i old new (Ok flow) none (between, row, still) = (
   between,
   row,
-  record {
-    registers = still.registers;
-    stack = still.stack;
-    links = moved_so (link_made old.registers old.links (action_of i)) (home_made layout old (action_of i)) (λ k. None) (λ k. moved_by (action_of i) k (link_at old.links k)) between.links new.links
-        (λ k lt. sym (none k lt)) still.links;
-  },
+  (
+    new,
+    record {
+      registers = still.registers;
+      stack = still.stack;
+      links = moved_so (link_made old.registers old.links (action_of i)) (home_made layout old (action_of i)) (λ k. None) (λ k. moved_by (action_of i) k (link_at old.links k)) between.links new.links
+          (λ k lt. sym (none k lt)) still.links;
+    },
+    record {
+      narrowed = own_narrowed new;
+      spread = ByNone (inl none);
+    },
+  ),
 )
 still_known layout i old new (Err fault) none h = h
 
@@ -31,44 +40,52 @@ moved_behind (Some m) k x y none = elim (cases_eq k (reg_number m.0)) [
   | inr ne ↦ ap (option_or x) (not_chosen k (reg_number m.0) (Some m.1) y ne) ∙ sym (not_chosen k (reg_number m.0) (Some m.1) (option_or x y) ne)
 ]
 
--- where they are set behind it
-moving_known : (layout : Layout) (i : Insn) (old mid : Known) (flow : Flow) (moved : Option Links) (links : Links) → LeavesStill layout i old mid (Ok flow)
-    → ((k : ℕ) → k < 11 → links_in moved k ≡ moved_by (action_of i) k (link_at old.links k))
-    → ((k : ℕ) → k < 11 → (link_at links k ≡ option_or (links_in moved k) (link_at mid.links k)) × (home_at links k ≡ home_at mid.links k))
-    → LeavesKnown layout i old (record { registers = mid.registers; stack = mid.stack; links = links }) (Ok flow)
-moving_known layout i old mid flow moved links (between, row, still) are set = (
-  between,
-  row,
-  record {
-    registers = still.registers;
-    stack = still.stack;
-    links = λ k lt. (
-      (set k lt).0
-          ∙ ap (option_or (links_in moved k)) (still.links k lt).0
-          ∙ moved_behind (link_made old.registers old.links (action_of i)) k (links_in moved k) (link_at between.links k)
-          (λ m e q. are k lt ∙ rw q (made_unmoved old.registers old.links (action_of i) m (link_at old.links (reg_number m.0)) e))
-          ∙ ap (λ (o : Option Link). made_at (link_made old.registers old.links (action_of i)) k (option_or o (link_at between.links k))) (are k lt),
-      (set k lt).1 ∙ (still.links k lt).1,
-    );
-  },
-)
+-- where they are set behind it, and what is known spreads by them
+module _ (layout : Layout) (i : Insn) (old mid : Known) (moved : Option Links) (links : Links) (are : (k : ℕ) → k < 11 → links_in moved k ≡ moved_by (action_of i) k (link_at old.links k))
+    (set : (k : ℕ) → k < 11 → (link_at links k ≡ option_or (links_in moved k) (link_at mid.links k)) × (home_at links k ≡ home_at mid.links k)) where
+  -- each that is moved is there
+  pub moved_are_set : (k : ℕ) → k < 11 → (link : Link) → links_in moved k ≡ Some link → link_at links k ≡ Some link
+  moved_are_set k lt link e = (set k lt).0 ∙ ap (λ (o : Option Link). option_or o (link_at mid.links k)) e
 
--- behind an instruction that changes a register by a constant the walk goes on
-sum_next : (layout : Layout) (action : Action) (old new : Known) (flow : Flow) → AddsOrMasks action → LeavesRow layout action old new (Ok flow) → flow ≡ Next
-sum_next layout (Operate w Add dst (Imm imm)) old new Next sum row = refl
-sum_next layout (Operate w And dst (Imm imm)) old new Next sum row = refl
-sum_next layout (Operate w Add dst (Imm imm)) old new flow sum row = absurd row
-sum_next layout (Operate w And dst (Imm imm)) old new flow sum row = absurd row
-sum_next layout action old new flow sum row = absurd sum
+  abbrev linked : Known
+  linked = record { registers = mid.registers; stack = mid.stack; links = links }
 
-still_next : (layout : Layout) (i : Insn) (old new : Known) (flow : Flow) → AddsOrMasks (action_of i) → LeavesStill layout i old new (Ok flow) → flow ≡ Next
-still_next layout i old new flow sum (between, row, still) = sum_next layout (action_of i) old between flow sum row
+  moving_known : (new : Known) (flow : Flow) → IsNarrowed linked new → IsSpreadByFirst (links_in moved) linked new → LeavesStill layout i old mid (Ok flow) → LeavesKnown layout i old new (Ok flow)
+  moving_known new flow narrowed spread (between, row, still) = (
+    between,
+    row,
+    (
+      linked,
+      record {
+        registers = still.registers;
+        stack = still.stack;
+        links = λ k lt. (
+          (set k lt).0
+              ∙ ap (option_or (links_in moved k)) (still.links k lt).0
+              ∙ moved_behind (link_made old.registers old.links (action_of i)) k (links_in moved k) (link_at between.links k)
+              (λ m e q. are k lt ∙ rw q (made_unmoved old.registers old.links (action_of i) m (link_at old.links (reg_number m.0)) e))
+              ∙ ap (λ (o : Option Link). made_at (link_made old.registers old.links (action_of i)) k (option_or o (link_at between.links k))) (are k lt),
+          (set k lt).1 ∙ (still.links k lt).1,
+        );
+      },
+      record {
+        narrowed = narrowed;
+        spread = spread_so (links_in moved) (λ k. moved_by (action_of i) k (link_at old.links k)) linked new are spread;
+      },
+    ),
+  )
 
--- one that moves links
-pub moving_next : (layout : Layout) (i : Insn) (old mid : Known) (flow : Flow) (moved : Option Links) (links : Links) → AddsOrMasks (action_of i) → LeavesStill layout i old mid (Ok flow)
-    → ((k : ℕ) → k < 11 → links_in moved k ≡ moved_by (action_of i) k (link_at old.links k))
-    → ((k : ℕ) → k < 11 → (link_at links k ≡ option_or (links_in moved k) (link_at mid.links k)) × (home_at links k ≡ home_at mid.links k))
-    → LeavesKnown layout i old (record { registers = mid.registers; stack = mid.stack; links = links }) (Ok Next)
-moving_next layout i old mid flow moved links sum h are set =
-    subst (λ (f : Flow). LeavesKnown layout i old (record { registers = mid.registers; stack = mid.stack; links = links }) (Ok f)) (still_next layout i old mid flow sum h)
-    (moving_known layout i old mid flow moved links h are set)
+  -- behind an instruction that changes a register by a constant the walk goes on
+  sum_next : (action : Action) (old new : Known) (flow : Flow) → AddsOrMasks action → LeavesRow layout action old new (Ok flow) → flow ≡ Next
+  sum_next (Operate w Add dst (Imm imm)) old new Next sum row = refl
+  sum_next (Operate w And dst (Imm imm)) old new Next sum row = refl
+  sum_next (Operate w Add dst (Imm imm)) old new flow sum row = absurd row
+  sum_next (Operate w And dst (Imm imm)) old new flow sum row = absurd row
+  sum_next action old new flow sum row = absurd sum
+
+  still_next : (flow : Flow) → AddsOrMasks (action_of i) → LeavesStill layout i old mid (Ok flow) → flow ≡ Next
+  still_next flow sum (between, row, still) = sum_next (action_of i) old between flow sum row
+
+  pub moving_next : (new : Known) (flow : Flow) → AddsOrMasks (action_of i) → IsNarrowed linked new → IsSpreadByFirst (links_in moved) linked new → LeavesStill layout i old mid (Ok flow)
+      → LeavesKnown layout i old new (Ok Next)
+  moving_next new flow sum narrowed spread h = subst (λ (f : Flow). LeavesKnown layout i old new (Ok f)) (still_next flow sum h) (moving_known new flow narrowed spread h)

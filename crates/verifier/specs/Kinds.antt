@@ -22,6 +22,7 @@ use Rattle.verifier.specs.declared.known.Flow.TheVariants as flow
 use Rattle.verifier.specs.Follows.{Follows, IsFaulty, IsOperand, comparison_of, reg_of}
 use Rattle.links.specs.Links.{AreHomesLeft, AreLeft, AreMade, home_at, link_at, link_made, moved_by}
 use Rattle.links.specs.declared.link.Links.{Links}
+use Rattle.verifier.specs.Learnt.{IsNarrowed, IsSpreadByFirst}
 
 -- ---- what a register receives
 
@@ -169,9 +170,16 @@ pub record IsLinked (layout : Layout) (action : Action) (old between new : Known
   pub stack : new.stack ≡ between.stack
   pub links : AreMade (link_made old.registers old.links action) (home_made layout old action) (λ k. moved_by action k (link_at old.links k)) between.links new.links
 
--- a row of the table, and then the instruction's link
+-- behind it what is known has spread by the first link that is moved, and of all states that were known it still is
+pub record IsSpreadBehind (action : Action) (old linked new : Known) : Type 0 where
+  pub narrowed : IsNarrowed linked new
+  pub spread : IsSpreadByFirst (λ k. moved_by action k (link_at old.links k)) linked new
+
+-- a row of the table, then the instruction's link, and then what spreads behind it
 abbrev pub LeavesKnown : Layout → Insn → Known → Known → Result Flow WalkFault → Type 0
-LeavesKnown layout i old new (Ok flow) = (between : Known) × LeavesRow layout (action_of i) old between (Ok flow) × IsLinked layout (action_of i) old between new
+LeavesKnown layout i old new (Ok flow) =
+    (between : Known) × LeavesRow layout (action_of i) old between (Ok flow)
+    × ((linked : Known) × IsLinked layout (action_of i) old between linked × IsSpreadBehind (action_of i) old linked new)
 LeavesKnown layout i old new (Err fault) = LeavesRow layout (action_of i) old new (Err fault)
 
 -- ---- what rows come to

@@ -1,5 +1,5 @@
 -- What a test teaches: of the two numbers that it compares, and of those that are linked to them.
-use Rattle.std.specs.Prelude.{◌≡◌, ◌≢◌, ℕ, ◌+◌, Bool, true, false, List, slice_set, Option, Some, None}
+use Rattle.std.specs.Prelude.{◌≡◌, ◌≢◌, ◌⊎◌, ◌<◌, ℕ, ◌+◌, Bool, true, false, List, slice_set, Option, Some, None}
 use Rattle.verifier.specs.Names.{Operand, Reg, Imm, Layout, reg_number, block_at, State, Scalar, Kind, IsKindRefined}
 use Rattle.scalar.specs.Narrowed.{Answer}
 use Rattle.links.specs.Narrowed.{AreSameNarrowed, IsLinkNarrowed}
@@ -11,9 +11,14 @@ use Rattle.verifier.specs.Fits.{InStates, Reading, StateFits, is_exact}
 use Rattle.verifier.specs.Follows.{IsOperand, reg_of, register_at, test_answer}
 use Rattle.stack_state.specs.declared.block.Block.{Block}
 use Rattle.stack_state.specs.declared.block.Block.TheVariants as block
-use Rattle.links.specs.Links.{with_turn, home_at, link_at}
+use Rattle.links.specs.Links.{with_turn, home_at, link_at, IsFirstLink}
 use Rattle.links.specs.declared.link.Turn.{Turn}
 use Rattle.links.specs.declared.link.Turn.TheVariants.{Left, Right, Others}
+
+-- what is known is narrowed: it is known of the same states, and shown of the same shapes
+pub record IsNarrowed (known new : Known) : Type 0 where
+  pub states : (layout : Layout) (s : State) → StateFits InStates layout known s → StateFits InStates layout new s
+  pub shapes : (how : Reading) → is_exact how ≡ true → (layout : Layout) (s : State) → StateFits how layout known s → StateFits how layout new s
 
 -- ---- the two numbers that are compared
 
@@ -45,6 +50,11 @@ pub record IsSpread (link : Link) (k : ℕ) (old new : Known) : Type 0 where
   pub registers : new.registers ≡ slice_set (slice_set old.registers (reg_number link.of) both.0) k both.1
   pub stack : new.stack ≡ old.stack
   pub links : new.links ≡ old.links
+
+-- it has spread by the first of some links, or nothing is changed, where it is known of no state, or there is no link
+pub data IsSpreadByFirst (links : ℕ → Option Link) (old : Known) : Known → Type 0 where
+  ByFirst : {k : ℕ} {link : Link} {new : Known} → IsFirstLink links k link → IsSpread link k old new → IsSpreadByFirst links old new
+  ByNone : ((k : ℕ) → k < 11 → links k ≡ None) ⊎ ((layout : Layout) (s : State) → StateFits InStates layout old s → ⊥) → IsSpreadByFirst links old old
 
 -- it is known of both, and all else stays
 pub record IsHomeNarrowed (b k : ℕ) (numbers : Scalar × Scalar) (old new : Known) : Type 0 where

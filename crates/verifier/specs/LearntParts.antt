@@ -4,14 +4,9 @@ use Rattle.verifier.specs.Names.{Action, Flow, Insn, Layout, State, WalkFault, a
 use Rattle.verifier.specs.declared.known.Known.{Known}
 use Rattle.links.specs.Links.{AreHomeless, AreMade, link_made}
 use Rattle.verifier.specs.Kinds.{LeavesRow, home_made}
-use Rattle.verifier.specs.Fits.{InStates, Reading, StateFits, is_exact}
-use Rattle.verifier.specs.Learnt.{IsLearnt, KeepsAnswered}
+use Rattle.verifier.specs.Fits.{InStates, StateFits}
+use Rattle.verifier.specs.Learnt.{IsLearnt, IsNarrowed, KeepsAnswered}
 use Rattle.verifier.specs.declared.known.Test.{Test}
-
--- what is known is narrowed: it is known of the same states, and shown of the same shapes
-pub record IsNarrowed (known new : Known) : Type 0 where
-  pub states : (layout : Layout) (s : State) → StateFits InStates layout known s → StateFits InStates layout new s
-  pub shapes : (how : Reading) → is_exact how ≡ true → (layout : Layout) (s : State) → StateFits how layout known s → StateFits how layout new s
 
 -- all states that are known and of which a test has an answer stay known; none where it never has it
 abbrev pub IsKept : Test → Bool → Known → Known → Bool → Type 0
