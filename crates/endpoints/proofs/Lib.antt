@@ -12,4 +12,10 @@ pub mod Answering
 pub mod Sweeping
 pub mod Besides
 pub mod Remade
+pub mod AnswerQuestions
+pub mod AnswerPoints
+pub mod AnswerAsking
+pub mod AnswerGranting
+pub mod AnswerEndings
+pub mod AnswerWhole
 pub mod Names

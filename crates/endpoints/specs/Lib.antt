@@ -1,4 +1,6 @@
 -- What public clauses cite. docs/DEFINITIONS.md says what to read in which order.
+pub mod Answer
+pub mod Answered
 pub mod Layouts
 pub mod Hosts
 pub mod Authorize
@@ -35,3 +37,4 @@ pub mod BoundedLaws
 pub mod WideningLaws
 -- What these files import, passed on.
 pub mod Names
+pub mod Vocabulary

@@ -8,6 +8,7 @@ use Rattle.endpoints.specs.Hosts.{IsHostFault, says_with}
 use Rattle.endpoints.specs.Replies.{outcome_at, request_outcome, hook_change}
 use Rattle.endpoints.specs.Server.{SeenServer, Outset, FitsServer, IsStep}
 use Rattle.endpoints.specs.Steps.{Arrival, Steps}
+pub use Rattle.endpoints.specs.Answered.{Answers}
 use Rattle.telling.specs.Interests.{wanted_of}
 use Rattle.telling.specs.Telling.{bare_told, told_of}
 use Rattle.telling.specs.declared.interest.Interest.{Interest}

@@ -19,7 +19,7 @@ ghost use Rattle.endpoints.specs.RulingsParts.{AnswersRequest, EndsBy, IsToldBy,
 ghost use Rattle.endpoints.specs.Listing.{AreConsentsOf, AreRecordsOf, IsLastOf};
 ghost use Rattle.endpoints.specs.Server.{FitsServer, Notes, NowNotes, outset_of};
 ghost use Rattle.endpoints.specs.Steps.{Reaches, Sweeps};
-ghost use Rattle.endpoints.specs.Telling.{StepsTelling, heeded};
+ghost use Rattle.endpoints.specs.Telling.{Answers, StepsTelling, heeded};
 ghost use Rattle.token_store.specs.Fits.{FitsStore};
 
 use crate::authorize::authorize;
@@ -472,6 +472,8 @@ impl<H: HookHost> Server<H> {
     ) -> Stepped
         ensures replies { StepsTelling H.HookHost self.old
             (heeded (record { asked = asked_of request.now; moment = moment; draws = draws.now }) interest) result self.new }
+        ensures answers { Answers H.HookHost self.old
+            (record { asked = asked_of request.now; moment = moment; draws = draws.now }) result.reply self.new }
         ensures kept { Sweeps H.HookHost self.old self.new }
         ensures short { length request.now.target.now ≤ state_limit → IsShortReply result.reply }
     {

@@ -1,4 +1,5 @@
 pub mod Talking
+pub mod Answering
 pub mod Leading
 pub mod Chaining
 pub mod Spending

@@ -2,6 +2,7 @@
 pub mod Calls
 pub mod Headline
 pub mod Conversations
+pub mod Answering
 pub mod SafeHooks
 pub mod Occasions
 pub mod Bearers

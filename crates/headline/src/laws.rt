@@ -1,5 +1,6 @@
 //! Laws of every history that a server comes to, of requests and of their replies.
 
+ghost use Rattle.endpoints.specs.Answered.{IsAnswered};
 ghost use Rattle.headline.specs.Activity.{IsActiveWhereLive, TellsWithin};
 ghost use Rattle.headline.specs.Audited.{AreAudited, IsAudited, IsDenialTold};
 ghost use Rattle.headline.specs.Authority.{EndsWithAuthority, IsAllAuthorized, IsIsolated};
@@ -14,6 +15,12 @@ ghost use Rattle.headline.specs.Redirects.{IsNoOpenRedirector};
 ghost use Rattle.headline.specs.Uses.{ReplaysKill, RevokesForGood, UsesUp};
 
 use hook_host::HookHost;
+
+/// Of each request, after every history, the outcome is the answer that one page says, and so all laws of outcomes are laws of
+/// answers.
+pub fn each_outcome_is_the_answer()
+    ensures { IsAnswered }
+{}
 
 /// Where a reply tells of an active token, it is the live one that a client presented; the reply's client, times, scope and
 /// owner are that token's (RFC 7662, section 2.2), its scope is within its client's allowance and its owner's present consent,

@@ -7,5 +7,5 @@ pub mod laws;
 mod making;
 
 pub use call::{EdgeCall, Upshot};
-pub use following::{chains_are_safe, connections_are_conversations};
+pub use following::{chains_are_safe, connections_are_conversations, connections_say_answers};
 pub use making::{Made, make_calls};
