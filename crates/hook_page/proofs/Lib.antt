@@ -1,0 +1,6 @@
+mod Names
+mod Parts
+mod Places
+mod Steps
+mod Bytes
+mod Runs
