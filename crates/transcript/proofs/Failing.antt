@@ -1,5 +1,5 @@
 -- Faults behind the first line are a transcript's faults.
-use Rattle.std.proofs.Common.{◌≢◌, ℕ, List, inr}
+use Rattle.std.proofs.Common.{◌≡◌, ◌≢◌, ℕ, List, inr, Result, Err, IfErr}
 use Rattle.transcript.proofs.Names.{Hosting, RegistryRecord, outset_of, Configures, Stops, IsReplayFault, ReplayFault}
 use Rattle.transcript.specs.declared.fault.ReplayFault.TheVariants.{Config, BadLine, Refused, Memory}
 
@@ -9,3 +9,6 @@ later_fault hosting first text rules later (Config fault) configures stops = abs
 later_fault hosting first text rules later (BadLine line) configures stops = inr (record { rules = rules; later = later; configures = configures; stops = stops (λ e. cc) })
 later_fault hosting first text rules later (Refused line fault) configures stops = record { rules = rules; later = later; configures = configures; stops = stops (λ e. cc) }
 later_fault hosting first text rules later Memory configures stops = tt {0}
+
+pub if_err : {T E : Type 0} (r : Result T E) (P : E → Type 0) (fault : E) → r ≡ Err fault → P fault → IfErr r P
+if_err r P fault same p = rw same p

@@ -1,7 +1,8 @@
 pub mod Drawing
 pub mod Stating
 pub mod Feeds
-pub mod Leading
+pub mod Stated
+pub mod Calling
 pub mod Printing
 pub mod Failing
 pub mod Names

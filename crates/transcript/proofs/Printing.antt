@@ -1,12 +1,12 @@
 -- What is printed of an edge is all that went to its connections.
 use Rattle.std.proofs.Common.{◌≡◌, ℕ, List, [], ◌∷◌, ◌++◌, Bool, Some, flat_map, refl, ap, ◌∙◌, ⊎_elim, arith}
 use Rattle.transcript.proofs.Names.{AllByRecursion, nat_tests, Hosting, Outset, World, Connection, Happening, Happens, Run, first_world, fresh, connection_at, with_connection}
-use Rattle.transcript.proofs.Names.{SeenEdge, Statement, Opens, Brings, Ends, happening, StandFor, printed, printed_lanes}
+use Rattle.transcript.proofs.Names.{SeenEdge, Statement, Opens, Brings, Ends, happening, StandFor, LinesAreMade, printed, printed_lanes}
 use Rattle.http_edge.specs.Answers.{Mishap}
 use Rattle.http_edge.specs.Lanes.{SeenLane, ShowsConnections}
 use Rattle.telling.specs.declared.told.Told.{Told}
 use Rattle.transcript.specs.Replays.{IsOutputOfLines}
-use Rattle.transcript.specs.Running.{RunTo}
+use Rattle.transcript.proofs.Calling.{leads}
 
 -- nothing was taken of connections
 abbrev AreWhole : List Connection → Type 0
@@ -46,11 +46,15 @@ shown_printed (lane ∷ lanes) (k ∷ ks) shows whole =
     rw (output, shows.0.number) (ap (λ (x : List ℕ). printed k.number k.output ++ x) (shown_printed lanes ks shows.1 whole.1))
 shown_printed _ _ shows whole = absurd shows
 
--- lines that were run are answered by what is printed of the edge
+-- lines whose calls were made are answered by what is printed of the edge
 pub answered : {H : Type 0} (hosting : Hosting H) (outset : Outset H) (edge : SeenEdge H) (lines : List (List ℕ)) (output : List ℕ)
-    → RunTo hosting outset lines edge → output ≡ printed_lanes edge.lanes → IsOutputOfLines hosting outset lines output
-answered hosting outset edge lines output run is = record {
-  world = run.world;
-  lead = record { schedule = run.schedule; stand_for = run.stand_for; run = run.reached.run };
-  output_is = is ∙ shown_printed edge.lanes run.world.connections run.reached.shows (run_whole hosting outset lines run.schedule first_world run.world run.stand_for run.reached.run tt);
-}
+    → LinesAreMade hosting outset lines edge → output ≡ printed_lanes edge.lanes → IsOutputOfLines hosting outset lines output
+answered hosting outset edge lines output all is =
+    let world = all.made.journey.world in
+    let lead = leads hosting outset lines edge all in
+    record {
+      edge = edge;
+      made = all;
+      lead = lead;
+      output_is = is ∙ shown_printed edge.lanes world.connections all.made.reached.shows (run_whole hosting outset lines lead.schedule first_world world lead.stand_for lead.run tt);
+    }

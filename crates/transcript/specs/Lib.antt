@@ -3,6 +3,7 @@ pub mod Numbers
 pub mod Pieces
 pub mod Lines
 pub mod Events
+pub mod Called
 pub mod Faults
 pub mod Replays
 pub mod Seen

@@ -7,9 +7,11 @@ use Rattle.clients.specs.Registry.{registry_in}
 use Rattle.clients.specs.RegistryRecord.{RegistryRecord}
 use Rattle.registry_json.specs.declared.fault.ConfigFault.TheVariants as config
 use Rattle.endpoints.specs.Server.{Outset, outset_of}
+use Rattle.http_edge.specs.Edges.{SeenEdge}
 use Rattle.http_edge.specs.Schedule.{World, Happening, Run, first_world}
 use Rattle.transcript.specs.Lines.{transcript_lines, HandsIn}
 use Rattle.transcript.specs.Events.{StandFor}
+use Rattle.transcript.specs.Called.{LinesAreMade}
 use Rattle.transcript.specs.Faults.{IsLineFault}
 use Rattle.transcript.specs.declared.fault.ReplayFault.{ReplayFault}
 use Rattle.transcript.specs.declared.fault.ReplayFault.TheVariants.{Config, BadLine, Refused, Memory}
@@ -44,11 +46,13 @@ pub record LeadTo {H : Type 0} (hosting : Hosting H) (outset : Outset H) (lines 
   pub stand_for : StandFor lines schedule
   pub run : Run hosting outset first_world schedule world
 
--- lines are answered by all that went to all connections, after the last line
+-- Lines are answered by all that went to all connections, after the last line: the calls that they state were made, none was
+-- refused, and the events that they stand for lead to the world of those calls.
 pub record IsOutputOfLines {H : Type 0} (hosting : Hosting H) (outset : Outset H) (lines : List (List ℕ)) (output : List ℕ) : Type 0 where
-  pub world : World
-  pub lead : LeadTo hosting outset lines world
-  pub output_is : output ≡ printed_all world
+  pub edge : SeenEdge H
+  pub made : LinesAreMade hosting outset lines edge
+  pub lead : LeadTo hosting outset lines made.made.journey.world
+  pub output_is : output ≡ printed_all made.made.journey.world
 
 -- one of the lines behind the first has a fault, and those before it are accepted
 pub record Stops {H : Type 0} (hosting : Hosting H) (outset : Outset H) (lines : List (List ℕ)) (fault : ReplayFault) : Type 0 where

@@ -1,56 +1,46 @@
--- Lines that are run over an edge.
-use Rattle.std.specs.Prelude.{◌≢◌, ℕ, List}
+-- Lines that are read, and run as calls over an edge.
+use Rattle.std.specs.Prelude.{◌≡◌, ◌≢◌, ◌+◌, ◌++◌, ℕ, List, [], ◌∷◌, Option, None, Some, length}
 use Rattle.std.specs.List.{flat_map}
+use Rattle.headline.specs.declared.call.Upshot.{Upshot}
+use Rattle.headline.specs.declared.call.Upshot.TheVariants.{Refused}
 use Rattle.hook_host.specs.declared.host.HookHost.{Ghosts as Hosting}
 use Rattle.endpoints.specs.Server.{Outset}
-use Rattle.http_edge.specs.Schedule.{World, Happening, Opened, HasEnded, piece_of}
-use Rattle.http_edge.specs.Edges.{SeenEdge}
 use Rattle.http_edge.specs.Lanes.{SeenLane}
-use Rattle.http_edge.specs.Reached.{Reached, InEach, HappeningLeads, PieceLeads, new_journey}
 use Rattle.http_edge.specs.declared.fault.EdgeFault.{EdgeFault}
-use Rattle.transcript.specs.Lines.{Statement, Opens, Brings, Ends, States}
-use Rattle.transcript.specs.Events.{StandFor, IsStatementRefusal}
-use Rattle.transcript.specs.Faults.{IsLineFault}
+use Rattle.transcript.specs.Lines.{Statement, States}
+use Rattle.transcript.specs.Called.{AreDone, StateEach}
+use Rattle.transcript.specs.Faults.{of_event}
 use Rattle.transcript.specs.Replays.{printed, Stops}
 use Rattle.transcript.specs.declared.fault.ReplayFault.{ReplayFault}
 use Rattle.transcript.specs.declared.fault.ReplayFault.TheVariants.{Memory}
 
--- wherever the one edge was reached, the statement's event leads to the other
-abbrev pub StatementLeads : {H : Type 0} → Hosting H → SeenEdge H → SeenEdge H → Statement → Type 0
-StatementLeads hosting old new (Opens c) = HappeningLeads hosting old new (Opened c)
-StatementLeads hosting old new (Brings c moment draws piece) = PieceLeads hosting old new (piece_of c piece moment) draws
-StatementLeads hosting old new (Ends c) = HappeningLeads hosting old new (HasEnded c)
+-- behind those that state something there is none; or one with this number, counted from the line before them, states nothing
+abbrev pub EndsAt : List Statement → List (List ℕ) → Option ℕ → Type 0
+EndsAt statements rest None = rest ≡ []
+EndsAt statements rest (Some number) =
+    (line : List ℕ) × (behind : List (List ℕ)) × (rest ≡ line ∷ behind) × (number ≡ length statements + 2)
+    × ((statement : Statement) → States line statement → ⊥)
 
--- the fault is that of the statement's event, wherever the edge was reached
-abbrev pub StatementRefuses : {H : Type 0} → Hosting H → SeenEdge H → Statement → EdgeFault → Type 0
-StatementRefuses hosting edge statement fault = InEach hosting edge (λ world. IsStatementRefusal fault world.connections statement)
+-- lines state these statements, up to the first that states nothing
+pub record HaveStated (lines : List (List ℕ)) (statements : List Statement) (bad : Option ℕ) : Type 0 where
+  pub front : List (List ℕ)
+  pub rest : List (List ℕ)
+  pub are : lines ≡ front ++ rest
+  pub each : StateEach front statements
+  pub end : EndsAt statements rest bad
 
--- what a line states leads from the one edge to the other
-pub record LineLeads {H : Type 0} (hosting : Hosting H) (old : SeenEdge H) (line : List ℕ) (new : SeenEdge H) : Type 0 where
-  pub statement : Statement
-  pub states : States line statement
-  pub leads : StatementLeads hosting old new statement
+-- the first of them that was refused is told as its line's fault
+pub record IsFirstRefusal (upshots : List Upshot) (fault : ReplayFault) : Type 0 where
+  pub before : List Upshot
+  pub cause : EdgeFault
+  pub behind : List Upshot
+  pub are : upshots ≡ before ++ Refused cause ∷ behind
+  pub done : AreDone before
+  pub fault_is : fault ≡ of_event (length before + 2) cause
 
--- the fault is that of the line, wherever the edge was reached
-abbrev pub LineFails : {H : Type 0} → Hosting H → SeenEdge H → ℕ → List ℕ → ReplayFault → Type 0
-LineFails hosting edge number line fault = InEach hosting edge (λ world. IsLineFault world.connections number line fault)
-
--- lines were run: their events lead to the edge
-pub record RunTo {H : Type 0} (hosting : Hosting H) (outset : Outset H) (lines : List (List ℕ)) (edge : SeenEdge H) : Type 0 where
-  pub schedule : List Happening
-  pub stand_for : StandFor lines schedule
-  pub world : World
-  pub reached : Reached hosting edge (record { outset = outset; schedule = schedule; world = world })
-
--- from a new edge on the lines were run
-abbrev pub RunsLines : {H : Type 0} → Hosting H → SeenEdge H → SeenEdge H → List (List ℕ) → Type 0
-RunsLines hosting old new lines =
-    (outset : Outset _) → Reached hosting old (new_journey outset) → RunTo hosting outset lines new
-
--- from a new edge on one of the lines has this fault, unless memory was refused
-abbrev pub LinesFail : {H : Type 0} → Hosting H → SeenEdge H → List (List ℕ) → ReplayFault → Type 0
-LinesFail hosting edge lines fault =
-    fault ≢ Memory → (outset : Outset _) → Reached hosting edge (new_journey outset) → Stops hosting outset lines fault
+-- one of the lines has this fault, unless memory was refused
+abbrev pub LinesFail : {H : Type 0} → Hosting H → Outset H → List (List ℕ) → ReplayFault → Type 0
+LinesFail hosting outset lines fault = fault ≢ Memory → Stops hosting outset lines fault
 
 -- the output of all these connections
 abbrev pub printed_lanes : List SeenLane → List ℕ

@@ -1,75 +1,110 @@
 //! A transcript's lines, run over an edge.
 
 ghost use Rattle.std.specs.Prelude.{◌≡◌, ◌++◌, [], map, IfOk, IfErr, OnOk};
+ghost use Rattle.endpoints.specs.Server.{outset_of};
+ghost use Rattle.transcript.specs.Called.{AreCalls, AreDone, LinesAreMade, IsCallOf};
 ghost use Rattle.transcript.specs.Seen.{stated};
 ghost use Rattle.transcript.specs.Replays.{printed, IsReplay, IsReplayFault};
-ghost use Rattle.transcript.specs.Running.{printed_lanes, LinesFail, LineFails, LineLeads, RunsLines, StatementLeads, StatementRefuses};
+ghost use Rattle.transcript.specs.Running.{printed_lanes, HaveStated, IsFirstRefusal, LinesFail};
 
 use crate::fault::ReplayFault;
 use crate::line::{Line, json, lines, statement};
 use clients::Registry;
-use endpoints::Server;
+use headline::{EdgeCall, Upshot, make_calls};
 use hook_chain::Chain;
 use hook_host::HookHost;
-use http_edge::{ConnectionNo, Edge, EdgeFault, Event, Lane};
+use http_edge::{ConnectionNo, Edge, Event, Lane};
 use std::alloc::{AllocError, Global};
 
-/// What a line states happens, or is refused and changes nothing.
-fn happen<H: HookHost>(edge: &mut Edge<H>, line: &Line) -> Result<(), EdgeFault>
-    ensures done { OnOk result (StatementLeads H.HookHost edge.old edge.new (stated line.now)) }
-    ensures refused { IfErr result (StatementRefuses H.HookHost edge.old (stated line.now)) }
+/// What lines behind the first state, up to the first of them that states nothing.
+#[derive(Drop)]
+struct Stated {
+    lines: Vec<Line>,
+    /// The number of the one that states nothing, if one does.
+    bad: Option<usize>,
+}
+
+/// What lines behind the first state.
+fn read_lines(alloc: Global, texts: &[&str]) -> Result<Stated, AllocError>
+    ensures { IfOk result (λ read. HaveStated (map (λ text. text.now) texts.now) (map stated read.lines.items) read.bad) }
+{
+    let mut lines = Vec::new(alloc);
+    for text in texts {
+        let Some(line) = statement(alloc, text)? else {
+            let bad = Some(lines.len() + 2);
+            return Ok(Stated { lines, bad });
+        };
+        lines.push(line)?;
+    }
+    Ok(Stated { lines, bad: None })
+}
+
+/// The call that a line states.
+fn call_of(line: &Line) -> EdgeCall<'_>
+    ensures { IsCallOf (stated line.now) result }
 {
     match line {
-        Line::Open(connection) => edge.event(Event::Open(*connection)),
+        Line::Open(connection) => EdgeCall::Event(Event::Open(*connection)),
         Line::Bytes {
             connection,
             moment,
             draws,
             piece,
-        } => edge.event(Event::Bytes {
+        } => EdgeCall::Event(Event::Bytes {
             connection: *connection,
             piece: piece.as_slice(),
             moment: *moment,
             draws: draws.as_slice(),
         }),
-        Line::End(connection) => edge.event(Event::End(*connection)),
+        Line::End(connection) => EdgeCall::Event(Event::End(*connection)),
     }
 }
 
-/// A line is read, and what it states happens.
-fn run_line<H: HookHost>(
-    alloc: Global,
-    edge: &mut Edge<H>,
-    number: usize,
-    text: &str,
-) -> Result<(), ReplayFault>
-    ensures done { OnOk result (LineLeads H.HookHost edge.old text.now edge.new) }
-    ensures fault { IfErr result (LineFails H.HookHost edge.old number text.now) }
+/// The calls that lines state.
+fn calls_of(alloc: Global, lines: &[Line]) -> Result<Vec<EdgeCall<'_>>, AllocError>
+    ensures { IfOk result (λ calls. AreCalls (map stated lines.now) calls.items) }
 {
-    let Some(line) = statement(alloc, text)? else {
-        return Err(ReplayFault::BadLine(number));
-    };
-    if let Err(fault) = happen(edge, &line) {
-        return Err(ReplayFault::of_event(number, fault));
+    let mut calls = Vec::new(alloc);
+    for line in lines {
+        let call = call_of(line);
+        calls.extend_from_slice(&[call])?;
     }
-    Ok(())
+    Ok(calls)
 }
 
-/// Lines behind the first are run in order.
-fn run_lines<H: HookHost>(
-    alloc: Global,
-    edge: &mut Edge<H>,
-    lines: &[&str],
-) -> Result<(), ReplayFault>
-    ensures done { OnOk result (RunsLines H.HookHost edge.old edge.new (map (λ line. line.now) lines.now)) }
-    ensures fault { IfErr result (LinesFail H.HookHost edge.old (map (λ line. line.now) lines.now)) }
+/// The first of the calls that was refused, as the fault of its line.
+fn first_refusal(upshots: &[Upshot]) -> Result<(), ReplayFault>
+    ensures done { OnOk result (AreDone upshots.now) }
+    ensures refused { IfErr result (IsFirstRefusal upshots.now) }
 {
     let mut number = 1;
-    for line in lines {
+    for upshot in upshots {
         number += 1;
-        run_line(alloc, edge, number, line)?;
+        if let Upshot::Refused(fault) = upshot {
+            return Err(ReplayFault::of_event(number, *fault));
+        }
     }
     Ok(())
+}
+
+/// The calls that lines behind the first state, made on a new edge.
+fn run_lines<H: HookHost + Drop>(
+    alloc: Global,
+    rules: Registry,
+    host: H,
+    texts: &[&str],
+) -> Result<Edge<H>, ReplayFault>
+    ensures done { IfOk result (LinesAreMade H.HookHost (outset_of rules host) (map (λ text. text.now) texts.now)) }
+    ensures fault { IfErr result (LinesFail H.HookHost (outset_of rules host) (map (λ text. text.now) texts.now)) }
+{
+    let read = read_lines(alloc, texts)?;
+    let calls = calls_of(alloc, &read.lines)?;
+    let made = make_calls(alloc, rules, host, &calls)?;
+    first_refusal(&made.upshots)?;
+    if let Some(number) = read.bad {
+        return Err(ReplayFault::BadLine(number));
+    }
+    Ok(made.edge)
 }
 
 /// The output of a connection is printed.
@@ -125,8 +160,7 @@ pub fn replay_on<H: HookHost + Drop>(
         return Err(ReplayFault::BadLine(1));
     };
     let registry = Registry::read(alloc, json.as_bytes())?;
-    let mut edge = Edge::new(alloc, Server::new(alloc, registry, host));
-    run_lines(alloc, &mut edge, later)?;
+    let edge = run_lines(alloc, registry, host, later)?;
     let out = print_outputs(alloc, edge.lanes())?;
     Ok(out)
 }

@@ -1,21 +1,54 @@
-use Rattle.std.proofs.Common.{◌≡◌, Err, arith, rules}
-use Rattle.transcript.proofs.Leading.{if_err, run_all, run_line_on, stops_at}
+use Rattle.std.proofs.Common.{◌≡◌, List, Err, map, rules, subst}
+use Rattle.headline.specs.declared.call.EdgeCall.{EdgeCall}
+use Rattle.headline.specs.declared.call.Upshot.{Upshot}
+use Rattle.headline.specs.Headline.{IsMade}
+use Rattle.transcript.proofs.Names.{outset_of, AreCalls, AreDone, HaveStated, IsFirstRefusal}
+use Rattle.transcript.proofs.Calling.{all_made, stops_bad, stops_there}
+use Rattle.transcript.proofs.Failing.{if_err}
+use Rattle.transcript.proofs.Stated.{texts}
+use Rattle.transcript.specs.Running.{LinesFail}
+use Rattle.transcript.specs.Seen.{stated}
+use Rattle.transcript.specs.declared.line.Line.{Line}
 use Rattle.transcript.proofs.running.run_lines.Goals as goal
 
-pub returns-in_err-run_line-clause-fault : goal.returns-in_err-run_line-clause-fault
-returns-in_err-run_line-clause-fault g c =
-    let number = c.loop-line.invariant.1 in
-    let fails = stops_at g.H.HookHost c.args.edge.now c.loop-line.edge c.args.lines.now c.loop-line.line-index _ _ _ c.loop-line-test.true (omega arith) c.loop-line.invariant.0 c.in_err-run_line.ensures.fault in
-    let same : c.from_residual.result ≡ Err c.in_err-run_line.field-0.0 = search rules in
-    if_err _ _ _ same fails
+pub returns-in_err-first_refusal-clause-fault : goal.returns-in_err-first_refusal-clause-fault
+returns-in_err-first_refusal-clause-fault g c =
+    let outset = outset_of c.args.rules c.args.host in
+    let lines = texts c.args.texts.now in
+    let statements = map stated c.in_ok-read.read.lines.items in
+    let calls = c.in_ok-calls.calls.items in
+    let upshots = c.in_ok-made.made.upshots.items in
+    let edge = c.in_ok-made.made.edge in
+    let fault = c.in_err-first_refusal.field-0.0 in
+    let are = subst (λ (ls : List Line). AreCalls (map stated ls) calls) c.deref.ensures.value c.in_ok-calls.ensures in
+    let made = subst (λ (cs : List EdgeCall). IsMade g.H.HookHost outset cs upshots edge) c.deref-2.ensures.value c.in_ok-made.ensures in
+    let first = subst (λ (us : List Upshot). IsFirstRefusal us fault) c.deref-3.ensures.value c.in_err-first_refusal.ensures.refused in
+    let same : c.from_residual-in_err-first_refusal.result ≡ Err fault = search rules in
+    if_err _ (LinesFail g.H.HookHost outset lines) fault same
+    (stops_there g.H.HookHost outset lines statements c.in_ok-read.read.bad calls upshots edge fault c.in_ok-read.ensures are made first)
 
-pub loop-line-preserved : goal.loop-line-preserved
-loop-line-preserved g c =
-    let number = c.loop-line.invariant.1 in (
-      run_line_on g.H.HookHost c.args.edge.now c.loop-line.edge c.run_line.new.edge c.args.lines.now c.loop-line.line-index _ c.loop-line-test.true c.loop-line.invariant.0 c.in_ok-run_line.ensures.done,
-      omega arith,
-    )
+pub returns-in-Some-clause-fault : goal.returns-in-Some-clause-fault
+returns-in-Some-clause-fault g c = λ not_memory.
+    let outset = outset_of c.args.rules c.args.host in
+    let lines = texts c.args.texts.now in
+    let statements = map stated c.in_ok-read.read.lines.items in
+    let calls = c.in_ok-calls.calls.items in
+    let upshots = c.in_ok-made.made.upshots.items in
+    let edge = c.in_ok-made.made.edge in
+    let are = subst (λ (ls : List Line). AreCalls (map stated ls) calls) c.deref.ensures.value c.in_ok-calls.ensures in
+    let made = subst (λ (cs : List EdgeCall). IsMade g.H.HookHost outset cs upshots edge) c.deref-2.ensures.value c.in_ok-made.ensures in
+    let done = subst AreDone c.deref-3.ensures.value c.in_ok-first_refusal.ensures.done in
+    stops_bad g.H.HookHost outset lines statements c.in-Some.number calls upshots edge (subst (HaveStated lines statements) c.in-Some.is c.in_ok-read.ensures) are made done
 
 pub returns-clause-done : goal.returns-clause-done
 returns-clause-done g c =
-    run_all g.H.HookHost c.args.edge.now c.loop-line.edge c.args.lines.now c.loop-line.line-index c.loop-line-test.false c.loop-line.invariant.0
+    let outset = outset_of c.args.rules c.args.host in
+    let lines = texts c.args.texts.now in
+    let statements = map stated c.in_ok-read.read.lines.items in
+    let calls = c.in_ok-calls.calls.items in
+    let upshots = c.in_ok-made.made.upshots.items in
+    let edge = c.in_ok-made.made.edge in
+    let are = subst (λ (ls : List Line). AreCalls (map stated ls) calls) c.deref.ensures.value c.in_ok-calls.ensures in
+    let made = subst (λ (cs : List EdgeCall). IsMade g.H.HookHost outset cs upshots edge) c.deref-2.ensures.value c.in_ok-made.ensures in
+    let done = subst AreDone c.deref-3.ensures.value c.in_ok-first_refusal.ensures.done in
+    all_made g.H.HookHost outset lines statements calls upshots edge (subst (HaveStated lines statements) c.in_default.is c.in_ok-read.ensures) are made done
