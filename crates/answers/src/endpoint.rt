@@ -1,5 +1,5 @@
 //! The endpoints: their paths, their methods, and how their requests are counted.
-ghost use Rattle.std.specs.Prelude.{◌≡◌, ◌<◌, Some, bytes_eq, find, slice_get};
+ghost use Rattle.std.specs.Prelude.{◌≡◌, ◌<◌, Some, bytes_eq, find, option_copied, slice_get};
 ghost use Rattle.answers.specs.Paths.{endpoint_at, method_at, name_at, path_at, place_of};
 ghost use Rattle.answers.specs.declared.endpoint.TheConstants.{ENDPOINTS};
 
@@ -109,17 +109,15 @@ impl Endpoint {
     pub fn at(path: &[u8]) -> Option<Endpoint>
         ensures { result ≡ endpoint_at path.now }
     {
-        among(path, &ENDPOINTS)
+        among(path, &ENDPOINTS).copied()
     }
 }
 
 // The first of some endpoints that has the path.
-fn among(path: &[u8], endpoints: &[Endpoint]) -> Option<Endpoint>
-    ensures { result ≡ find (λ endpoint. bytes_eq path.now (path_at endpoint)) endpoints.now }
+fn among<'a>(path: &[u8], endpoints: &'a [Endpoint]) -> Option<&'a Endpoint>
+    ensures { option_copied result ≡ find (λ endpoint. bytes_eq path.now (path_at endpoint)) endpoints.now }
 {
-    match endpoints {
-        [endpoint, ..] if path == endpoint.path().as_bytes() => Some(*endpoint),
-        [_, others @ ..] => among(path, others),
-        [] => None,
-    }
+    endpoints
+        .iter()
+        .find(|endpoint| path == endpoint.path().as_bytes())
 }

@@ -87,37 +87,33 @@ impl Asked {
         }
     }
 
-    // With one more at the endpoint, or at none.
-    fn at(self, endpoint: Option<Endpoint>) -> Asked
-        ensures { result ≡ asked_at self endpoint }
+    // One more at the endpoint, or at none.
+    fn note(&mut self, endpoint: Option<Endpoint>)
+        ensures { self.new ≡ asked_at self.old endpoint }
     {
-        let mut asked = self;
         match endpoint {
-            Some(endpoint) => asked.counts[endpoint.place()] = one_more(self.count(endpoint)),
-            None => asked.nowhere = one_more(asked.nowhere),
+            Some(endpoint) => self.counts[endpoint.place()] = one_more(self.count(endpoint)),
+            None => self.nowhere = one_more(self.nowhere),
         }
-        asked
     }
 }
 
 impl Replied {
-    // With one more of the status.
-    fn with(self, status: StatusCode) -> Replied
-        ensures { result ≡ replied self status }
+    // One more of the status.
+    fn note(&mut self, status: StatusCode)
+        ensures { self.new ≡ replied self.old status }
     {
-        let mut replied = self;
         match status.as_u16() {
-            200 => replied.ok = one_more(replied.ok),
-            302 => replied.found = one_more(replied.found),
-            400 => replied.bad_request = one_more(replied.bad_request),
-            401 => replied.unauthorized = one_more(replied.unauthorized),
-            403 => replied.forbidden = one_more(replied.forbidden),
-            404 => replied.not_found = one_more(replied.not_found),
-            405 => replied.not_allowed = one_more(replied.not_allowed),
-            503 => replied.unavailable = one_more(replied.unavailable),
+            200 => self.ok = one_more(self.ok),
+            302 => self.found = one_more(self.found),
+            400 => self.bad_request = one_more(self.bad_request),
+            401 => self.unauthorized = one_more(self.unauthorized),
+            403 => self.forbidden = one_more(self.forbidden),
+            404 => self.not_found = one_more(self.not_found),
+            405 => self.not_allowed = one_more(self.not_allowed),
+            503 => self.unavailable = one_more(self.unavailable),
             _ => {}
         }
-        replied
     }
 }
 
@@ -143,8 +139,8 @@ impl Tally {
     pub fn count(&mut self, endpoint: Option<Endpoint>, status: StatusCode, cause: Option<Cause>)
         ensures { self.new ≡ with_request self.old endpoint status cause }
     {
-        self.asked = self.asked.at(endpoint);
-        self.replied = self.replied.with(status);
+        self.asked.note(endpoint);
+        self.replied.note(status);
         match cause {
             Some(Cause::Wants(want)) => self.wanted = self.wanted.with(want),
             Some(Cause::Denied) => self.denied = one_more(self.denied),

@@ -1,12 +1,14 @@
 -- One more field is looked at.
-use Rattle.std.proofs.Common.{◌≡◌, ℕ, ◌+◌, List, [], ◌∷◌, ◌++◌, take, map, true, false, refl, append-nil}
+use Rattle.std.proofs.Common.{◌≡◌, ℕ, List, [], ◌∷◌, ◌++◌, map, true, false, refl, append-nil}
 use Rattle.std.proofs.lemmas.List.{map-append}
 use Rattle.std.proofs.lemmas.List.Elements.{filter-append}
 use Rattle.httparse.specs.Spans.{header_bytes, span_bytes}
 use Rattle.httparse.specs.declared.spans.HeaderSpan.{HeaderSpan}
 use Rattle.heads.specs.declared.fields.Lookup.{Lookup}
 use Rattle.heads.specs.Fields.{field_values, field_has_name}
-use Rattle.heads.specs.PlacesParts.{IsLookup, IsLookupOf}
+use Rattle.heads.specs.declared.fields.Lookup.TheVariants.{Absent}
+use Rattle.heads.specs.declared.fields.TheConstants.{NOTHING}
+use Rattle.heads.specs.PlacesParts.{AreLookups, IsLookup, Looks, LooksOn, fields_at}
 
 values_more : (name : List ℕ) (fields : List (List ℕ × List ℕ)) (f : List ℕ × List ℕ) → field_values name (fields ++ f ∷ []) ≡ field_values name fields ++ field_values name (f ∷ [])
 unfolding field_values
@@ -24,15 +26,29 @@ pub no_values : (name : List ℕ) → field_values name [] ≡ []
 unfolding field_values
 no_values name = refl
 
-module _ (name bytes : List ℕ) (headers : List HeaderSpan) (i : ℕ) (h : HeaderSpan) (here : take (i + 1) headers ≡ take i headers ++ h ∷ []) where
-  all_more : field_values name (map (header_bytes bytes) (take (i + 1) headers)) ≡ field_values name (map (header_bytes bytes) (take i headers)) ++ field_values name (header_bytes bytes h ∷ [])
-  all_more = rw (here, map-append) (values_more name (map (header_bytes bytes) (take i headers)) (header_bytes bytes h))
+-- a field more was looked at
+module _ (name bytes : List ℕ) (headers : List HeaderSpan) (h : HeaderSpan) where
+  all_more : field_values name (fields_at bytes (headers ++ h ∷ [])) ≡ field_values name (fields_at bytes headers) ++ field_values name (header_bytes bytes h ∷ [])
+  all_more = rw map-append (values_more name (map (header_bytes bytes) headers) (header_bytes bytes h))
 
-  pub lookup_named : (found : Lookup) → field_has_name name (header_bytes bytes h) ≡ true
-      → IsLookupOf (field_values name (map (header_bytes bytes) (take i headers)) ++ span_bytes bytes h.value ∷ []) bytes found
-      → IsLookup name (map (header_bytes bytes) (take (i + 1) headers)) bytes found
-  lookup_named found e old = rw (all_more, one_named name (header_bytes bytes h) e) old
+  pub lookup_named : (old found : Lookup) → field_has_name name (header_bytes bytes h) ≡ true → LooksOn old h.value found
+      → IsLookup name (fields_at bytes headers) bytes old → IsLookup name (fields_at bytes (headers ++ h ∷ [])) bytes found
+  lookup_named old found e on was = rw (all_more, one_named name (header_bytes bytes h) e) (on _ bytes was)
 
   pub lookup_other : (found : Lookup) → field_has_name name (header_bytes bytes h) ≡ false
-      → IsLookup name (map (header_bytes bytes) (take i headers)) bytes found → IsLookup name (map (header_bytes bytes) (take (i + 1) headers)) bytes found
-  lookup_other found e old = rw (all_more, one_other name (header_bytes bytes h) e, append-nil) old
+      → IsLookup name (fields_at bytes headers) bytes found → IsLookup name (fields_at bytes (headers ++ h ∷ [])) bytes found
+  lookup_other found e was = rw (all_more, one_other name (header_bytes bytes h) e, append-nil) was
+
+-- before the first no name finds anything
+nothing_named : (name bytes : List ℕ) → Looks name bytes [] Absent
+nothing_named name bytes = record { found = no_values name; within = tt }
+
+pub nothing_found : (bytes : List ℕ) → AreLookups bytes [] NOTHING
+nothing_found bytes = record {
+  transfer = nothing_named _ bytes;
+  authorization = nothing_named _ bytes;
+  content_type = nothing_named _ bytes;
+  owner_key = nothing_named _ bytes;
+  operator_key = nothing_named _ bytes;
+  content_length = nothing_named _ bytes;
+}

@@ -8,6 +8,7 @@ use Rattle.heads.specs.Fields.{AreGoodFields, field_values, field_value, content
 use Rattle.heads.specs.declared.fields.Lookup.{Lookup}
 use Rattle.heads.specs.declared.fields.Lookup.TheVariants.{Absent, One, Twice}
 use Rattle.heads.specs.declared.fields.FieldSpans.{FieldSpans}
+use Rattle.heads.specs.declared.fields.Lookups.{Lookups}
 use Rattle.heads.specs.Places.{IsOptionWithin, bytes_at_place}
 
 -- a look-up's answer, where these values have the name
@@ -33,6 +34,20 @@ abbrev pub IsLookupWithin : ℕ → Lookup → Type 0
 IsLookupWithin n Absent = ⊤
 IsLookupWithin n (One span) = IsWithin n span
 IsLookupWithin n Twice = ⊤
+
+-- what a name finds among the fields at these places
+pub record Looks (name bytes : List ℕ) (headers : List HeaderSpan) (lookup : Lookup) : Type 0 where
+  pub found : IsLookup name (fields_at bytes headers) bytes lookup
+  pub within : IsLookupWithin (length bytes) lookup
+
+-- what those names find that count
+pub record AreLookups (bytes : List ℕ) (headers : List HeaderSpan) (found : Lookups) : Type 0 where
+  pub transfer : Looks (codes "transfer-encoding") bytes headers found.transfer
+  pub authorization : Looks (codes "authorization") bytes headers found.authorization
+  pub content_type : Looks (codes "content-type") bytes headers found.content_type
+  pub owner_key : Looks (codes "x-owner-key") bytes headers found.owner_key
+  pub operator_key : Looks (codes "x-operator-key") bytes headers found.operator_key
+  pub content_length : Looks (codes "content-length") bytes headers found.content_length
 
 -- the place of the value of this name, which stands at most once
 pub record IsPlaceOf (name bytes : List ℕ) (fields : List (List ℕ × List ℕ)) (place : Option Span) : Type 0 where

@@ -52,8 +52,7 @@ impl Latencies {
     pub fn note(&mut self, path: Option<Endpoint>, nanos: u64)
         ensures { self.new ≡ latencies_after self.old path nanos }
     {
-        let mut histogram = self.at(path);
-        histogram.note(nanos);
-        self.histograms[place_of(path)] = histogram;
+        let place = place_of(path);
+        self.histograms[place].note(nanos);
     }
 }

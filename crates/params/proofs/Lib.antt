@@ -5,3 +5,4 @@ pub mod Tokens
 pub mod Written
 pub mod Taken
 pub mod Names
+pub mod Plain

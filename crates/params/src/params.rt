@@ -1,14 +1,16 @@
 // The parameters of a query or a form.
-ghost use Rattle.std.specs.Prelude.{◌≡◌, ◌<◌, length, IfOk, IfErr, Ok, Some, option_copied, ℕ, List};
+ghost use Rattle.std.specs.Prelude.{◌≡◌, ◌==◌, ◌&&◌, ◌<◌, not, length, IfOk, IfErr, Ok, Some, option_copied, ℕ, List};
+ghost use Rattle.std.specs.Cow.{cow_str_bytes};
+ghost use Rattle.std.specs.List.{list_all};
 ghost use Rattle.params.specs.declared.params.ParamFault.TheVariants.{Memory};
-ghost use Rattle.params.specs.Form.{IsFormRefusal, read_params, value_sent, has_replacement, any_twice, names_of_pairs, texts_of};
+ghost use Rattle.params.specs.Form.{IsFormRefusal, lossy_text, read_params, value_sent, has_replacement, any_twice, names_of_pairs, texts_of};
 
-use form_urlencoded::parse;
+use form_urlencoded::{decode, raw_pairs};
 use std::alloc::{AllocError, AllocFailed, Global};
 use std::borrow::CowStr;
 use std::collections::BTreeMap;
-use std::fmt;
 use std::marker::Model;
+use std::{fmt, str};
 
 /// Why parameters are refused.
 #[derive(Clone, Copy, Debug, PartialEq, Eq)]
@@ -65,8 +67,9 @@ impl<'a> Params<'a> {
         ensures err { IfErr result (IsFormRefusal input.now) }
     {
         let mut pairs = Vec::new(alloc);
-        for pair in parse(alloc, input) {
-            let (name, value) = pair?;
+        for pair in raw_pairs(input) {
+            let name = text_of(alloc, pair.0)?;
+            let value = text_of(alloc, pair.1)?;
             if value.is_empty() {
                 continue;
             }
@@ -92,6 +95,26 @@ impl<'a> Params<'a> {
         }
         None
     }
+}
+
+// Whether no byte stands for another one.
+fn is_plain(bytes: &[u8]) -> bool
+    ensures { result ≡ list_all (λ b. not (b == 43) && not (b == 37)) bytes.now }
+{
+    bytes.iter().all(|byte| *byte != b'+' && *byte != b'%')
+}
+
+// The text that bytes of a form stand for: where it stands there as it is, it is no copy.
+#[tactic(auto, using(crate::proofs::Plain::plain_text))]
+fn text_of(alloc: Global, bytes: &[u8]) -> Result<CowStr<'_>, AllocError>
+    ensures { IfOk result (λ text. cow_str_bytes text ≡ lossy_text bytes.now) }
+{
+    if is_plain(bytes) {
+        if let Ok(text) = str::from_utf8(bytes) {
+            return Ok(CowStr::Borrowed(text));
+        }
+    }
+    decode(alloc, bytes)
 }
 
 // Whether some name stands twice.
