@@ -1,5 +1,5 @@
 -- Which fault of a device or of a file of batches an error of the system is.
-use Rattle.std.specs.Prelude.{◌<◌, ◌-◌, ℕ, ⊤}
+use Rattle.std.specs.Prelude.{◌≡◌, ◌⊎◌, ◌<◌, ◌≤◌, ◌+◌, ◌-◌, ◌^◌, max, ℕ, Option, None, Some, ⊤}
 use Rattle.std.specs.IoError.{error_kind}
 use Rattle.std.specs.declared.io.Error.{Error}
 use Rattle.std.specs.declared.io.ErrorKind.{ErrorKind}
@@ -37,6 +37,12 @@ pub record IsUsedUp {D : Type 0} (tells_full : D → ℕ → SystemFault → Typ
 abbrev pub TellsNoRoom : {D : Type 0} → (D → ℕ → SystemFault → Type 0) → ℕ → ℕ → BatchFault → Type 0
 TellsNoRoom tells_full room need (batch.NoRoom reason) = IsUsedUp tells_full room need reason
 TellsNoRoom tells_full room need fault = ⊤
+
+-- How many zeros stand behind the frames once there is room for what is needed: as many as before; or, where fewer than half a MB would
+-- stay behind that, a MB more than it needs; or, where the device refused that, no more than it needs.
+abbrev pub IsMadeRoom : (need old new : ℕ) → Option SystemFault → Type 0
+IsMadeRoom need old new None = (need + 2 ^ 19 ≤ new) × ((new ≡ old) ⊎ ((old < need + 2 ^ 19) × (new ≡ max old need + 2 ^ 20)))
+IsMadeRoom need old new (Some reason) = new ≡ max old need
 
 -- a device's fault as that of the file of batches on it, and as that of a replacement
 abbrev pub of_device : DeviceFault → BatchFault

@@ -1,9 +1,9 @@
 //! A file of batches: they are added one by one, or another file is put in the place of all.
 
-ghost use Rattle.std.specs.Prelude.{◌≡◌, ◌<◌, ◌≤◌, ◌^◌, ◌+◌, ◌++◌, [], ◌∷◌, true, false, length, IfOk, IfErr, IfNone, IfSome, OnOk, IsErrOf, IsTrue, IsFalse, ℕ};
+ghost use Rattle.std.specs.Prelude.{◌≡◌, ◌⊎◌, ◌<◌, ◌≤◌, ◌^◌, ◌+◌, ◌-◌, ◌++◌, [], ◌∷◌, max, true, false, length, IfOk, IfErr, IfNone, IfSome, OnOk, IsErrOf, IsTrue, IsFalse, ℕ};
 ghost use Rattle.batch_file.specs.Crashes.{HasCause, IsFailure, IsReplaceFailure, IsUnplaced, IsWrittenAt, LeavesOnly, Only};
 ghost use Rattle.batch_file.specs.declared.device.DeviceFault.TheVariants.{Memory};
-ghost use Rattle.batch_file.specs.Faults.{of_device, of_replacement, IsOfRoom, TellsNoRoom};
+ghost use Rattle.batch_file.specs.Faults.{of_device, of_replacement, IsMadeRoom, IsOfRoom, TellsNoRoom};
 ghost use Rattle.batch_file.specs.Frames.{file_size, limit, most_room, recovered, IsAsBefore, IsBeforeOrAfter, IsFileOf, IsOldOrNew, IsBatchFailure, IsOnDisk, IsUndisturbed, IsReadable, IsRenewFailure, IsUnrenewed};
 ghost use Rattle.batch_file.specs.Tears.{Torn};
 
@@ -159,8 +159,7 @@ impl<D: Device> BatchFile<D> {
         ensures settled { OnOk result (IsOnDisk D.seen D.may_leave D.faults self.new) }
         ensures added { OnOk result (recovered (D.seen self.new.device) ≡ recovered (D.seen self.old.device) ++ batch.now ∷ []) }
         // A crash at any moment of the call leaves the batches from before it, with the new one or without.
-        ensures any_moment { LeavesOnly D.moment D.left_since self.old.device self.new.device
-            (IsBeforeOrAfter (recovered (D.seen self.old.device)) batch.now) }
+        ensures any_moment { LeavesOnly D.moment D.left_since self.old.device self.new.device (IsBeforeOrAfter (recovered (D.seen self.old.device)) batch.now) }
         // Each of these is a file that is not refused.
         ensures readable { LeavesOnly D.moment D.left_since self.old.device self.new.device IsReadable }
         // What a crash leaves is promised only where earlier reads told what was there.
@@ -170,6 +169,10 @@ impl<D: Device> BatchFile<D> {
         ensures full { IsErrOf result BatchFault.Full → 2 ^ 60 ≤ self.old.end }
         // It is told that there is no room only once the zeros are used up, and there is none for as many as are missing.
         ensures no_room { IfErr result (TellsNoRoom D.tells_full self.old.room (21 + length batch.now + 16)) }
+        // Behind it there is a reserve, of a MB more each time that too little is left of it, unless the device has no room for that.
+        ensures reserve { OnOk result (IsMadeRoom (21 + length batch.now + 16) self.old.room (self.new.room + (21 + length batch.now)) self.new.refused) }
+        ensures refusal { OnOk result (IfSome self.new.refused (λ reason. (self.new.refused ≡ self.old.refused)
+            ⊎ D.tells_full self.old.device ((21 + length batch.now + 16 - self.old.room) + 2 ^ 20) reason)) }
         ensures too_long { IsErrOf result BatchFault.TooLong → limit ≤ length batch.now }
         // It is added only where the file stands where it was opened.
         ensures in_place { OnOk result (D.tells_place self.old.device true) }
@@ -205,6 +208,8 @@ impl<D: Device> BatchFile<D> {
         requires few { need < limit + 37 }
         ensures settled { OnOk result (IsOnDisk D.seen D.may_leave D.faults self.new) }
         ensures room { OnOk result (need ≤ self.new.room) }
+        ensures reserve { OnOk result (IsMadeRoom need self.old.room self.new.room self.new.refused) }
+        ensures refusal { OnOk result (IfSome self.new.refused (λ reason. (self.new.refused ≡ self.old.refused) ⊎ D.tells_full self.old.device ((need - self.old.room) + 2 ^ 20) reason)) }
         ensures same { (self.new.end ≡ self.old.end) × (self.new.last ≡ self.old.last) }
         ensures batches { OnOk result (recovered (D.seen self.new.device) ≡ recovered (D.seen self.old.device)) }
         ensures any_moment { LeavesOnly D.moment D.left_since self.old.device self.new.device (IsFileOf (recovered (D.seen self.old.device))) }
@@ -217,7 +222,8 @@ impl<D: Device> BatchFile<D> {
         ensures displaced { IsErrOf result BatchFault.Displaced → ⊥ }
         ensures next { D.next self.new.device ≡ D.next self.old.device }
     {
-        if is_enough(self.room, need, self.low) {
+        let low = low_of(&self.refused, self.low);
+        if is_enough(self.room, need, low) {
             return Ok(());
         }
         let refused = self.grow(need.saturating_sub(self.room) + RESERVE)?;
@@ -237,7 +243,8 @@ impl<D: Device> BatchFile<D> {
         requires end { self.old.end < 2 ^ 60 }
         requires few { need < limit + 37 }
         ensures settled { OnOk result (IsOnDisk D.seen D.may_leave D.faults self.new) }
-        ensures room { OnOk result (need ≤ self.new.room) }
+        ensures room { OnOk result (self.new.room ≡ max self.old.room need) }
+        ensures refused { self.new.refused ≡ self.old.refused }
         ensures same { (self.new.end ≡ self.old.end) × (self.new.last ≡ self.old.last) }
         ensures batches { OnOk result (recovered (D.seen self.new.device) ≡ recovered (D.seen self.old.device)) }
         ensures any_moment { LeavesOnly D.moment D.left_since self.old.device self.new.device (IsFileOf (recovered (D.seen self.old.device))) }
@@ -269,7 +276,7 @@ impl<D: Device> BatchFile<D> {
         ensures as_long { IfOk result (λ refused. IfSome refused (λ _. self.new.room ≡ self.old.room)) }
         ensures of_room { IfOk result (λ refused. IfSome refused IsOfRoom) }
         ensures told { IfOk result (λ refused. IfSome refused (D.tells_full self.old.device more)) }
-        ensures same { (self.new.end ≡ self.old.end) × (self.new.last ≡ self.old.last) }
+        ensures same { (self.new.end ≡ self.old.end) × (self.new.last ≡ self.old.last) × (self.new.refused ≡ self.old.refused) }
         ensures batches { OnOk result (recovered (D.seen self.new.device) ≡ recovered (D.seen self.old.device)) }
         ensures any_moment { LeavesOnly D.moment D.left_since self.old.device self.new.device (IsFileOf (recovered (D.seen self.old.device))) }
         ensures truth { D.reads_true self.new.device → D.reads_true self.old.device }
@@ -347,9 +354,20 @@ impl<D: Device> BatchFile<D> {
     }
 }
 
+/// How many zeros are to stay behind a batch: fewer, where more were refused last.
+fn low_of(refused: &Option<SystemFault>, low: usize) -> usize
+    ensures { IfNone refused.now (2 ^ 19 ≤ result) }
+{
+    match refused {
+        Some(_) => low,
+        None => LOW,
+    }
+}
+
 /// Whether so many zeros are enough for a batch, and so many more.
 fn is_enough(room: usize, need: usize, low: usize) -> bool
     ensures yes { IsTrue result → need ≤ room }
+    ensures reserve { IsTrue result → 2 ^ 19 ≤ low → need + 2 ^ 19 ≤ room }
     ensures no { IsFalse result → room < need + 2 ^ 19 }
 {
     if room < need {

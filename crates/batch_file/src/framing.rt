@@ -165,8 +165,7 @@ fn is_first_kind(bytes: &[u8], len: usize) -> bool
 /// Of which version a state file of so many bytes is that begins with these, if it is of one.
 pub(crate) fn version_of(bytes: &[u8], len: usize) -> Option<u8>
     ensures some { IfSome result (λ version. (more : List ℕ) → Begins bytes.now more len → IsVersion version (bytes.now ++ more)) }
-    ensures none { IfNone result ((more : List ℕ) → Begins bytes.now more len
-        → (version : ℕ) → IsVersion version (bytes.now ++ more) → ⊥) }
+    ensures none { IfNone result ((more : List ℕ) → Begins bytes.now more len → (version : ℕ) → IsVersion version (bytes.now ++ more) → ⊥) }
 {
     if bytes.starts_with(&TITLE) {
         return told_digit(&bytes[TITLE.len()..]);
@@ -253,8 +252,7 @@ fn has_frame(bytes: &[u8], before: &[u8; 16]) -> bool
 /// Whether a frame stands behind as many bytes as a length says, and is right behind the digest that these would have.
 fn has_frame_due(bytes: &[u8], last: &[u8; 16]) -> bool
     requires { 21 ≤ length bytes.now }
-    ensures { IsTrue result ↔ ((batch : List ℕ) × (more : List ℕ)
-        × IsFrame (digest last.now (first_at bytes.now)) batch more (drop (21 + size_at (drop 1 bytes.now)) bytes.now)) }
+    ensures { IsTrue result ↔ ((batch : List ℕ) × (more : List ℕ) × IsFrame (digest last.now (first_at bytes.now)) batch more (drop (21 + size_at (drop 1 bytes.now)) bytes.now)) }
 {
     let size = u32::from_be_bytes([bytes[1], bytes[2], bytes[3], bytes[4]]) as usize;
     if size > bytes.len() - 21 {

@@ -39,8 +39,7 @@ pub fn digest_vouches()
 /// Two files that are read as the same number of batches, and have one last digest, are read as the same batches, or two inputs
 /// of SHA-256 are known whose digests begin with the same 16 bytes.
 pub fn last_digest_vouches()
-    ensures { (xs ys : List (List ℕ)) (last file other : List ℕ) → Spells xs last file → Spells ys last other
-        → length xs ≡ length ys → (xs ≡ ys) ⊎ Collision }
+    ensures { (xs ys : List (List ℕ)) (last file other : List ℕ) → Spells xs last file → Spells ys last other → length xs ≡ length ys → (xs ≡ ys) ⊎ Collision }
 {}
 
 /// What else it would take than the premise on chance allows. An append that a crash cuts short leaves the batches from before it, or

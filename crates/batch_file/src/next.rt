@@ -81,8 +81,7 @@ impl<D: Device> BatchFile<D> {
         requires { IsOnDisk D.seen D.may_leave D.faults self.old }
         ensures settled { IsOnDisk D.seen D.may_leave D.faults self.new }
         ensures same { IsUndisturbed D.seen D.moment D.left_since self.old self.new }
-        ensures added { OnOk result ((batches : List (List ℕ)) → AreNext D.next self.old next.old batches
-            → AreNext D.next self.new next.new (batches ++ batch.now ∷ [])) }
+        ensures added { OnOk result ((batches : List (List ℕ)) → AreNext D.next self.old next.old batches → AreNext D.next self.new next.new (batches ++ batch.now ∷ [])) }
         ensures truth { D.reads_true self.new.device → D.reads_true self.old.device }
         ensures true_before { LeavesOnly D.moment D.left_since self.old.device self.new.device (λ _. D.reads_true self.old.device) }
         ensures refused { IfErr result IsUnrenewed }
@@ -118,8 +117,7 @@ impl<D: Device> BatchFile<D> {
         requires stands { IsOnDisk D.seen D.may_leave D.faults self.old }
         requires written { (batches : List (List ℕ)) × AreNext D.next self.old next.now batches }
         ensures settled { OnOk result (IsOnDisk D.seen D.may_leave D.faults self.new) }
-        ensures replaced { OnOk result ((batches : List (List ℕ)) → AreNext D.next self.old next.now batches
-            → recovered (D.seen self.new.device) ≡ batches) }
+        ensures replaced { OnOk result ((batches : List (List ℕ)) → AreNext D.next self.old next.now batches → recovered (D.seen self.new.device) ≡ batches) }
         ensures end { OnOk result (self.new.end ≡ next.now.end) }
         // A crash at any moment of the call leaves the batches from before it, or those of the next file in their place.
         ensures any_moment { (batches : List (List ℕ)) → AreNext D.next self.old next.now batches

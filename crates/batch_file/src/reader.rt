@@ -54,8 +54,7 @@ impl<S: ByteSource + Drop> FrameReader<S> {
         ensures begun { IfOk result (λ reader. HasRead S.told S.is_over [] reader) }
         ensures whole { IfOk result (λ reader. (all : List ℕ) → S.whole source all → S.whole reader.source all) }
         ensures whole_lost { IfErr result (λ lost. (all : List ℕ) → S.whole source all → S.whole lost.source all) }
-        ensures refused { IfErr result (λ lost. IsUnread lost.fault
-            ⊎ (S.is_over lost.source × RefusesHeader (S.told lost.source) lost.fault)) }
+        ensures refused { IfErr result (λ lost. IsUnread lost.fault ⊎ (S.is_over lost.source × RefusesHeader (S.told lost.source) lost.fault)) }
     {
         match read_front(alloc, &mut source) {
             Ok(front) if front.bytes.starts_with(&HEADER) => Ok(FrameReader {
@@ -77,10 +76,8 @@ impl<S: ByteSource + Drop> FrameReader<S> {
         ensures read { IfOk result (λ found. IfSome found (λ batch. (batches : List (List ℕ))
             → HasRead S.told S.is_over batches self.old → HasRead S.told S.is_over (batches ++ batch.items ∷ []) self.new)) }
         // Each takes it nearer to the end of the longest file that is read.
-        ensures further { IfOk result (λ found. IfSome found
-            (λ _. (self.old.walk.end < self.new.walk.end) × (self.old.walk.end < 2 ^ 60))) }
-        ensures none { IfOk result (λ found. IfNone found ((batches : List (List ℕ))
-            → HasRead S.told S.is_over batches self.old → HasRead S.told S.is_over batches self.new)) }
+        ensures further { IfOk result (λ found. IfSome found (λ _. (self.old.walk.end < self.new.walk.end) × (self.old.walk.end < 2 ^ 60))) }
+        ensures none { IfOk result (λ found. IfNone found ((batches : List (List ℕ)) → HasRead S.told S.is_over batches self.old → HasRead S.told S.is_over batches self.new)) }
         ensures spent { IfOk result (λ found. IfNone found (IsTrue self.new.spent)) }
         ensures whole { (all : List ℕ) → S.whole self.old.source all → S.whole self.new.source all }
         ensures refused { IfErr result IsUnread }
@@ -102,14 +99,10 @@ impl<S: ByteSource + Drop> FrameReader<S> {
         ensures over { IfOk result (λ read. S.is_over read.source) }
         ensures batches { IfOk result (λ read. (batches : List (List ℕ)) → HasRead S.told S.is_over batches self
             → (later : List (List ℕ)) × (recovered (S.told read.source) ≡ batches ++ later) × (IsTrue self.spent → later ≡ [])) }
-        ensures readable { IfOk result (λ read. (batches : List (List ℕ)) → HasRead S.told S.is_over batches self
-            → IsReadable (S.told read.source)) }
-        ensures torn { IfOk result (λ read. (batches : List (List ℕ)) → HasRead S.told S.is_over batches self
-            → read.torn.items ≡ torn_of (S.told read.source)) }
-        ensures end { IfOk result (λ read. (batches : List (List ℕ)) → HasRead S.told S.is_over batches self
-            → read.end ≡ 16 + frames_size (recovered (S.told read.source))) }
-        ensures last { IfOk result (λ read. (batches : List (List ℕ)) → HasRead S.told S.is_over batches self
-            → read.last ≡ last_of header (recovered (S.told read.source))) }
+        ensures readable { IfOk result (λ read. (batches : List (List ℕ)) → HasRead S.told S.is_over batches self → IsReadable (S.told read.source)) }
+        ensures torn { IfOk result (λ read. (batches : List (List ℕ)) → HasRead S.told S.is_over batches self → read.torn.items ≡ torn_of (S.told read.source)) }
+        ensures end { IfOk result (λ read. (batches : List (List ℕ)) → HasRead S.told S.is_over batches self → read.end ≡ 16 + frames_size (recovered (S.told read.source))) }
+        ensures last { IfOk result (λ read. (batches : List (List ℕ)) → HasRead S.told S.is_over batches self → read.last ≡ last_of header (recovered (S.told read.source))) }
         ensures whole { IfOk result (λ read. (all : List ℕ) → S.whole self.source all → S.whole read.source all) }
         ensures whole_lost { IfErr result (λ lost. (all : List ℕ) → S.whole self.source all → S.whole lost.source all) }
         ensures refused { IfErr result (λ lost. IsUnread lost.fault ⊎ ((batches : List (List ℕ)) → HasRead S.told S.is_over batches self
@@ -187,10 +180,8 @@ impl<S: ByteSource + Drop> FrameReader<S> {
 
     /// Reads until it is known whether a frame is ahead.
     fn fill_frame(&mut self, alloc: Global) -> Result<(), ReadFault>
-        ensures read { OnOk result ((batches : List (List ℕ)) → HasRead S.told S.is_over batches self.old
-            → HasRead S.told S.is_over batches self.new) }
-        ensures decided { OnOk result (IsTrue self.new.over ⊎ ((last more : List ℕ) → IsNoFrame last (ahead self.new.walk)
-            → IsNoFrame last (ahead self.new.walk ++ more))) }
+        ensures read { OnOk result ((batches : List (List ℕ)) → HasRead S.told S.is_over batches self.old → HasRead S.told S.is_over batches self.new) }
+        ensures decided { OnOk result (IsTrue self.new.over ⊎ ((last more : List ℕ) → IsNoFrame last (ahead self.new.walk) → IsNoFrame last (ahead self.new.walk ++ more))) }
         ensures same { OnOk result (StaysThere self.old self.new) }
         ensures whole { (all : List ℕ) → S.whole self.old.source all → S.whole self.new.source all }
         ensures refused { IfErr result IsUnread }
@@ -203,8 +194,7 @@ impl<S: ByteSource + Drop> FrameReader<S> {
 
     /// Reads until so many bytes are ahead, or the source has no more.
     fn fill(&mut self, alloc: Global, size: usize) -> Result<(), ReadFault>
-        ensures read { OnOk result ((batches : List (List ℕ)) → HasRead S.told S.is_over batches self.old
-            → HasRead S.told S.is_over batches self.new) }
+        ensures read { OnOk result ((batches : List (List ℕ)) → HasRead S.told S.is_over batches self.old → HasRead S.told S.is_over batches self.new) }
         ensures enough { OnOk result (IsFalse self.new.over → size ≤ length (ahead self.new.walk)) }
         ensures same { OnOk result (StaysThere self.old self.new) }
         ensures whole { (all : List ℕ) → S.whole self.old.source all → S.whole self.new.source all }
@@ -219,8 +209,7 @@ impl<S: ByteSource + Drop> FrameReader<S> {
     /// Reads one piece more.
     fn read_piece(&mut self, alloc: Global) -> Result<(), ReadFault>
         requires { IsFalse self.old.over }
-        ensures read { OnOk result ((batches : List (List ℕ)) → HasRead S.told S.is_over batches self.old
-            → HasRead S.told S.is_over batches self.new) }
+        ensures read { OnOk result ((batches : List (List ℕ)) → HasRead S.told S.is_over batches self.old → HasRead S.told S.is_over batches self.new) }
         ensures grows { OnOk result (IsFalse self.new.over → length (ahead self.old.walk) < length (ahead self.new.walk)) }
         ensures same { OnOk result (StaysThere self.old self.new) }
         ensures whole { (all : List ℕ) → S.whole self.old.source all → S.whole self.new.source all }

@@ -53,8 +53,7 @@ impl Walk {
 
     /// More of the file was read. What was gone over is no longer held.
     pub fn add(&mut self, alloc: Global, piece: &[u8]) -> Result<(), AllocError>
-        ensures walked { OnOk result ((batches : List (List ℕ)) (told : List ℕ) → HasWalked batches told self.old
-            → HasWalked batches (told ++ piece.now) self.new) }
+        ensures walked { OnOk result ((batches : List (List ℕ)) (told : List ℕ) → HasWalked batches told self.old → HasWalked batches (told ++ piece.now) self.new) }
         ensures ahead { OnOk result (ahead self.new ≡ ahead self.old ++ piece.now) }
         ensures last { OnOk result (self.new.last ≡ self.old.last) }
         ensures end { OnOk result (self.new.end ≡ self.old.end) }
@@ -84,8 +83,7 @@ impl Walk {
     pub fn next(&mut self, alloc: Global) -> Result<Option<Vec<u8>>, DeviceFault>
         ensures read { IfOk result (λ found. IfSome found (λ batch. (batches : List (List ℕ)) (told : List ℕ)
             → HasWalked batches told self.old → HasWalked (batches ++ batch.items ∷ []) told self.new)) }
-        ensures last { IfOk result (λ found. IfSome found (λ batch. (self.new.last ≡ digest self.old.last batch.items)
-            × (length batch.items < 2 ^ 32))) }
+        ensures last { IfOk result (λ found. IfSome found (λ batch. (self.new.last ≡ digest self.old.last batch.items) × (length batch.items < 2 ^ 32))) }
         ensures further { IfOk result (λ found. IfSome found (λ _. (self.old.end < self.new.end) × (self.old.end < 2 ^ 60))) }
         ensures none { IfOk result (λ found. IfNone found (IsNoFrame self.old.last (ahead self.old))) }
         ensures stays { IfOk result (λ found. IfNone found (self.new ≡ self.old)) }

@@ -173,7 +173,7 @@ module _ {N C J K H : Type 0} (p : Promises N C J K H) where
   step_does s s' (reads j place s'' here readable unread may reading) = reads_does j place s s'' reading
   step_does s s' (writes j place s'' here writable unwritten all told asked may writing) = writes_does j place s s'' (record { kept = all; told = told; confirmed = asked }) writing
   step_does s s' (closes j place s'' here taken cause closing) = closes_does j place s s'' closing
-  step_does s s' (shortens keeper all long undone kept basis slice nearer) = record {
+  step_does s s' (shortens keeper all long undone kept basis until slice nearer) = record {
     moves = keeps_still (λ last is. subst (λ (h : List Event). Keeps p.keeping.crashes h h s.keeper keeper) (sym (all last is)) kept) refl (keeps_within p.keeping.crashes 0 (horizon_bound 0) s.keeper keeper (omega arith) basis) (inl (refl, refl));
     did = λ first before. deed.shortened before;
     written = λ k room took is. absurd (cc);
@@ -188,7 +188,7 @@ module _ {N C J K H : Type 0} (p : Promises N C J K H) where
     did = λ first before. deed.failed_to_look nth room n before done;
     written = λ k r took is. absurd (cc);
   }
-  step_does s s' (no_slice keeper journal all long ago kept basis told) = record {
+  step_does s s' (no_slice keeper journal all long ago kept basis until size told) = record {
     moves = keeps_still (λ last is. subst (λ (h : List Event). Keeps p.keeping.crashes h h s.keeper keeper) (sym (all last is)) kept) refl (keeps_within p.keeping.crashes 0 (horizon_bound 0) s.keeper keeper (omega arith) basis) (inl (refl, refl));
     did = λ first before. before;
     written = λ k room took is. absurd (not_longer s.calls _ is);

@@ -30,7 +30,7 @@ module _ {N C J K H : Type 0} (p : Promises N C J K H) (first : LoopState N C J 
   }
 
   module _ (keeper : K) (all : IsAllKept past.journey.world) (kept : Keeps p.keeping.crashes past.journey.world.history past.journey.world.history tools.keeper keeper)
-      (basis : KeepsBasis p.keeping.crashes 0 tools.keeper keeper) where
+      (basis : KeepsBasis p.keeping.crashes 0 tools.keeper keeper) (until : p.keeping.kept_until keeper ≡ p.keeping.kept_until tools.keeper) where
     -- less is to be gone over than before, or it was shortened
     abbrev IsNearer : Type 0
     IsNearer =
@@ -39,7 +39,7 @@ module _ {N C J K H : Type 0} (p : Promises N C J K H) (first : LoopState N C J 
     -- the keeper went on by a slice
     sliced : p.keeping.is_long tools.keeper → ¬ (IsDone Shortening past.calls) → p.keeping.slices tools.keeper keeper → IsNearer →
         Served p first (state_of (running service (record tools { keeper = keeper })) found (record past { calls = call.Shortened ∷ past.calls }))
-    sliced long undone slice nearer = goes served (shortens keeper all long undone kept basis slice nearer)
+    sliced long undone slice nearer = goes served (shortens keeper all long undone kept basis until slice nearer)
 
     -- or it was called, and told how long what it keeps is
     pub went_on : (length : Length) (service' : Service) → ¬ (IsDone Shortening past.calls) → (keeper ≡ tools.keeper) ⊎ p.keeping.is_long tools.keeper →
@@ -83,12 +83,12 @@ module _ {N C J K H : Type 0} (p : Promises N C J K H) (first : LoopState N C J 
 
     -- or it refused
     pub refused : (journal : J) (service' : Service) → p.keeping.is_long tools.keeper → is_long_ago service.refused service.times.steady 60 ≡ true →
-        TellsRefusal p.journal service.refused tools.journal journal → service' ≡ record service { refused = Some service.times.steady } →
+        p.keeping.size keeper ≡ p.keeping.size tools.keeper → TellsRefusal p.journal service.refused tools.journal journal → service' ≡ record service { refused = Some service.times.steady } →
         GoesShorter p first (standing (running service tools) found past) None (running service' (record tools { journal = journal; keeper = keeper }))
-    refused journal service' long ago told is =
+    refused journal service' long ago size told is =
         subst (λ (s : Service). GoesShorter p first (standing (running service tools) found past) None (running s (record tools { journal = journal; keeper = keeper }))) (sym is) (record {
           calls = past.calls;
-          served = goes served (no_slice keeper journal all long ago kept basis told);
+          served = goes served (no_slice keeper journal all long ago kept basis until size told);
           done = (none_more past.calls).more;
           sliced = λ is. absurd (cc);
           rests = λ other still is. just_now service.times.steady;

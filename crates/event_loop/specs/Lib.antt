@@ -15,6 +15,8 @@ pub mod Asking
 pub mod Served
 pub mod Durable
 pub mod DurableLaws
+pub mod Minutes
+pub mod MinutesLaws
 pub mod Slices
 pub mod SlicesLaws
 pub mod Answered

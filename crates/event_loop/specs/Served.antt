@@ -105,7 +105,7 @@ told_place place readable writable hung =
 pub data LoopStep {N C J K H : Type 0} (p : Promises N C J K H) (s : LoopState N C J K H) : LoopState N C J K H → Type 0 where
   waits : (limit : Option ℕ) (room : ℕ) (found : List Ready) (n : N) (times : Times) (c : C) (keeper : K) → MayWait p s limit room →
       p.sockets.does s.sockets (call.Waited limit room found) n → p.clocks.tells s.clocks (Some times) c →
-      seconds_too_far s.limits.ahead (Some times) s.held ≡ None → KeepsTimes p.keeping.crashes times s.keeper keeper →
+      seconds_too_far s.limits.ahead (Some times) s.held ≡ None → KeepsTimes p.keeping times s.keeper keeper →
       IsNoFurther p.keeping.to_go p.keeping.size s.keeper keeper → LoopStep p s (record (with_call s (call.Waited limit room found) n)
       { clocks = c; keeper = keeper; found = found; times = times; held = max s.held times.moment; turn = one_more s.turn })
   -- what was done since the last wait stays done
@@ -140,7 +140,7 @@ pub data LoopStep {N C J K H : Type 0} (p : Promises N C J K H) (s : LoopState N
       LoopStep p s (record s { noted = record s.noted { journal = journal }; told = told })
   keeps : (keeper : K) (e : SeenEdge H) (unkept : IsUnkept s.progress.journey.world) (on : GoesOn p.hosting e s.progress.journey Kept) →
       ¬ (IsDone Keeping s.calls) → Keeps p.keeping.crashes unkept.kept s.progress.journey.world.history s.keeper keeper →
-      KeepsAhead p.keeping.crashes s.times.moment s.keeper keeper → IsNoFurther p.keeping.to_go p.keeping.size s.keeper keeper → IsSoleUpTo p.keeping s.keeper keeper →
+      KeepsAhead p.keeping s.times.moment s.keeper keeper → IsNoFurther p.keeping.to_go p.keeping.size s.keeper keeper → IsSoleUpTo p.keeping s.keeper keeper →
       LoopStep p s (record s { keeper = keeper; progress = led s.progress on; calls = call.Kept ∷ s.calls })
   -- where nothing is unkept, the keeper told that up to now nobody else had begun: it alone is another, which holds the same
   confirms : (keeper : K) → IsAllKept s.progress.journey.world → StaysKept p.keeping s.keeper keeper → IsSoleUpTo p.keeping s.keeper keeper →
@@ -156,7 +156,7 @@ pub data LoopStep {N C J K H : Type 0} (p : Promises N C J K H) (s : LoopState N
   -- is to be gone over than before until that is shortened, or it is
   shortens : (keeper : K) → IsAllKept s.progress.journey.world → p.keeping.is_long s.keeper → ¬ (IsDone Shortening s.calls) →
       Keeps p.keeping.crashes s.progress.journey.world.history s.progress.journey.world.history s.keeper keeper → KeepsBasis p.keeping.crashes 0 s.keeper keeper →
-      p.keeping.slices s.keeper keeper →
+      p.keeping.kept_until keeper ≡ p.keeping.kept_until s.keeper → p.keeping.slices s.keeper keeper →
       ((p.keeping.to_go keeper < p.keeping.to_go s.keeper) × (p.keeping.size keeper ≡ p.keeping.size s.keeper)) ⊎ p.keeping.shortens s.keeper keeper →
       LoopStep p s (record s { keeper = keeper; calls = call.Shortened ∷ s.calls })
   -- no more is kept than may be: where it is refused again, that is told again
@@ -164,6 +164,7 @@ pub data LoopStep {N C J K H : Type 0} (p : Promises N C J K H) (s : LoopState N
   -- shortening is refused, where more is kept than may be: the keeper holds the same; it is tried again after a minute
   no_slice : (keeper : K) → (journal : J) → IsAllKept s.progress.journey.world → p.keeping.is_long s.keeper → is_long_ago s.refused s.times.steady 60 ≡ true →
       Keeps p.keeping.crashes s.progress.journey.world.history s.progress.journey.world.history s.keeper keeper → KeepsBasis p.keeping.crashes 0 s.keeper keeper →
+      p.keeping.kept_until keeper ≡ p.keeping.kept_until s.keeper → p.keeping.size keeper ≡ p.keeping.size s.keeper →
       TellsRefusal p.journal s.refused s.noted.journal journal →
       LoopStep p s (record s { keeper = keeper; refused = Some s.times.steady; noted = record s.noted { journal = journal } })
 

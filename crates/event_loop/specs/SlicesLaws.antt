@@ -56,12 +56,12 @@ module _ {N C J K H : Type 0} (p : Promises N C J K H) where
   step_longer s s' (keeps keeper e unkept on undone kept basis further sole) unended = omega (arith, further)
   step_longer s s' (confirms keeper all holds sole) unended = (let further = holds.no_further in omega (arith, further))
   step_longer s s' (tends keeper due holds told) unended = (let further = holds.no_further in omega (arith, further))
-  step_longer s s' (shortens keeper all long undone kept basis slice (inl nearer)) unended =
+  step_longer s s' (shortens keeper all long undone kept basis until slice (inl nearer)) unended =
       let less = nearer.0 in
       let size = nearer.1 in
       rw size (omega (arith, less))
-  step_longer s s' (shortens keeper all long undone kept basis slice (inr shorter)) unended = absurd (unended.unshortened refl shorter)
-  step_longer s s' (no_slice keeper journal all long ago kept basis told) unended = absurd (not_again s.refused s.times.steady ago unended.unrefused)
+  step_longer s s' (shortens keeper all long undone kept basis until slice (inr shorter)) unended = absurd (unended.unshortened refl shorter)
+  step_longer s s' (no_slice keeper journal all long ago kept basis until size told) unended = absurd (not_again s.refused s.times.steady ago unended.unrefused)
   step_longer s s' step unended = still_longer s s' (record { keeper = refl; slices = refl })
 
   -- So many slices are gone over until it ends, if none is refused: what is kept grows by what is kept, and by nothing else.

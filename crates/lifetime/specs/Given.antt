@@ -36,6 +36,7 @@ file_keeping device = record {
   wants_room = λ keeper. is_some keeper.file.refused;
   is_sole = λ keeper. device.is_sole keeper.file.device;
   tends = λ old now due new. device.tends old.file.device now due new.file.device;
+  kept_until = λ keeper. keeper.known.until;
 }
 
 -- what is promised in the loop, with a chain of hooks

@@ -3,7 +3,8 @@
 ghost use Rattle.std.specs.Prelude.{List};
 ghost use Rattle.clients.specs.RegistryRecord.{RegistryRecord};
 ghost use Rattle.lifetime.specs.Found.{KeepsAcknowledged, KeepsFirst};
-ghost use Rattle.lifetime.specs.Given.{life_promises};
+ghost use Rattle.event_loop.specs.Minutes.{OnceAMinute};
+ghost use Rattle.lifetime.specs.Given.{in_loop, life_promises};
 
 use batch_file::device::Device;
 use event_loop::{Clocks, Journal, Sockets};
@@ -15,4 +16,10 @@ use event_loop::{Clocks, Journal, Sockets};
 pub fn lives_lose_nothing<D: Device, N: Sockets, C: Clocks, J: Journal>()
     ensures found { (registries : List RegistryRecord) → KeepsFirst (life_promises D.Device N.Sockets C.Clocks J.Journal) registries }
     ensures acknowledged { (registries : List RegistryRecord) → KeepsAcknowledged (life_promises D.Device N.Sockets C.Clocks J.Journal) registries }
+{}
+
+/// A moment is written at most once a minute: where one is, and no change, it is later by more than a minute than the moment at which
+/// something was written before. So a server whose clients change nothing writes nothing more often.
+pub fn a_moment_is_written_once_a_minute<D: Device, N: Sockets, C: Clocks, J: Journal>()
+    ensures { OnceAMinute (in_loop (life_promises D.Device N.Sockets C.Clocks J.Journal)) }
 {}

@@ -12,7 +12,7 @@ mod plan;
 mod settling;
 
 pub use going_on::{AnewEnd, live_anew};
-pub use laws::lives_lose_nothing;
+pub use laws::{a_moment_is_written_once_a_minute, lives_lose_nothing};
 pub use life::{Life, LifeEnd, live};
 pub use means::Means;
 pub use opening::{Opening, Unopened};

@@ -36,23 +36,27 @@ module _ {D : Type 0} (device : Device D) (old new : BatchFile D) (keeps : Keeps
   )
 
   -- what was held is held
-  pub holds_still : (fault : Option BatchFault) (s : Option Shortening) (shortened : ℕ) → ((c : List ℕ) → device.may_leave new.device c → device.reads_true new.device)
-      → HoldsAll device (keeper_with device old fault s shortened) (keeper_with device new fault s shortened)
-  holds_still fault s shortened only_true =
+  pub holds_still : (fault : Option BatchFault) (s : Option Shortening) (known : Known) → ((c : List ℕ) → device.may_leave new.device c → device.reads_true new.device)
+      → HoldsAll device (keeper_with device old fault s known) (keeper_with device new fault s known)
+  holds_still fault s known only_true =
       by_same
-      (goes_on_now device (keeper_with device old fault s shortened) (keeper_with device new fault s shortened)
+      (goes_on_now device (keeper_with device old fault s known) (keeper_with device new fault s known)
       (stays_as device old new keeps.stands keeps.true_before keeps.truth only_true) (fronts_same [] s))
 
   -- as much is to be gone over
   pub as_far : (s : Option Shortening) → to_go_if s new.end + 8 * min (old.end + 1) (2 ^ 64 - 1) ≤ to_go_if s old.end + 8 * min (new.end + 1) (2 ^ 64 - 1)
   as_far s = rw keeps.stands.end (omega arith)
 
+  -- and its file is as long
+  pub as_long : Some (min (new.end + 1) (2 ^ 64 - 1)) ≡ Some (min (old.end + 1) (2 ^ 64 - 1))
+  as_long = ap (λ (n : ℕ). Some (min (n + 1) (2 ^ 64 - 1))) keeps.stands.end
+
 -- where it failed, a crash meanwhile left what was held
 pub held_still : {D : Type 0} (device : Device D) (old new : BatchFile D) → IsOnDisk device.seen device.may_leave device.faults old
     → LeavesOnly device.moment device.left_since old.device new.device (λ file. file ≡ device.seen old.device)
-    → LeavesOnly device.moment device.left_since old.device new.device (λ _. device.reads_true old.device) → (fault failed : Option BatchFault) (s : Option Shortening) (shortened : ℕ)
-    → HeldAll device (keeper_with device old fault s shortened) (keeper_with device new failed s shortened)
-held_still device old new settled leaves trues fault failed s shortened =
+    → LeavesOnly device.moment device.left_since old.device new.device (λ _. device.reads_true old.device) → (fault failed : Option BatchFault) (s : Option Shortening) (known : Known)
+    → HeldAll device (keeper_with device old fault s known) (keeper_with device new failed s known)
+held_still device old new settled leaves trues fault failed s known =
     by_leaving
     (weaker (both leaves trues)
     (λ c is. (is.1, inl (inl (ap recovered is.0)), subst (λ (file : List ℕ). IsReadable file) (sym is.0) (at_rest_readable settled.at_rest))))

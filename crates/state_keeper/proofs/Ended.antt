@@ -19,8 +19,8 @@ use Rattle.state_keeper.specs.declared.course.Shortening.{Shortening}
 use Rattle.state_keeper.specs.declared.renewing.Came.TheVariants.{Placed, Refused, Broken}
 
 -- a keeper of this file, with that shortening
-abbrev pub keeper_with : {D : Type 0} → Device D → BatchFile D → Option BatchFault → Option Shortening → ℕ → SeenKeeper D
-keeper_with device file fault s shortened = keeper_of file fault (front_if device file s) (to_go_if s file.end) shortened
+abbrev pub keeper_with : {D : Type 0} → Device D → BatchFile D → Option BatchFault → Option Shortening → Known → SeenKeeper D
+keeper_with device file fault s known = keeper_of file fault (front_if device file s) (to_go_if s file.end) known
 
 -- What the device promises.
 pub record Promised {D : Type 0} (device : Device D) : Type 0 where
@@ -44,26 +44,26 @@ module _ {D : Type 0} (device : Device D) (promised : Promised device) (file : B
   -- IT BEGINS
 
   pub begins_slice : (s : Shortening) → Knows device file known None → IsLong file.end known.shortened → front_of device file s ≡ recovered (device.seen file.device) →
-      to_go_of s file.end ≡ 5 * (file.end - 16) + 21 → Slices device (keeper_with device file fault None known.shortened) (keeper_with device file fault (Some s) known.shortened) Long
+      to_go_of s file.end ≡ 5 * (file.end - 16) + 21 → Slices device (keeper_with device file fault None known) (keeper_with device file fault (Some s) known) Long
   begins_slice s knows long front le =
-      let old = keeper_with device file fault None known.shortened in
-      let new = keeper_with device file fault (Some s) known.shortened in
+      let old = keeper_with device file fault None known in
+      let new = keeper_with device file fault (Some s) known in
       let stays = stays_unread device file knows.0 (promised.only_now file.device) (promised.only_true file.device) in
       let fronts = ap (λ (f : List (List ℕ)). Some f) front in
       slices_on device old new (by_left (begins_now device old new stays fronts)) works long long (omega (arith, le)) refl fronts (λ _. (0, inl refl, omega (arith, le)))
 
   module _ (s : Shortening) (knows : Knows device file known (Some s)) (long : IsLong file.end known.shortened) where
     abbrev was : SeenKeeper D
-    was = keeper_with device file fault (Some s) known.shortened
+    was = keeper_with device file fault (Some s) known
 
     -- IT GOES ON
 
-    pub goes_slice : (new : BatchFile D) (now : Shortening) → GoesFurther device file known.rules.items s new now → Slices device (keeper_with device file fault (Some s) known.shortened) (keeper_with device new fault (Some now) known.shortened) Long
+    pub goes_slice : (new : BatchFile D) (now : Shortening) → GoesFurther device file known.rules.items s new now → Slices device (keeper_with device file fault (Some s) known) (keeper_with device new fault (Some now) known) Long
     goes_slice new now further =
         let stays = keeps_stays file new further.keeps in
         let fronts = ap (λ (f : List (List ℕ)). Some f) further.same in
         let end = further.keeps.stands.end in
-        let keeper = keeper_with device new fault (Some now) known.shortened in
+        let keeper = keeper_with device new fault (Some now) known in
         slices_on device was keeper (by_same (goes_on_now device was keeper stays fronts)) works long
         (subst (λ (n : ℕ). IsLong n known.shortened) (sym end) long)
         (subst (λ (n : ℕ). to_go_of now n < to_go_of s file.end) (sym end) further.nearer) end fronts
@@ -79,10 +79,10 @@ module _ {D : Type 0} (device : Device D) (promised : Promised device) (file : B
         ⊎_elim (λ at_once. at_once) (λ ends. (ends.puts.0, record { keeps = keeps_then device file ends.mid new ends.keeps ends.puts.1.keeps; none = ends.puts.1.none })) over
 
     pub refused_slice : (new : BatchFile D) (now : Shortening) (refused : ShortenFault) → GoesOver device file known.rules.items s new now (Refused refused) →
-        SlicesNot device (keeper_with device file fault (Some s) known.shortened) (keeper_with device new fault None known.shortened) refused
+        SlicesNot device (keeper_with device file fault (Some s) known) (keeper_with device new fault None known) refused
     refused_slice new now refused over =
         let is = refused_keeps new now refused over in
-        let keeper = keeper_with device new fault None known.shortened in
+        let keeper = keeper_with device new fault None known in
         refused_by refused is.0 (stays_long (by_same (given_up_now device was keeper (keeps_stays file new is.1.keeps) refl)) long is.1.keeps.stands.end is.1.none)
 
     pub refused_known : (new : BatchFile D) (now : Shortening) (refused : ShortenFault) → GoesOver device file known.rules.items s new now (Refused refused) → Knows device new known None
@@ -94,10 +94,10 @@ module _ {D : Type 0} (device : Device D) (promised : Promised device) (file : B
         device.reads_true mid.device → AreDrafted (Some (front_of device file s)) (recovered (device.seen file.device)) ready.batches
     drafted mid now same keeps ready true = drafted_before device file mid s now ready keeps.stands.seen same true
 
-    pub broken_slice : (new : BatchFile D) (broken : BatchFault) → Ends device file s new (Broken broken) → Fails device (keeper_with device file fault (Some s) known.shortened) (keeper_with device new (Some broken) None known.shortened)
+    pub broken_slice : (new : BatchFile D) (broken : BatchFault) → Ends device file s new (Broken broken) → Fails device (keeper_with device file fault (Some s) known) (keeper_with device new (Some broken) None known)
     broken_slice new broken ends =
-        let mid = keeper_with device ends.mid fault None known.shortened in
-        let keeper = keeper_with device new (Some broken) None known.shortened in
+        let mid = keeper_with device ends.mid fault None known in
+        let keeper = keeper_with device new (Some broken) None known in
         let may = ends.puts ends.ready in
         let all = by_leaving {device = device} (placed_leaves device was mid keeper ends.ready.batches (keeps_stays file ends.mid ends.keeps)
         (drafted ends.mid ends.now ends.same ends.keeps ends.ready) may.any_moment may.readable may.true_before) in
@@ -113,11 +113,11 @@ module _ {D : Type 0} (device : Device D) (promised : Promised device) (file : B
         )
 
     pub placed_slice : (new : BatchFile D) (size : ℕ) (length : Length) → Ends device file s new (Placed size) → (length ≡ Short → ¬ (IsLong new.end size)) → (length ≡ Long → IsLong new.end size) →
-        Slices device (keeper_with device file fault (Some s) known.shortened) (keeper_with device new fault None size) length
+        Slices device (keeper_with device file fault (Some s) known) (keeper_with device new fault None (record known { shortened = size })) length
     placed_slice new size length ends short still =
         let put = ends.puts.1 ends.ready in
-        let mid = keeper_with device ends.mid fault None known.shortened in
-        let keeper = keeper_with device new fault None size in
+        let mid = keeper_with device ends.mid fault None known in
+        let keeper = keeper_with device new fault None (record known { shortened = size }) in
         let stays = keeps_stays file ends.mid ends.keeps in
         let drafts = drafted ends.mid ends.now ends.same ends.keeps ends.ready in
         let leaves = placed_leaves device was mid keeper ends.ready.batches stays drafts put.1.any_moment put.1.readable put.1.true_before in

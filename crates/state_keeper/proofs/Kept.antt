@@ -2,7 +2,7 @@
 use Rattle.std.proofs.Common.{◌≡◌, ◌⊎◌, ⊎_elim, ◌≤◌, inl, inr, ℕ, List, [], ◌∷◌, ◌++◌, Option, None, Some, refl, sym, ap, ◌∙◌, subst, append_assoc, arith}
 use Rattle.std.proofs.lemmas.List.{append_cancel_left}
 use Rattle.state_keeper.proofs.Names.{LeavesOnly, recovered, IsOnDisk, BatchFile, Device, Event, Until, HoldsBasis, KeepsBasis, TellsBasis, RulesFact, SeenKeeper}
-use Rattle.state_keeper.proofs.Names.{file_crashes, StandFor, until_of, AreDrafted, IsDraft, append-nil, Tell}
+use Rattle.state_keeper.proofs.Names.{file_crashes, StandFor, until_of, AreDrafted, IsDraft, append-nil, Known, Tell}
 use Rattle.batch_file.specs.Frames.{IsOldOrNew, IsBeforeOrAfter, IsReadable}
 use Rattle.change_codec.specs.Keeping.{Basis, IsWithin, NoLater, Readable, Rules, Holds, Keeps, KeepsNot, LeavesEither, StandsForEither}
 use Rattle.state_file.specs.Knowing.{LeftTells, TellBasis}
@@ -37,8 +37,8 @@ left_tells (NoLater moment) c told reads = told
 left_tells (Rules rules) c told reads = told
 left_tells Readable c told reads = reads
 
-abbrev pub keeper_of : {D : Type 0} → BatchFile D → Option BatchFault → Option (List (List ℕ)) → ℕ → ℕ → SeenKeeper D
-keeper_of file fault front to_go shortened = record { file = file; fault = fault; front = front; to_go = to_go; shortened = shortened }
+abbrev pub keeper_of : {D : Type 0} → BatchFile D → Option BatchFault → Option (List (List ℕ)) → ℕ → Known → SeenKeeper D
+keeper_of file fault front to_go known = record { file = file; fault = fault; front = front; to_go = to_go; known = known }
 
 module _ {D : Type 0} (device : Device D) (old : SeenKeeper D) where
   -- the batches that stood there

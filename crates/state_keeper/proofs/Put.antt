@@ -1,6 +1,6 @@
 -- A new file that is put in the place of another.
 use Rattle.std.proofs.Common.{◌≡◌, ◌+◌, ◌++◌, ◌∷◌, [], ⊎_elim, inl, inr, ℕ, List, None, length, refl, sym, ap, subst, ◌∙◌, arith}
-use Rattle.std.specs.Prelude.{Result, Ok, Err, IfOk, IfErr}
+use Rattle.std.specs.Prelude.{Result, Ok, Err, IfOk, IfErr, ⊤}
 use Rattle.std.proofs.lemmas.List.{length-append}
 use Rattle.state_keeper.proofs.Names.{LeavesOnly, IsOnDisk, BatchFile, frames_size, recovered, Device, SeenKeeper, end_of, IsOldOr, IsPutOn}
 use Rattle.batch_file.specs.Crashes.{IsBeside, IsUnplaced}
@@ -9,7 +9,7 @@ use Rattle.batch_file.specs.declared.device.ReplaceFault.TheVariants as replacin
 use Rattle.state_file.specs.Faults.{of_replacing}
 use Rattle.state_file.specs.declared.fault.StateFault.{StateFault}
 use Rattle.batch_file.specs.declared.appending.NotPlaced.{NotPlaced}
-use Rattle.state_file.specs.Knowing.{shortened_size}
+use Rattle.state_file.specs.Knowing.{IsKnown}
 use Rattle.state_keeper.proofs.Fronts.{at_rest_readable}
 use Rattle.state_keeper.specs.Starting.{HasFront, IsOfDisk, IsPut, IsReadIn, IsUntouched, front_in}
 use Rattle.state_keeper.specs.declared.starting.Origin.{Origin}
@@ -56,14 +56,14 @@ module _ {D : Type 0} (device : Device D) where
   pub beside_self : (old : D) → IsBeside device.seen device.may_leave device.faults old old
   beside_self old = record { bytes = refl; crash = λ c may. may; no_fault = refl }
 
-  pub put_on : (old : D) (keeper : SeenKeeper D) (batches : List (List ℕ)) → IsPut device old batches keeper.file → keeper.shortened ≡ shortened_size batches →
+  pub put_on : (old : D) (keeper : SeenKeeper D) (batches : List (List ℕ)) → IsPut device old batches keeper.file → IsKnown ⊤ batches keeper.known →
       keeper.fault ≡ None → keeper.front ≡ None → IsPutOn device batches old keeper
-  put_on old keeper batches put shortened unfailed unbegun = record {
+  put_on old keeper batches put known unfailed unbegun = record {
     seen = put.seen;
     readable = at_rest_readable put.settled.at_rest;
     durable = put.settled.durable;
     end = put.end;
-    shortened = shortened;
+    known = known;
     unfailed = unfailed;
     unbegun = unbegun;
     meanwhile = put.meanwhile;

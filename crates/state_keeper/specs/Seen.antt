@@ -7,17 +7,19 @@ use Rattle.batch_file.specs.declared.appending.BatchFile.{BatchFile}
 use Rattle.state_file.specs.Renewing.{IsShortened}
 use Rattle.state_file.specs.Standing.{StandsFor, horizon}
 use Rattle.state_file.specs.Knowing.{LeftTells, IsLong}
+use Rattle.state_file.specs.declared.known.Known.{Known}
 use Rattle.batch_file.specs.Frames.{IsReadable}
 
 -- A keeper as it is seen: its file, and why it keeps nothing more, if it does not; and what the file had when a shortening began
--- that is on the way, if one is, and how much is yet to be gone over until it ends; and how many bytes of frames were left when it
--- was shortened last, which is right where what was read is true: `StateKeeper::shortened` tells so.
+-- that is on the way, if one is, and how much is yet to be gone over until it ends; and what is known of its file: how many bytes of
+-- frames were left when it was shortened last (right where what was read is true: `StateKeeper::shortened` tells so), and until which
+-- moment it is kept.
 pub record SeenKeeper (D : Type 0) : Type 0 where
   pub file : BatchFile D
   pub fault : Option BatchFault
   pub front : Option (List (List ℕ))
   pub to_go : ℕ
-  pub shortened : ℕ
+  pub known : Known
 
 -- The batches are a draft of the whole: they tell what is left of a front of it, and then come those that stand behind the front.
 pub record IsDraft (front whole draft : List (List ℕ)) : Type 0 where
@@ -47,7 +49,7 @@ file_crashes device =
 
 -- the file is long, beside what was left of it
 abbrev pub IsLongFile : {D : Type 0} → SeenKeeper D → Type 0
-IsLongFile keeper = IsLong keeper.file.end keeper.shortened
+IsLongFile keeper = IsLong keeper.file.end keeper.known.shortened
 
 -- The new keeper's file has what is left of what the old one's had when the shortening began, and then what was added since: where
 -- the file was read as it was.

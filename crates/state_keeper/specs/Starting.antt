@@ -1,12 +1,12 @@
 -- How what a start makes is put on a device.
-use Rattle.std.specs.Prelude.{◌≡◌, ◌⊎◌, ◌++◌, ℕ, List, None}
+use Rattle.std.specs.Prelude.{◌≡◌, ◌⊎◌, ◌++◌, ℕ, List, None, ⊤}
 use Rattle.state_keeper.specs.Names.{recovered, Device}
 use Rattle.state_file.specs.declared.fault.StateFault.{StateFault}
 use Rattle.batch_file.specs.Crashes.{LeavesOnly, Only}
 use Rattle.batch_file.specs.Frames.{IsOnDisk, IsReadable}
 use Rattle.batch_file.specs.declared.appending.BatchFile.{BatchFile}
 use Rattle.state_keeper.specs.Seen.{SeenKeeper}
-use Rattle.state_file.specs.Knowing.{end_of, shortened_size}
+use Rattle.state_file.specs.Knowing.{IsKnown, end_of}
 use Rattle.state_file.specs.declared.fault.StateFault.TheVariants as state
 use Rattle.state_keeper.specs.declared.starting.Origin.{Origin}
 use Rattle.state_keeper.specs.declared.starting.Origin.TheVariants as origin
@@ -21,13 +21,14 @@ abbrev pub IsOldOr : {D : Type 0} → Device D → D → List (List ℕ) → Lis
 IsOldOr device old batches left = device.may_leave old left ⊎ ((recovered left ≡ batches) × IsReadable left)
 
 -- The keeper's file has these batches, where what was read is true, and can be read, and a crash leaves nothing else; one meanwhile
--- left a file of these, or what one before might have left. It keeps what is given to it, and no shortening is on the way.
+-- left a file of these, or what one before might have left. It knows what these tell, keeps what is given to it, and no shortening is
+-- on the way.
 pub record IsPutOn {D : Type 0} (device : Device D) (batches : List (List ℕ)) (old : D) (keeper : SeenKeeper D) : Type 0 where
   pub seen : device.reads_true keeper.file.device → recovered (device.seen keeper.file.device) ≡ batches
   pub readable : IsReadable (device.seen keeper.file.device)
   pub durable : Only (device.seen keeper.file.device) (device.may_leave keeper.file.device)
   pub end : keeper.file.end ≡ end_of batches
-  pub shortened : keeper.shortened ≡ shortened_size batches
+  pub known : IsKnown ⊤ batches keeper.known
   pub unfailed : keeper.fault ≡ None
   pub unbegun : keeper.front ≡ None
   pub meanwhile : LeavesOnly device.moment device.left_since old keeper.file.device (IsOldOr device old batches)

@@ -47,7 +47,7 @@ impl<D: Device> Model for StateKeeper<D> {
       fault = keeper.fault;
       front = front_if D.Device keeper.file keeper.shortening;
       to_go = to_go_if keeper.shortening keeper.file.end;
-      shortened = keeper.known.shortened;
+      known = keeper.known;
     } };
 
     ghost invariant = { λ keeper. IsNone keeper.fault →
@@ -96,7 +96,7 @@ impl<D: Device> StateKeeper<D> {
 
     /// How many bytes of frames were left when its file was shortened last.
     pub fn shortened(&self) -> usize
-        ensures is { result ≡ self.now.shortened }
+        ensures is { result ≡ self.now.known.shortened }
         ensures right { IsNone self.now.fault → D.reads_true self.now.file.device → result ≡ shortened_size (recovered (D.seen self.now.file.device)) }
     {
         self.known.shortened
@@ -154,6 +154,9 @@ impl<D: Device> Keeper for StateKeeper<D> {
     ghost is_sole = { λ k. D.is_sole k.file.device };
 
     ghost tends = { λ old now due new. D.tends old.file.device now due new.file.device };
+
+    // The greatest horizon of its file.
+    ghost kept_until = { λ k. k.known.until };
 
     ghost only_now = { λ k c left. inl (D.only_now k.file.device c left) };
 

@@ -143,6 +143,7 @@ impl<D: Device> StateKeeper<D> {
     pub(crate) fn shorten_slice(&mut self) -> Result<Length, ShortenFault>
         ensures slices { IfOk result (Slices D.Device self.old self.new) }
         ensures refused { IfErr result (SlicesNot D.Device self.old self.new) }
+        ensures until { self.new.known.until ≡ self.old.known.until }
     {
         if self.fault.is_some() {
             return Err(ShortenFault::Failed);

@@ -5,7 +5,7 @@ use super::programs::PROGRAMS;
 use assembler::AsmFault;
 use encoding::decode;
 use flat_machine::run;
-use hook_commands::{HookAnswer, HookCommand, HookCommandFault, bytes_of_hex};
+use hook_commands::{HookAnswer, HookCommandFault, assembled, bytes_of_hex, check};
 use hook_record::Narrowed;
 use insn::fault::InsnFault;
 use insn::layout::Layout;
@@ -144,28 +144,16 @@ fn long_program(alloc: Global, middle: Middle, count: u16) -> Result<String, All
     hex::encode(alloc, &code)
 }
 
-/// `asm` of a file.
-const ASSEMBLE: HookCommand<'static> = HookCommand::Assemble { path: "hook" };
-
-/// `check` or `check2` of a file.
-fn check(layout: Layout) -> HookCommand<'static> {
-    HookCommand::Check {
-        layout,
-        path: "hook",
-    }
-}
+/// The path of the file of a hook.
+const HOOK: &str = "hook";
 
 /// Asserts that a program is accepted for both versions, and what it answers to `RECORD`.
 fn assert_accepted<R: Abort + AllocGlobal>(rt: &R, code: &str) {
     for layout in [Layout::V1, Layout::V2] {
-        let checked = check(layout).answer(rt.alloc(), Some(code.as_bytes()));
+        let checked = check(rt.alloc(), layout, HOOK, Some(code.as_bytes()));
         assert!(rt; matches!(checked, Ok(HookAnswer::Accepted(4096))));
     }
-    let run = HookCommand::Run {
-        code_hex: code,
-        record_hex: RECORD,
-    };
-    let Ok(HookAnswer::Judged(judged)) = run.answer(rt.alloc(), None) else {
+    let Ok(HookAnswer::Judged(judged)) = hook_commands::run(rt.alloc(), code, RECORD) else {
         panic!(rt; "it does not run");
     };
     let whole = Narrowed::Allowed {
@@ -176,19 +164,27 @@ fn assert_accepted<R: Abort + AllocGlobal>(rt: &R, code: &str) {
 }
 
 #[test]
+fn a_move_and_an_exit(rt: HostRuntime) -> Result<(), Fail> {
+    let code = [0xb7, 0, 0, 0, 1, 0, 0, 0, 0x95, 0, 0, 0, 0, 0, 0, 0];
+    let verified = hook_page::accepted(rt.alloc(), &code, Layout::V1);
+    assert!(rt; verified.is_some());
+    Ok(())
+}
+
+#[test]
 fn programs_of_4_096_slots(rt: HostRuntime) -> Result<(), Fail> {
     let alloc = rt.alloc();
     for middle in [Middle::Moves, Middle::ToTheEnd, Middle::ToTheNext] {
         assert_accepted(&rt, &long_program(alloc, middle, 4094)?);
     }
     let code = long_program(alloc, Middle::Moves, 4095)?;
-    let checked = check(Layout::V1).answer(alloc, Some(code.as_bytes()));
+    let checked = check(alloc, Layout::V1, HOOK, Some(code.as_bytes()));
     assert!(rt; matches!(checked, Err(HookCommandFault::Insn(InsnFault::TooLong))));
     let text = "exit\n".repeat(alloc, 4097)?;
-    let assembled = ASSEMBLE.answer(alloc, Some(text.as_bytes()));
+    let long = assembled(alloc, HOOK, Some(text.as_bytes()));
     assert!(rt;
         matches!(
-            assembled,
+            long,
             Err(HookCommandFault::Text(AsmFault::TooLong(4097), None))
         )
     );
@@ -201,10 +197,10 @@ type Faults = (VerifyFault, VerifyFault);
 /// Asserts that a store at an index of at most `most`, into a table of so many bytes, is accepted where it stays in it.
 fn assert_table<R: Abort + AllocGlobal>(rt: &R, text: &str, most: u64, size: u64, faults: Faults) {
     let (range, region) = faults;
-    let Ok(HookAnswer::Code(code)) = ASSEMBLE.answer(rt.alloc(), Some(text.as_bytes())) else {
+    let Ok(HookAnswer::Code(code)) = assembled(rt.alloc(), HOOK, Some(text.as_bytes())) else {
         panic!(rt; "{text}");
     };
-    match check(Layout::V1).answer(rt.alloc(), Some(code.as_bytes())) {
+    match check(rt.alloc(), Layout::V1, HOOK, Some(code.as_bytes())) {
         Ok(HookAnswer::Accepted(8)) => assert!(rt; most < size, "{text}"),
         Err(HookCommandFault::Verify(fault)) => {
             // The pointer may stand one past the stack's end, and the store may not.
@@ -293,10 +289,10 @@ exit
 #[test]
 fn what_is_not_read_later_keeps_no_cases_apart(rt: HostRuntime) {
     for (text, insns) in FLAGS {
-        let Ok(HookAnswer::Code(code)) = ASSEMBLE.answer(rt.alloc(), Some(text.as_bytes())) else {
+        let Ok(HookAnswer::Code(code)) = assembled(rt.alloc(), HOOK, Some(text.as_bytes())) else {
             panic!(rt; "{text}");
         };
-        let checked = check(Layout::V1).answer(rt.alloc(), Some(code.as_bytes()));
+        let checked = check(rt.alloc(), Layout::V1, HOOK, Some(code.as_bytes()));
         assert!(rt;
             matches!(checked, Ok(HookAnswer::Accepted(count)) if count == insns),
             "{text}"

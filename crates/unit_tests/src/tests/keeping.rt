@@ -1,5 +1,8 @@
 //! A client whose requests come one a round, some of which change something, over a keeper that fails after so many batches.
 
+ghost use Rattle.std.specs.Prelude.{◌≡◌, max};
+ghost use Rattle.change_codec.specs.Keeping.{horizon_of};
+
 use super::sockets::{Count, Ticking, edge_that_notes, limits};
 use change_codec::{Batch, KeepFault, Keeper, Length, ShortenFault, decode};
 use clients::ConfigFault;
@@ -111,7 +114,9 @@ struct Patient<'t> {
     /// How many changes each batch had.
     changes: Vec<usize>,
     /// How often it was told the moment.
-    moments: usize,
+    moments: &'t Cell<usize>,
+    /// Until then none is kept alone.
+    until: Moment,
     /// How often it was to shorten what it keeps.
     asked: &'t Cell<usize>,
     /// How many slices are to be gone over.
@@ -122,6 +127,14 @@ struct Patient<'t> {
     pressed_until: usize,
     is_pressed: bool,
     has_failed: bool,
+}
+
+/// The moment that is kept at one, where another was kept before.
+fn ahead(until: Moment, now: Moment) -> Moment
+    ensures { result ≡ max until (horizon_of now) }
+{
+    let horizon = (now.get() + 60).min((1 << 63) - 1);
+    Moment::new(until.get().max(horizon))
 }
 
 impl Keeper for Patient<'_> {
@@ -155,15 +168,20 @@ impl Keeper for Patient<'_> {
 
     ghost tends = { λ _ _ due _. due ≡ None };
 
-    fn keep_moment(&mut self, _now: Moment) -> Result<(), KeepFault> {
+    ghost kept_until = { λ keeper. keeper.until };
+
+    fn keep_moment(&mut self, now: Moment) -> Result<(), KeepFault> {
         if self.has_failed {
             return Err(KeepFault::Failed);
         }
-        self.moments = self.moments.saturating_add(1);
+        self.moments.set(self.moments.get().wrapping_add(1));
+        if self.until.get() < now.get() {
+            self.until = ahead(self.until, now);
+        }
         Ok(())
     }
 
-    fn keep(&mut self, batch: &Batch, _now: Moment) -> Result<(), KeepFault> {
+    fn keep(&mut self, batch: &Batch, now: Moment) -> Result<(), KeepFault> {
         self.has_failed = true;
         if self.changes.len() >= self.most {
             return Err(KeepFault::Failed);
@@ -175,6 +193,7 @@ impl Keeper for Patient<'_> {
             return Err(KeepFault::Failed);
         };
         self.kept.set(self.changes.len());
+        self.until = ahead(self.until, now);
         self.is_pressed = self.changes.len() < self.pressed_until;
         self.has_failed = false;
         Ok(())
@@ -256,6 +275,7 @@ struct Outcome {
 fn outcome_of(alloc: Global, requests: &[&str], ways: Ways) -> Result<Outcome, ConfigFault> {
     let kept = Cell::new(0);
     let asked = Cell::new(0);
+    let moments = Cell::new(0);
     let mut tools = Tools {
         sockets: OneClient {
             requests,
@@ -274,7 +294,8 @@ fn outcome_of(alloc: Global, requests: &[&str], ways: Ways) -> Result<Outcome, C
             confirms: ways.confirms,
             kept: &kept,
             changes: Vec::new(alloc),
-            moments: 0,
+            moments: &moments,
+            until: Moment::new(0),
             asked: &asked,
             slices: ways.slices,
             is_refusing: ways.is_refusing,
@@ -289,7 +310,7 @@ fn outcome_of(alloc: Global, requests: &[&str], ways: Ways) -> Result<Outcome, C
         fault,
         writes: tools.sockets.writes,
         changes: tools.keeper.changes,
-        moments: tools.keeper.moments,
+        moments: moments.get(),
         asked: asked.get(),
         slices: tools.keeper.slices,
         journal: tools.journal,

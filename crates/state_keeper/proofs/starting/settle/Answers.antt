@@ -29,8 +29,8 @@ returns-in-Ok-clause-put g c =
     let front = front_is (device.seen c.args.device) c.args.origin c.args.prepared.front c.requires.front in
     let same : c.deref.result.now ≡ parts.result.behind.items = cc c.deref.ensures.value in
     let whole = ap (λ (bs : List (List ℕ)). bs ++ lists c.deref.result.now) front.0 ∙ ap (λ (vs : List (Vec ℕ)). c.args.prepared.front ++ lists vs) same ∙ sym parts.ensures.batches in
-    put_on device c.args.device (keeper_of file None None (to_go_if None file.end) parts.result.known.shortened) c.args.prepared.batches
-    (subst (λ (bs : List (List ℕ)). IsPut device c.args.device bs file) whole c.in-Ok.ensures.put) parts.ensures.known.shortened_is refl refl
+    put_on device c.args.device (keeper_of file None None (to_go_if None file.end) parts.result.known) c.args.prepared.batches
+    (subst (λ (bs : List (List ℕ)). IsPut device c.args.device bs file) whole c.in-Ok.ensures.put) parts.ensures.known refl refl
 
 pub returns-in-Err-clause-lost : goal.returns-in-Err-clause-lost
 returns-in-Err-clause-lost g c =

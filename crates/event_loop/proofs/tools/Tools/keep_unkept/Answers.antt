@@ -22,7 +22,7 @@ returns-in-Ok-clause-kept g c = λ first found past undone h reached.
     let all = c.in_default.ensures.none past.journey reached in
     record {
       next = record past { calls = call.Confirmed ∷ past.calls };
-      served = goes h (confirms c.confirm.new.self all (record { still = c.in-Ok.ensures.kept; basis = c.in-Ok.ensures.basis; no_further = c.in-Ok.ensures.no_further }) c.in-Ok.ensures.sole);
+      served = goes h (confirms c.confirm.new.self all (record { still = c.in-Ok.ensures.kept; basis = c.in-Ok.ensures.basis; no_further = c.in-Ok.ensures.no_further; size = c.in-Ok.ensures.size; until = c.confirm.ensures.until }) c.in-Ok.ensures.sole);
       kept = all;
       confirmed = inr tt;
       connections = refl;
@@ -45,7 +45,7 @@ returns-clause-kept g c = λ first found past undone h reached.
     let on = c.forget_unkept.ensures.kept past.journey reached in
     record {
       next = record { calls = call.Kept ∷ past.calls; journey = led_on past.journey (Kept ∷ []) on.world };
-      served = goes h (keeps c.keep.new.self c.forget_unkept.new.self unkept.0 on undone (c.in-Ok-keep.ensures.kept unkept.0.kept past.journey.world.history unkept.1) (record { basis = c.in-Ok-keep.ensures.basis; ahead = c.in-Ok-keep.ensures.ahead }) c.in-Ok-keep.ensures.no_further c.in-Ok-keep.ensures.sole);
+      served = goes h (keeps c.keep.new.self c.forget_unkept.new.self unkept.0 on undone (c.in-Ok-keep.ensures.kept unkept.0.kept past.journey.world.history unkept.1) (record { basis = c.in-Ok-keep.ensures.basis; ahead = c.in-Ok-keep.ensures.ahead; until = c.in-Ok-keep.ensures.until }) c.in-Ok-keep.ensures.no_further c.in-Ok-keep.ensures.sole);
       kept = all_kept_now past.journey.world on.world on.happens;
       confirmed = inr tt;
       connections = kept_connections past.journey.world on.world on.happens;

@@ -74,7 +74,7 @@ returns-in-Err-keep_all-clause-wrong g c = λ first past begun was_ready unshort
     let room : 65 ≤ length c.wait.new.found = search (rules, arith, c.requires.room) in
     let may = may_wait (promises g.N.Sockets g.C.Clocks g.J.Journal (keeping g.K.Keeper) g.H.HookHost) c.args.service.now c.shorten_some.new.service c.tell_room.new.service c.args.self.now c.tend.new.self c.shorten_some.new.self c.tell_room.new.self c.in-Ok-shorten_some.told c.in-Ok.due c.wait_limit-limit.result (length c.wait.new.found) size c.in-Ok-shorten_some.ensures.same c.tell_room.ensures.rest c.tell_room.ensures.tools c.tell_room.ensures.told c.tell_room.ensures.leads c.wait_limit-limit.ensures room c.in-Ok.ensures.tended c.in-Ok-shorten_some.ensures.shorter first past begun was_ready unshortened (c.requires.serves_on past.journey (served_answered _ first _ begun).reached) in
     let near : seconds_too_far c.tell_room.new.service.limits.ahead (Some c.in-Some-read.times) c.tell_room.new.service.held ≡ None = search rules in
-    let stepped = goes may.served (waits c.wait_limit-limit.result (length c.wait.new.found) heard c.wait.new.self c.in-Some-read.times c.read.new.self c.keep_moment.new.self may.may c.in-Some.ensures.done c.in-Some-read.ensures near (record { holds = c.in-Ok-keep_moment.ensures.kept; basis = c.in-Ok-keep_moment.ensures.basis; told = c.in-Ok-keep_moment.ensures.told }) c.in-Ok-keep_moment.ensures.no_further) in
+    let stepped = goes may.served (waits c.wait_limit-limit.result (length c.wait.new.found) heard c.wait.new.self c.in-Some-read.times c.read.new.self c.keep_moment.new.self may.may c.in-Some.ensures.done c.in-Some-read.ensures near (record { holds = c.in-Ok-keep_moment.ensures.kept; basis = c.in-Ok-keep_moment.ensures.basis; told = c.in-Ok-keep_moment.ensures.told; idle = c.keep_moment.ensures.idle; until = c.in-Ok-keep_moment.ensures.until }) c.in-Ok-keep_moment.ensures.no_further) in
     let since : Past g.row.H.Denot = record may.next { calls = call.Waited c.wait_limit-limit.result (length c.wait.new.found) heard ∷ may.next.calls } in
     let waited = waited_on (promises g.N.Sockets g.C.Clocks g.J.Journal (keeping g.K.Keeper) g.H.HookHost) first c.tell_room.new.service c.in-Some-read.times
     (record c.tell_room.new.self { sockets = c.wait.new.self; clocks = c.read.new.self; keeper = c.keep_moment.new.self }) heard since _ _ _ _ c.later-service.ensures c.saturating_add-service.ensures stepped in
@@ -103,7 +103,7 @@ returns-clause-goes g c = λ first past begun was_ready unshortened.
         let p = promises g.N.Sockets g.C.Clocks g.J.Journal (keeping g.K.Keeper) g.H.HookHost in
         let heard = take c.in-Some.count c.wait.new.found in
         let near : seconds_too_far c.tell_room.new.service.limits.ahead (Some c.in-Some-read.times) c.tell_room.new.service.held ≡ None = search rules in
-        let stepped = goes may.served (waits c.wait_limit-limit.result (length c.wait.new.found) heard c.wait.new.self c.in-Some-read.times c.read.new.self c.keep_moment.new.self may.may c.in-Some.ensures.done c.in-Some-read.ensures near (record { holds = c.in-Ok-keep_moment.ensures.kept; basis = c.in-Ok-keep_moment.ensures.basis; told = c.in-Ok-keep_moment.ensures.told }) c.in-Ok-keep_moment.ensures.no_further) in
+        let stepped = goes may.served (waits c.wait_limit-limit.result (length c.wait.new.found) heard c.wait.new.self c.in-Some-read.times c.read.new.self c.keep_moment.new.self may.may c.in-Some.ensures.done c.in-Some-read.ensures near (record { holds = c.in-Ok-keep_moment.ensures.kept; basis = c.in-Ok-keep_moment.ensures.basis; told = c.in-Ok-keep_moment.ensures.told; idle = c.keep_moment.ensures.idle; until = c.in-Ok-keep_moment.ensures.until }) c.in-Ok-keep_moment.ensures.no_further) in
         let since : Past g.row.H.Denot = record may.next { calls = call.Waited c.wait_limit-limit.result (length c.wait.new.found) heard ∷ may.next.calls } in
         let waited = waited_on p first c.tell_room.new.service c.in-Some-read.times
         (record c.tell_room.new.self { sockets = c.wait.new.self; clocks = c.read.new.self; keeper = c.keep_moment.new.self }) heard since _ _ _ _ c.later-service.ensures c.saturating_add-service.ensures stepped in

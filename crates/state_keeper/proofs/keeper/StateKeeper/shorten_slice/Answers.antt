@@ -18,7 +18,7 @@ returns-in_default-clause-slices g c =
     let knows : Knows device file known None = (is.0, is.1, tt) in
     let long : IsLong file.end known.shortened = c.is_short.ensures.long c.if-is_short.false in
     let none : c.self.inside.shortening ≡ None = c.in_default.is in
-    let P : Option Shortening → Type 0 = λ o. Slices device (keeper_with device file fault o known.shortened) (keeper_with device file fault (Some s) known.shortened) Long in
+    let P : Option Shortening → Type 0 = λ o. Slices device (keeper_with device file fault o known) (keeper_with device file fault (Some s) known) Long in
     rw (← c.self.view_is)
     (subst P (sym none) (begins_slice device promised file fault known (search rules) s knows long c.begin.ensures.front c.begin.ensures.to_go))
 
@@ -48,7 +48,7 @@ returns-in-Placed-clause-slices g c =
     let is = c.self.invariant (search rules) in
     let knows : Knows device file known (Some s) = (is.0, is.1, subst (λ (o : Option Shortening). IsOnTheWayIf device file known.rules.items o) c.in-Some.is is.2) in
     let long : IsLong file.end known.shortened = c.is_short.ensures.long c.if-is_short.false in
-    let P : Option Shortening → Type 0 = λ o. Slices device (keeper_with device file fault o known.shortened) (keeper_with device new fault None size) c.length_of.result in
+    let P : Option Shortening → Type 0 = λ o. Slices device (keeper_with device file fault o known) (keeper_with device new fault None (record known { shortened = size })) c.length_of.result in
     rw (← c.self.view_is)
     (subst P (sym c.in-Some.is) (placed_slice device promised file fault known (search rules) s knows long new size c.length_of.result c.in-Placed.ensures c.length_of.ensures.short c.length_of.ensures.long))
 
@@ -64,7 +64,7 @@ returns-in-Refused-clause-refused g c =
     let is = c.self.invariant (search rules) in
     let knows : Knows device file known (Some s) = (is.0, is.1, subst (λ (o : Option Shortening). IsOnTheWayIf device file known.rules.items o) c.in-Some.is is.2) in
     let long : IsLong file.end known.shortened = c.is_short.ensures.long c.if-is_short.false in
-    let P : Option Shortening → Type 0 = λ o. SlicesNot device (keeper_with device file fault o known.shortened) (keeper_with device new fault None known.shortened) c.in-Refused.fault in
+    let P : Option Shortening → Type 0 = λ o. SlicesNot device (keeper_with device file fault o known) (keeper_with device new fault None known) c.in-Refused.fault in
     rw (← c.self.view_is)
     (subst P (sym c.in-Some.is) (refused_slice device promised file fault known (search rules) s knows long new c.go_over.new.shortening c.in-Refused.fault c.in-Refused.ensures))
 
@@ -80,6 +80,6 @@ returns-in-Broken-clause-refused g c =
     let is = c.self.invariant (search rules) in
     let knows : Knows device file known (Some s) = (is.0, is.1, subst (λ (o : Option Shortening). IsOnTheWayIf device file known.rules.items o) c.in-Some.is is.2) in
     let long : IsLong file.end known.shortened = c.is_short.ensures.long c.if-is_short.false in
-    let P : Option Shortening → Type 0 = λ o. Fails device (keeper_with device file fault o known.shortened) (keeper_with device new (Some c.in-Broken.fault) None known.shortened) in
+    let P : Option Shortening → Type 0 = λ o. Fails device (keeper_with device file fault o known) (keeper_with device new (Some c.in-Broken.fault) None known) in
     rw (← c.self.view_is)
     (subst P (sym c.in-Some.is) (broken_slice device promised file fault known (search rules) s knows long new c.in-Broken.fault c.in-Broken.ensures))

@@ -55,29 +55,31 @@ returns-in-Ok-append g c =
     let written : batch ≡ with_horizon known.until until (batch_spelling facts) =
     c.deref.ensures.value ∙ c.in-Ok.ensures ∙ ap (with_horizon known.until until) c.bytes.ensures.spelled in
     let is = c.self.invariant (search rules) in
-    let old = keeper_of file c.self.inside.fault (front_if device file s) (to_go_if s file.end) known.shortened in
-    let new = keeper_of c.append.new.self c.self.inside.fault (front_if device c.append.new.self s) (to_go_if s c.append.new.self.end) c.size_behind-self-inside.result in
+    let old = keeper_of file c.self.inside.fault (front_if device file s) (to_go_if s file.end) known in
+    let now : Known = record { rules = known.rules; shortened = c.size_behind-self-inside.result; until = c.later-self-inside.result } in
+    let new = keeper_of c.append.new.self c.self.inside.fault (front_if device c.append.new.self s) (to_go_if s c.append.new.self.end) now in
     let more : HasOneMore device file c.append.new.self batch =
     record { before = is.0; settled = c.in-Ok-append.ensures.settled; added = c.in-Ok-append.ensures.added; next = c.in-Ok-append.ensures.next; truth = c.in-Ok-append.ensures.truth } in
-    let now : HasNow device old new (HasMore batch) =
+    let has : HasNow device old new (HasMore batch) =
     more_now device old new batch (more_leaves device old new batch c.in-Ok-append.ensures.any_moment c.in-Ok-append.ensures.readable c.in-Ok-append.ensures.true_before) c.in-Ok-append.ensures.settled c.in-Ok-append.ensures.truth
     (λ left may. g.met.D.Device.only_true c.append.new.self.device left may) c.in-Ok-append.ensures.added
     (begun_in device file known.rules.items s is.2)
     (same_front device file c.append.new.self batch known.rules.items more s is.2) in
     let on : LeadOn device old new (HasMore batch) (horizon_bound c.args.now) =
     λ some others same. rw same (ahead_tells known.until until facts c.bytes.ensures.fits less some batch written (horizon_bound c.args.now) within) in
-    let basis = keeps_basis device old new (HasMore batch) (horizon_bound c.args.now) now on in
+    let basis = keeps_basis device old new (HasMore batch) (horizon_bound c.args.now) has on in
     let kept = invariant_of-self-in-Ok-append g c (search rules) in
     rw (← c.self.view_is) (record {
-      kept = λ before after happened. keeps device old new (HasMore batch) before after now
+      kept = λ before after happened. keeps device old new (HasMore batch) before after has
           (λ some others same. rw same (ahead_stands known.until until facts c.bytes.ensures.fits less some batch written before after happened));
       lost = tt;
       fails = tt;
       works = search rules;
       no_further = no_further device file c.append.new.self batch known.rules.items more s is.2 (omega arith);
-      ahead = until_held device new (record { rules = known.rules; shortened = c.size_behind-self-inside.result; until = c.later-self-inside.result }) _ kept.0 kept.1
+      ahead = until_held device new now _ kept.0 kept.1
           (λ left may. g.met.D.Device.only_true c.append.new.self.device left may)
           (let at = c.horizon_at-ahead.ensures.is in let last = c.later-self-inside.ensures in omega (arith, at, last));
+      until = c.later-self-inside.ensures ∙ ap (λ (moment : ℕ). max known.until moment) c.horizon_at-ahead.ensures.is;
       basis = basis;
       meanwhile = basis.meanwhile;
       sole = c.in-Ok-append.ensures.sole;
@@ -95,8 +97,8 @@ returns-clause-lost g c =
     let less = c.horizon_at-ahead.ensures.in_range in
     let written : batch ≡ with_horizon known.until until (batch_spelling facts) =
     c.deref.ensures.value ∙ c.in-Ok.ensures ∙ ap (with_horizon known.until until) c.bytes.ensures.spelled in
-    let old = keeper_of file c.self.inside.fault (front_if device file s) (to_go_if s file.end) known.shortened in
-    let new = keeper_of c.append.new.self (Some c.in-Err.fault) (front_if device c.append.new.self s) (to_go_if s c.append.new.self.end) known.shortened in
+    let old = keeper_of file c.self.inside.fault (front_if device file s) (to_go_if s file.end) known in
+    let new = keeper_of c.append.new.self (Some c.in-Err.fault) (front_if device c.append.new.self s) (to_go_if s c.append.new.self.end) known in
     let any = more_leaves device old new batch c.in-Err.ensures.any_moment c.in-Err.ensures.readable c.in-Err.ensures.true_before in
     rw (← c.self.view_is) (λ before after happened. keeps_not device old new (HasMore batch) before after any
     (λ some others same. rw same (ahead_stands known.until until facts c.bytes.ensures.fits less some batch written before after happened)))
@@ -113,8 +115,8 @@ returns-clause-meanwhile g c =
     let less = c.horizon_at-ahead.ensures.in_range in
     let written : batch ≡ with_horizon known.until until (batch_spelling facts) =
     c.deref.ensures.value ∙ c.in-Ok.ensures ∙ ap (with_horizon known.until until) c.bytes.ensures.spelled in
-    let old = keeper_of file c.self.inside.fault (front_if device file s) (to_go_if s file.end) known.shortened in
-    let new = keeper_of c.append.new.self (Some c.in-Err.fault) (front_if device c.append.new.self s) (to_go_if s c.append.new.self.end) known.shortened in
+    let old = keeper_of file c.self.inside.fault (front_if device file s) (to_go_if s file.end) known in
+    let new = keeper_of c.append.new.self (Some c.in-Err.fault) (front_if device c.append.new.self s) (to_go_if s c.append.new.self.end) known in
     let any = more_leaves device old new batch c.in-Err.ensures.any_moment c.in-Err.ensures.readable c.in-Err.ensures.true_before in
     let within : until ≤ horizon_bound c.args.now = (let at = c.horizon_at-ahead.ensures.is in omega (arith, at)) in
     rw (← c.self.view_is) (tells_basis device old new (HasMore batch) (horizon_bound c.args.now) any

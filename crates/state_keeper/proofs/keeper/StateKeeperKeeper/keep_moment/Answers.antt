@@ -31,7 +31,7 @@ returns-then-get-clause-told g c =
     let file = c.self.inside.file in
     let s = c.self.inside.shortening in
     let is = c.self.invariant (search rules) in
-    rw (← c.self.view_is) (until_held device (keeper_of file c.self.inside.fault (front_if device file s) (to_go_if s file.end) c.self.inside.known.shortened) c.self.inside.known c.args.now is.0 is.1
+    rw (← c.self.view_is) (until_held device (keeper_of file c.self.inside.fault (front_if device file s) (to_go_if s file.end) c.self.inside.known) c.self.inside.known c.args.now is.0 is.1
     (λ left may. g.met.D.Device.only_true file.device left may) (omega arith))
 
 pub returns-in-Ok : goal.returns-in-Ok
@@ -43,8 +43,8 @@ returns-in-Ok g c =
     let until = c.horizon_at-until.result in
     let less = c.horizon_at-until.ensures.in_range in
     let is = c.self.invariant (search rules) in
-    let old = keeper_of file c.self.inside.fault (front_if device file s) (to_go_if s file.end) c.self.inside.known.shortened in
-    let new = keeper_of c.append.new.self c.self.inside.fault (front_if device c.append.new.self s) (to_go_if s c.append.new.self.end) c.self.inside.known.shortened in
+    let old = keeper_of file c.self.inside.fault (front_if device file s) (to_go_if s file.end) c.self.inside.known in
+    let new = keeper_of c.append.new.self c.self.inside.fault (front_if device c.append.new.self s) (to_go_if s c.append.new.self.end) (record c.self.inside.known { until = until }) in
     let more : HasOneMore device file c.append.new.self batch =
     record { before = is.0; settled = c.in-Ok.ensures.settled; added = c.in-Ok.ensures.added; next = c.in-Ok.ensures.next; truth = c.in-Ok.ensures.truth } in
     let now : HasNow device old new (HasMore batch) =
@@ -54,6 +54,8 @@ returns-in-Ok g c =
     (same_front device file c.append.new.self batch c.self.inside.known.rules.items more s is.2) in
     let basis = keeps_basis device old new (HasMore batch) (horizon_bound c.args.now) now (λ some others same. rw same (horizon_tells (horizon_bound c.args.now) some batch until c.horizon.ensures less (let at = c.horizon_at-until.ensures.is in omega (arith, at)))) in
     rw (← c.self.view_is) (record {
+      idle = λ le. absurd (let more = c.if-get.false in omega (arith, le, more));
+      until = λ less. (let at = c.horizon_at-until.ensures.is in let later = c.horizon_at-until.ensures.later in omega (arith, at, later, less));
       kept = λ history. keeps device old new (HasMore batch) history history now (λ some others same. rw same (horizon_stands some batch until history c.horizon.ensures less));
       lost = tt;
       fails = tt;
@@ -72,11 +74,13 @@ returns-in-Err g c =
     let s = c.self.inside.shortening in
     let batch = c.horizon.result in
     let until = c.horizon_at-until.result in
-    let old = keeper_of file c.self.inside.fault (front_if device file s) (to_go_if s file.end) c.self.inside.known.shortened in
-    let new = keeper_of c.append.new.self (Some c.in-Err.refused) (front_if device c.append.new.self s) (to_go_if s c.append.new.self.end) c.self.inside.known.shortened in
+    let old = keeper_of file c.self.inside.fault (front_if device file s) (to_go_if s file.end) c.self.inside.known in
+    let new = keeper_of c.append.new.self (Some c.in-Err.refused) (front_if device c.append.new.self s) (to_go_if s c.append.new.self.end) c.self.inside.known in
     let is = c.self.invariant (search rules) in
     let any = more_leaves device old new batch c.in-Err.ensures.any_moment c.in-Err.ensures.readable c.in-Err.ensures.true_before in
     rw (← c.self.view_is) (record {
+      idle = λ le. absurd (let more = c.if-get.false in omega (arith, le, more));
+      until = tt;
       kept = tt;
       lost = λ history. keeps_not device old new (HasMore batch) history history any
           (λ some others same. rw same (horizon_stands some batch until history c.horizon.ensures c.horizon_at-until.ensures.in_range));

@@ -18,6 +18,7 @@ returns g c =
       left = on_ok r (λ length s. s.left) slices;
       nearer = on_ok r (λ length s long. ⊎_elim (λ less. inl (less.0, ap (λ (n : ℕ). Some (min (n + 1) (2 ^ 64 - 1))) less.1)) (λ shortens. inr shortens) (s.nearer long)) slices;
       slice = on_ok r (λ length s. s.slice) slices;
+      until = c.shorten_slice.ensures.until;
       refused = if_err r (λ fault s other. (stays_of device old new fault s other).long) refused;
       still = if_err r (λ fault s other. (stays_of device old new fault s other).kept) refused;
       told = if_err r (λ fault s other. (stays_of device old new fault s other).told) refused;

@@ -1,5 +1,5 @@
 use Rattle.std.proofs.Common.{rules, Some, refl}
-use Rattle.state_keeper.proofs.Asked.{as_far, held_still, holds_still, knows_still}
+use Rattle.state_keeper.proofs.Asked.{as_far, as_long, held_still, holds_still, knows_still}
 use Rattle.state_keeper.proofs.Way.{keeps_of_call}
 use Rattle.state_keeper.proofs.keeper.StateKeeperKeeper.tend.Goals as goal
 
@@ -18,7 +18,7 @@ returns-in-Ok g c =
     let new = c.tend.new.self in
     let s = c.self.inside.shortening in
     let keeps = keeps_of_call device file new c.in-Ok.ensures.settled c.in-Ok.ensures.same c.in-Ok.ensures.truth c.in-Ok.ensures.true_before in
-    let all = holds_still device file new keeps c.self.inside.fault s c.self.inside.known.shortened (λ left may. g.met.D.Device.only_true new.device left may) in
+    let all = holds_still device file new keeps c.self.inside.fault s c.self.inside.known (λ left may. g.met.D.Device.only_true new.device left may) in
     rw (← c.self.view_is) (record {
       tended = c.in-Ok.ensures.tended;
       kept = all.holds;
@@ -26,6 +26,8 @@ returns-in-Ok g c =
       fails = tt;
       works = search rules;
       no_further = as_far device file new keeps s;
+      size = as_long device file new keeps;
+      until = refl;
       basis = all.told;
       meanwhile = all.told.meanwhile;
     })
@@ -37,7 +39,7 @@ returns-in-Err g c =
     let new = c.tend.new.self in
     let s = c.self.inside.shortening in
     let is = c.self.invariant (search rules) in
-    let all = held_still device file new is.0 c.in-Err.ensures.any_moment c.in-Err.ensures.true_before c.self.inside.fault (Some c.in-Err.broken) s c.self.inside.known.shortened in
+    let all = held_still device file new is.0 c.in-Err.ensures.any_moment c.in-Err.ensures.true_before c.self.inside.fault (Some c.in-Err.broken) s c.self.inside.known in
     rw (← c.self.view_is) (record {
       tended = tt;
       kept = tt;
@@ -45,6 +47,8 @@ returns-in-Err g c =
       fails = refl;
       works = tt;
       no_further = tt;
+      size = tt;
+      until = refl;
       basis = tt;
       meanwhile = all.told;
     })
