@@ -6,5 +6,6 @@ mod Effected
 mod Found
 mod Ordered
 mod Spelled
+mod Then
 mod Listed
 mod Tried

@@ -2,18 +2,22 @@
 use Rattle.std.proofs.Common.{◌≡◌, ◌∙◌, inl, inr, ℕ, List, ◌∷◌, refl, sym, ap, subst, length, true, false}
 use Rattle.std.specs.Prelude.{Option, None, Some, Result, Ok, Err, IfErr, String, is_some, option_map, string_bytes}
 use Rattle.std.specs.Global.{Global, Vec}
+use Rattle.etcd_json.specs.Outcomes.{ReadsAs}
+use Rattle.etcd_json.specs.Replies.{login_told}
 use Rattle.etcd_json.specs.Requests.{login_text}
+use Rattle.etcd_json.specs.declared.reply.ReplyFault.{ReplyFault}
+use Rattle.etcd_json.specs.declared.reply.ReplyFault.TheVariants as reply
 use Rattle.http_call.specs.declared.call.Response.{Response}
 use Rattle.etcd_client.specs.Heard.{IsHeardOf}
 use Rattle.etcd_client.specs.Sendings.{attempted}
-use Rattle.etcd_client.specs.Told.{IsRefusedRight}
-use Rattle.etcd_client.specs.Tries.{Asker, AsksKnown, AsksOnce, AsksToken, Came, HasNoToken, HasToken, IsNext, IsSent, LacksToken, LogsIn, Try, User, asker, came_as, code_in, limit_of, login_path, next_of, sent_by, try_by, turned, unknown}
+use Rattle.etcd_client.specs.Told.{IsRefusedRight, unread_by}
+use Rattle.etcd_client.specs.Tries.{Asker, AsksKnown, AsksOnce, AsksToken, Came, HasNoToken, HasToken, IsNext, IsNoToken, IsSent, LacksToken, LogsIn, Try, User, asker, came_as, code_in, limit_of, login_path, next_of, sent_by, try_by, turned, unknown}
 use Rattle.etcd_client.specs.declared.asking.Access.{Access}
 use Rattle.etcd_client.specs.declared.asking.Heard.{Heard}
 use Rattle.etcd_client.specs.declared.asking.Heard.TheVariants as heard
 use Rattle.etcd_client.specs.declared.call_log.Attempt.{Attempt}
 use Rattle.etcd_client.specs.declared.members.AskFault.{AskFault}
-use Rattle.etcd_client.specs.declared.members.AskFault.TheVariants.{Refused, Unclear}
+use Rattle.etcd_client.specs.declared.members.AskFault.TheVariants.{Memory, Refused, Unclear}
 
 -- SENT ONCE
 
@@ -73,15 +77,12 @@ module _ (response : Response) (old new : Asker) where
   pub hears_forgotten : (h : Heard) → IsHeardOf response h → h ≡ heard.Forgotten → new ≡ unknown old → IsNext came (Err Unclear) old new
   hears_forgotten h told is same =
       let of = subst (λ (x : Heard). IsHeardOf response x) is told in
-      inr (inl (of.1, same))
+      inr (of.1, same)
 
   pub hears_unclear : (h : Heard) → IsHeardOf response h → h ≡ heard.Unclear → new ≡ turned old → IsNext came (Err Unclear) old new
   hears_unclear h told is same =
       let of = subst (λ (x : Heard). IsHeardOf response x) is told in
       inl (of.1, same)
-
-  pub hears_unread : new ≡ turned (unknown old) → IsNext came (Err Unclear) old new
-  hears_unread same = inr (inr same)
 
 -- what is asked over a connection, and then heard
 module _ (path body : List ℕ) (old mid new : Asker) where
@@ -101,6 +102,7 @@ module _ (path body : List ℕ) (old mid new : Asker) where
 -- it is refused only for a code that says so
 pub once_right : (path body : List ℕ) (old new : Asker) (fault : AskFault) → AsksOnce path body (Err fault) old new → IsRefusedRight fault
 once_right path body old new Unclear asks = tt
+once_right path body old new Memory asks = tt
 once_right path body old new (Refused code) (inl sent) = (sent.1).1
 once_right path body old new (Refused code) (inr none) = let no = none.0 in absurd cc
 
@@ -120,11 +122,22 @@ pub with_words : (user : User) (body : List ℕ) (result : Result (Unit {0}) Ask
 with_words user body (Ok done) old new lacks words asks = inr (user, lacks, subst (λ (b : List ℕ). HasToken b old new) words asks)
 with_words user body (Err fault) old new lacks words asks = inr (user, lacks, subst (λ (b : List ℕ). HasNoToken b fault old new) words asks)
 
+no_refusal : {P : Type 0} (code : ℕ) (text : Vec ℕ) → IsNoToken text (Refused code) → P
+no_refusal code text (inl strange) = let no = strange.0 in absurd cc
+no_refusal code text (inr memory) = absurd cc
+
+-- a reply in which there is none
+pub no_token_in : (text : Vec ℕ) (unread : ReplyFault) (read : Option (List ℕ)) → login_told text.items ≡ read → ReadsAs {A = String Global} string_bytes (Err unread) read
+    → IsNoToken text (unread_by unread)
+no_token_in text reply.Memory read is none = inr refl
+no_token_in text reply.Strange read is none = inl (refl, is ∙ none)
+
 module _ (old new : Asker) where
   not_right : (body : List ℕ) (fault : AskFault) → HasNoToken body fault old new → IsRefusedRight fault
   not_right body Unclear not = tt
+  not_right body Memory not = tt
   not_right body (Refused code) (inl asks) = once_right login_path body old new (Refused code) asks
-  not_right body (Refused code) (inr strange) = let no = strange.0 in absurd cc
+  not_right body (Refused code) (inr strange) = no_refusal code strange.0 strange.2
 
   logs_right : (fault : AskFault) → LogsIn (Err fault) old new → IsRefusedRight fault
   logs_right fault (inl none) = subst (λ (f : AskFault). IsRefusedRight f) (sym none.0) tt

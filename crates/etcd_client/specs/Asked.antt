@@ -1,6 +1,6 @@
 -- What is asked of etcd for a list: which transactions, by what is wanted.
 use Rattle.std.specs.Prelude.{ℕ, List, [], ◌∷◌, ◌==◌, codes, flat_map, if◌then◌else◌}
-use Rattle.etcd_json.specs.Requests.{CompareFact, DeleteIn, GetAt, OperationFact, PutAt, PutLeasedAt, RangeIn, TransactionFact}
+use Rattle.etcd_json.specs.Requests.{CompareFact, DeleteIn, GetAt, OperationFact, PastIn, PutAt, PutLeasedAt, RangeIn, TransactionFact}
 use Rattle.etcd_json.specs.declared.request.Target.{Target}
 use Rattle.etcd_json.specs.declared.request.Target.TheVariants.{Created, Written}
 use Rattle.etcd_cluster.specs.Stands.{ChangeFact, Clears, Forgets, Lays, WriteFact}
@@ -48,6 +48,14 @@ pieces_asked prefix wanted = record {
   compares = compares (head_key prefix) Written wanted.version ∷ [];
   success = RangeIn (piece_key prefix wanted.generation wanted.from) (behind_key prefix wanted.generation) wanted.most ∷ [];
   failure = GetAt (head_key prefix) ∷ [];
+}
+
+-- pieces are that stood there when the head was put at that version
+abbrev pub past_asked : List ℕ → Wanted → TransactionFact
+past_asked prefix wanted = record {
+  compares = [];
+  success = PastIn (piece_key prefix wanted.generation wanted.from) (behind_key prefix wanted.generation) wanted.most wanted.version ∷ [];
+  failure = [];
 }
 
 -- whether somebody leads

@@ -3,7 +3,7 @@
 use Rattle.std.specs.Prelude.{◌≡◌, ◌⊎◌, ◌<◌, ◌^◌, ◌==◌, ◌&&◌, ◌||◌, ℕ, List, [], ◌∷◌, length, Bool, true, false, not, nat_lt, if◌then◌else◌, bytes_eq, Option, None, Some}
 use Rattle.etcd_cluster.specs.Stands.{Clears, Forgets, Lays, PieceFact, Pieces, Stand, WriteFact}
 use Rattle.etcd_json.specs.Replies.{EntryFact}
-use Rattle.etcd_json.specs.Requests.{DeleteIn, GetAt, KeysIn, OperationFact, PutAt, PutLeasedAt, RangeIn, TransactionFact}
+use Rattle.etcd_json.specs.Requests.{DeleteIn, GetAt, OperationFact, PastIn, PutAt, PutLeasedAt, RangeIn, TransactionFact}
 use Rattle.etcd_cluster.specs.declared.change.Standing.{Standing}
 use Rattle.etcd_keys.specs.Keys.{before_key, head_bytes, head_key, piece_key}
 use Rattle.etcd_client.specs.Told.{pieces_in, standing_of}
@@ -31,7 +31,7 @@ effect (PutLeasedAt name value lease) held = with_put name value held
 effect (DeleteIn from to) held = without from to held
 effect (GetAt name) held = held
 effect (RangeIn from to most) held = held
-effect (KeysIn from to most) held = held
+effect (PastIn from to most revision) held = held
 
 -- one after the other
 abbrev pub effects : List OperationFact → Held → Held

@@ -10,15 +10,15 @@ use Rattle.etcd_cluster.specs.declared.change.Piece.{Piece}
 use Rattle.etcd_cluster.specs.declared.change.Standing.{Standing}
 use Rattle.etcd_cluster.specs.declared.change.Wanted.{Wanted}
 use Rattle.etcd_json.specs.Replies.{ReplyFact, granted_told, keepalive_told, reply_fact, revision_told, transaction_told}
-use Rattle.etcd_json.specs.Requests.{TransactionFact, compaction_text, grant_text, keepalive_text, transaction_text}
+use Rattle.etcd_json.specs.Requests.{TransactionFact, compaction_text, grant_text, lease_text, transaction_text}
 use Rattle.etcd_json.specs.declared.reply.Granted.{Granted}
 use Rattle.etcd_json.specs.declared.reply.Header.{Header}
 use Rattle.etcd_json.specs.declared.reply.Reply.{Reply}
-use Rattle.etcd_client.specs.Asked.{change_asked, head_asked, lead_asked, leader_asked, pieces_asked}
-use Rattle.etcd_client.specs.Told.{change_told, elsewhere_told, head_read, leader_told, pieces_seen, pieces_told}
+use Rattle.etcd_client.specs.Asked.{change_asked, head_asked, lead_asked, leader_asked, past_asked, pieces_asked}
+use Rattle.etcd_client.specs.Told.{change_told, elsewhere_told, head_read, leader_told, past_told, pieces_of, pieces_seen, pieces_told}
 use Rattle.etcd_client.specs.declared.leading.Led.{Led}
 use Rattle.etcd_client.specs.declared.members.AskFault.{AskFault}
-use Rattle.etcd_client.specs.declared.members.AskFault.TheVariants.{Refused, Unclear}
+use Rattle.etcd_client.specs.declared.members.AskFault.TheVariants.{Memory, Refused, Unclear}
 
 -- a request, and the text that was told of it
 pub record Exchange : Type 0 where
@@ -40,10 +40,17 @@ pub record Question (A B : Type 0) : Type 0 where
   pub view : A → B
   pub read : List ℕ → Option B
 
--- What is given was read of the text that was told. It is refused only where that was told.
+-- nothing that can be read was told
+abbrev pub IsUntold : {A B : Type 0} → Question A B → Result (List ℕ) AskFault → Type 0
+IsUntold question (Ok text) = question.read text ≡ None
+IsUntold question (Err fault) = fault ≡ Unclear
+
+-- What is given was read of the text that was told. It is refused only where that was told, and not clear only where nothing that can
+-- be read was.
 abbrev pub IsReadOf : {A B : Type 0} → Question A B → Result (List ℕ) AskFault → Result A AskFault → Type 0
 IsReadOf question told (Ok given) = (text : List ℕ) × (told ≡ Ok text) × (question.read text ≡ Some (question.view given))
-IsReadOf question told (Err Unclear) = Unit {0}
+IsReadOf question told (Err Unclear) = IsUntold question told
+IsReadOf question told (Err Memory) = Unit {0}
 IsReadOf question told (Err (Refused code)) = told ≡ Err (Refused code)
 
 -- It was asked once, and what is given is read of what was told.
@@ -52,9 +59,9 @@ pub record Asks {A B : Type 0} (question : Question A B) (result : Result A AskF
   pub exchanges : new ≡ exchange question.path question.body told ∷ old
   pub read : IsReadOf question told result
 
--- or nothing was asked, and it is not clear
+-- or nothing was asked: memory was refused
 abbrev pub MayAsk : {A B : Type 0} → Question A B → Result A AskFault → List Exchange → List Exchange → Type 0
-MayAsk question result old new = Asks question result old new ⊎ ((result ≡ Err Unclear) × (new ≡ old))
+MayAsk question result old new = Asks question result old new ⊎ ((result ≡ Err Memory) × (new ≡ old))
 
 -- TRANSACTIONS
 
@@ -85,16 +92,21 @@ asking known transaction view told =
 abbrev pub change_question : List ℕ → Led → ChangeFact → Question Answer Answer
 change_question prefix led change = asking (Some led.cluster) (change_asked prefix led.server led.cluster change) (λ answer. answer) (change_told prefix)
 
-abbrev pub head_question : List ℕ → Led → Question (Option Standing) (Option Standing)
-head_question prefix led = asking (Some led.cluster) (head_asked prefix) (λ found. found) (head_read prefix)
+abbrev pub head_question : List ℕ → ℕ → Question (Option Standing) (Option Standing)
+head_question prefix cluster = asking (Some cluster) (head_asked prefix) (λ found. found) (head_read prefix)
 
 abbrev pub pieces_question : List ℕ → Led → Wanted → Question (Option (Vec Piece)) (Option (List PieceFact))
 pieces_question prefix led wanted = asking (Some led.cluster) (pieces_asked prefix wanted) pieces_seen (pieces_told prefix wanted.generation)
+
+-- pieces that stood there then
+abbrev pub past_question : List ℕ → ℕ → Wanted → Question (Vec Piece) (List PieceFact)
+past_question prefix cluster wanted = asking (Some cluster) (past_asked prefix wanted) pieces_of (past_told prefix wanted.generation)
 
 -- WHAT A CLUSTER IS TOLD TO HAVE ANSWERED
 
 abbrev pub fault_by : AskFault → CallFault
 fault_by Unclear = call.Unclear
+fault_by Memory = call.Unclear
 fault_by (Refused code) = call.Refused
 
 -- a change is done only at a later version than the one that it names
@@ -123,7 +135,11 @@ compaction_question version =
 
 abbrev pub keepalive_question : ℕ → Question ℕ ℕ
 keepalive_question lease =
-    record { path = codes "/v3/lease/keepalive"; body = keepalive_text lease; view = λ seconds. seconds; read = keepalive_told }
+    record { path = codes "/v3/lease/keepalive"; body = lease_text lease; view = λ seconds. seconds; read = keepalive_told }
+
+-- a lease ends
+abbrev pub revoke_question : ℕ → Question Header Header
+revoke_question lease = record { path = codes "/v3/lease/revoke"; body = lease_text lease; view = λ header. header; read = revision_told }
 
 abbrev pub grant_question : ℕ → Question Granted Granted
 grant_question seconds = record { path = codes "/v3/lease/grant"; body = grant_text seconds; view = λ granted. granted; read = granted_told }
@@ -143,6 +159,7 @@ due_at led kept = min (kept + third led.seconds) (2 ^ 64 - 1)
 abbrev pub kept_by : Led → ℕ → Result ℕ AskFault → Result ℕ CallFault
 kept_by led now (Ok seconds) = if seconds == 0 then Err call.Refused else Ok (due_at led now)
 kept_by led now (Err Unclear) = Ok (min (now + third led.seconds / 4) (2 ^ 64 - 1))
+kept_by led now (Err Memory) = Ok (min (now + third led.seconds / 4) (2 ^ 64 - 1))
 kept_by led now (Err (Refused code)) = Err call.Refused
 
 -- A lease begins anew where it is time.

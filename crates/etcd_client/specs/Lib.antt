@@ -7,3 +7,4 @@ pub mod Heard
 pub mod Connections
 pub mod Tries
 pub mod Sendings
+pub mod Past

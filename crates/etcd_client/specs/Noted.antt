@@ -112,6 +112,7 @@ noted_by kind numbers bytes log =
     else if kind == 23 then with_told (Ok bytes) log
     else if kind == 24 then with_told (Err ask.Unclear) log
     else if kind == 25 then with_told (Err (ask.Refused (slice_index numbers 1))) log
+    else if kind == 30 then with_told (Err ask.Memory) log
     else if kind == 26 then record log { token = Some bytes }
     else if kind == 27 then record log { token = None }
     else if kind == 28 then with_try (slice_index numbers 1) (slice_index numbers 2) (Some (came_as (slice_index numbers 3) bytes)) log

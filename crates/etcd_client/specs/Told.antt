@@ -8,9 +8,11 @@ use Rattle.etcd_cluster.specs.Stands.{PieceFact, piece_fact}
 use Rattle.etcd_cluster.specs.declared.change.Piece.{Piece}
 use Rattle.std.specs.Global.{Vec}
 use Rattle.etcd_json.specs.Replies.{EntryFact, FoundThere, ReplyFact, ResponseFact}
+use Rattle.etcd_json.specs.declared.reply.ReplyFault.{ReplyFault}
+use Rattle.etcd_json.specs.declared.reply.ReplyFault.TheVariants as reply
 use Rattle.etcd_keys.specs.Keys.{before_key, head_key, head_told, is_head_of_other, place_told}
 use Rattle.etcd_client.specs.declared.members.AskFault.{AskFault}
-use Rattle.etcd_client.specs.declared.members.AskFault.TheVariants.{Refused, Unclear}
+use Rattle.etcd_client.specs.declared.members.AskFault.TheVariants.{Memory, Refused, Unclear}
 
 -- the head that stands under its key, and its version
 abbrev pub standing_by : ℕ → Head → Standing
@@ -63,15 +65,20 @@ abbrev pub pieces_found : List ℕ → ResponseFact → Option (List PieceFact)
 pieces_found before (FoundThere found) = pieces_in before found.entries
 pieces_found before other = None
 
--- pieces of that generation, where the head was of the version that was wanted
+-- pieces of that generation
+abbrev pub past_told : List ℕ → ℕ → ReplyFact → Option (List PieceFact)
+past_told prefix generation reply = option_and_then (pieces_found (before_key prefix generation)) (only_of reply.responses)
+
+-- those, where the head was of the version that was wanted
 abbrev pub pieces_told : List ℕ → ℕ → ReplyFact → Option (Option (List PieceFact))
-pieces_told prefix generation reply =
-    if reply.succeeded then option_map (λ pieces. Some pieces) (option_and_then (pieces_found (before_key prefix generation)) (only_of reply.responses))
-    else Some None
+pieces_told prefix generation reply = if reply.succeeded then option_map (λ pieces. Some pieces) (past_told prefix generation reply) else Some None
 
 -- pieces, without where they lie in memory
+abbrev pub pieces_of : Vec Piece → List PieceFact
+pieces_of pieces = map piece_fact pieces.items
+
 abbrev pub pieces_seen : Option (Vec Piece) → Option (List PieceFact)
-pieces_seen found = option_map (λ pieces. map piece_fact pieces.items) found
+pieces_seen found = option_map pieces_of found
 
 -- whether somebody leads
 abbrev pub are_some : List EntryFact → Bool
@@ -97,12 +104,18 @@ elsewhere_found prefix cluster other = None
 abbrev pub elsewhere_told : List ℕ → ReplyFact → Option Bool
 elsewhere_told prefix reply = option_and_then (elsewhere_found prefix reply.header.cluster) (only_of reply.responses)
 
--- With these codes etcd tells that nothing was done: the request was wrong as it stands. A full database is told by another one, 8, and
--- of what was done, too.
+-- why nothing is told where a reply is not read
+abbrev pub unread_by : ReplyFault → AskFault
+unread_by reply.Memory = Memory
+unread_by reply.Strange = Unclear
+
+-- With these codes etcd tells that nothing was done: the request was wrong as it stands, or asked for what stood there at a revision
+-- that was let go of (11). A full database is told by another one, 8, and of what was done, too.
 abbrev pub is_refusal : ℕ → Bool
-is_refusal code = code == 3 || (code == 5 || (code == 7 || code == 9))
+is_refusal code = code == 3 || (code == 5 || (code == 7 || (code == 9 || code == 11)))
 
 -- a request was refused only by one of them
 abbrev pub IsRefusedRight : AskFault → Type 0
 IsRefusedRight Unclear = Unit {0}
+IsRefusedRight Memory = Unit {0}
 IsRefusedRight (Refused code) = is_refusal code ≡ true

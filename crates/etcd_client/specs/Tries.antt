@@ -8,7 +8,7 @@ use Rattle.http_call.specs.declared.fault.CallFault.{CallFault}
 use Rattle.etcd_client.specs.Told.{is_refusal}
 use Rattle.etcd_client.specs.declared.asking.Access.{Access}
 use Rattle.etcd_client.specs.declared.members.AskFault.{AskFault}
-use Rattle.etcd_client.specs.declared.members.AskFault.TheVariants.{Refused, Unclear}
+use Rattle.etcd_client.specs.declared.members.AskFault.TheVariants.{Memory, Refused, Unclear}
 
 -- a response that came
 pub record Came : Type 0 where
@@ -106,13 +106,12 @@ abbrev pub unknown : Asker → Asker
 unknown asker = record asker { token = None }
 
 -- It was done where 200 came, and refused where a code says so. Else it is not clear: code 16 forgets the token, and anything else makes
--- way for another member (where memory was refused for the code, both).
+-- way for another member; where memory was refused for the code, it does both.
 abbrev pub IsNext : Option Came → Result (Vec ℕ) AskFault → Asker → Asker → Type 0
 IsNext came (Ok text) old new = (came ≡ Some (came_as 200 text.items)) × (new ≡ old)
 IsNext came (Err (Refused code)) old new = (code_in came ≡ Some code) × (is_refusal code ≡ true) × (new ≡ old)
-IsNext came (Err Unclear) old new =
-    ((code_in came ≢ Some 16) × (new ≡ turned old))
-    ⊎ (((code_in came ≡ Some 16) × (new ≡ unknown old)) ⊎ (new ≡ turned (unknown old)))
+IsNext came (Err Memory) old new = new ≡ turned (unknown old)
+IsNext came (Err Unclear) old new = ((code_in came ≢ Some 16) × (new ≡ turned old)) ⊎ ((code_in came ≡ Some 16) × (new ≡ unknown old))
 
 -- A request was sent once, or not at all; and who is next.
 abbrev pub AsksOnce : List ℕ → List ℕ → Result (Vec ℕ) AskFault → Asker → Asker → Type 0
@@ -133,10 +132,14 @@ pub record HasToken (body : List ℕ) (old new : Asker) : Type 0 where
   pub told : login_told text.items ≡ Some token
   pub is : new ≡ record asked { token = Some token }
 
+-- none was told, or memory was refused to read it
+abbrev pub IsNoToken : Vec ℕ → AskFault → Type 0
+IsNoToken text fault = ((fault ≡ Unclear) × (login_told text.items ≡ None)) ⊎ (fault ≡ Memory)
+
 -- or it was, and there is none
 abbrev pub HasNoToken : List ℕ → AskFault → Asker → Asker → Type 0
 HasNoToken body fault old new =
-    AsksOnce login_path body (Err fault) old new ⊎ ((fault ≡ Unclear) × ((text : Vec ℕ) × AsksOnce login_path body (Ok text) old new))
+    AsksOnce login_path body (Err fault) old new ⊎ ((text : Vec ℕ) × AsksOnce login_path body (Ok text) old new × IsNoToken text fault)
 
 abbrev pub AsksToken : List ℕ → Result (Unit {0}) AskFault → Asker → Asker → Type 0
 AsksToken body (Ok done) old new = HasToken body old new
@@ -155,7 +158,7 @@ abbrev pub LogsIn : Result (Unit {0}) AskFault → Asker → Asker → Type 0
 LogsIn (Ok done) old new =
     (IsKnown old × (new ≡ old)) ⊎ ((user : User) × LacksToken user old × HasToken (login_text user.name user.password) old new)
 LogsIn (Err fault) old new =
-    ((fault ≡ Unclear) × (new ≡ old)) ⊎ ((user : User) × LacksToken user old × HasNoToken (login_text user.name user.password) fault old new)
+    ((fault ≡ Memory) × (new ≡ old)) ⊎ ((user : User) × LacksToken user old × HasNoToken (login_text user.name user.password) fault old new)
 
 -- WHAT IS ASKED
 

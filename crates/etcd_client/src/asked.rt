@@ -3,7 +3,7 @@
 ghost use Rattle.std.specs.Prelude.{◌≡◌, ◌++◌, [], ◌∷◌, IfOk, OnOk, codes, flat_map, map};
 ghost use Rattle.etcd_json.specs.Requests.{DeleteIn, GetAt, PutAt, compare_tokens, list_member, operation_tokens, transaction_text};
 ghost use Rattle.etcd_cluster.specs.Stands.{change_fact, write_fact};
-ghost use Rattle.etcd_client.specs.Asked.{change_asked, change_compares, change_operations, end_key, head_asked, lead_asked, leader_asked, pieces_asked, write_operations};
+ghost use Rattle.etcd_client.specs.Asked.{change_asked, change_compares, change_operations, end_key, head_asked, lead_asked, leader_asked, past_asked, pieces_asked, write_operations};
 ghost use Rattle.etcd_keys.specs.Keys.{head_key};
 
 use etcd_cluster::change::{Change, Wanted, Write};
@@ -195,6 +195,25 @@ pub(crate) fn pieces_request(
         compares: &compares,
         success: &success,
         failure: &failure,
+    };
+    transaction_request(alloc, &transaction)
+}
+
+/// Pieces are that stood there when the head was put at that version.
+pub(crate) fn past_request(
+    alloc: Global,
+    names: &Names,
+    wanted: Wanted,
+) -> Result<Vec<u8>, AllocError>
+    ensures { IfOk result (λ text. text.items ≡ transaction_text (past_asked names.now.prefix.items wanted)) }
+{
+    let from = names.piece(alloc, wanted.generation, wanted.from)?;
+    let to = names.behind(alloc, wanted.generation)?;
+    let success = [Operation::Past(&from, &to, wanted.most, wanted.version)];
+    let transaction = Transaction {
+        compares: &[],
+        success: &success,
+        failure: &[],
     };
     transaction_request(alloc, &transaction)
 }

@@ -12,9 +12,8 @@ ghost use Rattle.etcd_client.specs.declared.members.AskFault.TheVariants.{Unclea
 
 use crate::call_log::{Attempt, CallLog};
 use crate::members::{AskFault, Members};
-use crate::stream::TimedStream;
 use etcd_json::{ReplyFault, fault_code, login_reply, login_request};
-use http_call::{CallFault, Caller, Request, Response};
+use http_call::{CallFault, Caller, Request, Response, TimedStream};
 use std::alloc::Global;
 use std::io::{Read, Write};
 use std::net::{Net, SocketAddr};
@@ -68,12 +67,12 @@ enum Heard {
     Unread,
 }
 
-/// Whether nothing is done where a member answers with this code: the request is wrong as it stands. A full database (8) is told of
-/// what was done, too.
+/// Whether nothing is done where a member answers with this code: the request is wrong as it stands, or asks for what stood there at
+/// a revision that was let go of (11). A full database (8) is told of what was done, too.
 fn is_refusal(code: u64) -> bool
     ensures { result ≡ is_refusal code }
 {
-    code == 3 || code == 5 || code == 7 || code == 9
+    code == 3 || code == 5 || code == 7 || code == 9 || code == 11
 }
 
 /// How many milliseconds there are for a request of so many bytes.
@@ -245,7 +244,7 @@ impl<'r, R: Net + Clock> Asking<'r, R> {
             Heard::Unread => {
                 self.token = None;
                 self.next();
-                Err(AskFault::Unclear)
+                Err(AskFault::Memory)
             }
         }
     }

@@ -191,6 +191,7 @@ impl CallLog {
             Ok(text) => self.note(&[23], text),
             Err(AskFault::Unclear) => self.note(&[24], &[]),
             Err(AskFault::Refused(code)) => self.note(&[25, *code], &[]),
+            Err(AskFault::Memory) => self.note(&[30], &[]),
         }
     }
 

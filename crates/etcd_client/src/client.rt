@@ -13,13 +13,14 @@ ghost use Rattle.etcd_cluster.specs.Worlds.{IsLater, IsVersioned, seen_pieces};
 ghost use Rattle.etcd_client.specs.Exchanges.{KeepsLease, MayAsk, MayKeep, answer_by, change_question, compaction_question, due_at, fault_by, head_by, head_question, keepalive_question, kept_by, pieces_by, pieces_question, third};
 ghost use Rattle.etcd_client.specs.Noted.{no_log};
 
-use crate::asked::{change_request, head_request, pieces_request};
+use crate::asked::{change_request, pieces_request};
 use crate::call_log::CallLog;
 use crate::leading::{Led, transact};
 use crate::members::{AskFault, Members};
-use crate::told::{change_told, head_read, pieces_told};
+use crate::past::head_there;
+use crate::told::{change_told, pieces_told};
 use etcd_cluster::change::{Answer, CallFault, Change, Piece, Standing, Wanted};
-use etcd_json::{Header, compaction_request, keepalive_reply, keepalive_request, revision_reply};
+use etcd_json::{Header, compaction_request, keepalive_reply, lease_request, revision_reply};
 use etcd_keys::Names;
 use std::alloc::Global;
 
@@ -43,7 +44,7 @@ fn fault_of(fault: AskFault) -> CallFault
     ensures { result ≡ fault_by fault }
 {
     match fault {
-        AskFault::Unclear => CallFault::Unclear,
+        AskFault::Unclear | AskFault::Memory => CallFault::Unclear,
         AskFault::Refused(_) => CallFault::Refused,
     }
 }
@@ -121,7 +122,9 @@ fn kept_of(led: &Led, now: u64, told: Result<u64, AskFault>) -> Result<u64, Call
             }
         }
         Err(AskFault::Refused(_)) => Err(CallFault::Refused),
-        Err(AskFault::Unclear) => Ok(now.saturating_add(third(led.seconds) / 4)),
+        Err(AskFault::Unclear | AskFault::Memory) => {
+            Ok(now.saturating_add(third(led.seconds) / 4))
+        }
     }
 }
 
@@ -160,16 +163,14 @@ impl<M: Members> EtcdCluster<M> {
 
     /// Asks for the head once.
     fn ask_head(&mut self) -> Result<Option<Standing>, AskFault>
-        ensures asked { MayAsk (head_question self.old.names.prefix.items self.old.led) result
+        ensures asked { MayAsk (head_question self.old.names.prefix.items self.old.led.cluster) result
             (M.exchanges self.old.members) (M.exchanges self.new.members) }
         ensures led { self.new.led ≡ self.old.led }
         ensures log { self.new.log ≡ self.old.log }
         ensures names { self.new.names ≡ self.old.names }
     {
         let cluster = self.led.cluster;
-        let text = head_request(self.alloc, &self.names)?;
-        let reply = transact(self.alloc, &mut self.members, Some(cluster), &text)?;
-        Ok(head_read(&self.names, &reply)?)
+        head_there(self.alloc, &mut self.members, &self.names, cluster)
     }
 
     /// Asks for pieces once.
@@ -193,7 +194,7 @@ impl<M: Members> EtcdCluster<M> {
         ensures log { self.new.log ≡ self.old.log }
         ensures names { self.new.names ≡ self.old.names }
     {
-        let body = keepalive_request(self.alloc, self.led.lease)?;
+        let body = lease_request(self.alloc, self.led.lease)?;
         let text = self.members.ask("/v3/lease/keepalive", &body)?;
         Ok(keepalive_reply(self.alloc, &text)?)
     }
@@ -260,7 +261,7 @@ impl<M: Members> EtcdCluster<M> {
     pub(crate) fn head_noted(&mut self) -> Result<Option<Standing>, CallFault>
         ensures noted { self.new.log.log.calls ≡ AskedHead result ∷ self.old.log.log.calls }
         ensures asked { (told : Result (Option Standing) AskFault) × (result ≡ head_by told)
-            × MayAsk (head_question self.old.names.prefix.items self.old.led) told
+            × MayAsk (head_question self.old.names.prefix.items self.old.led.cluster) told
             (M.exchanges self.old.members) (M.exchanges self.new.members) }
         ensures some { IfOk result IsVersioned }
         ensures led { self.new.led ≡ self.old.led }

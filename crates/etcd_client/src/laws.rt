@@ -7,8 +7,9 @@ ghost use Rattle.etcd_cluster.specs.declared.change.Wanted.{Wanted};
 ghost use Rattle.etcd_cluster.specs.Stands.{ChangeFact, PieceFact, Stand, done_at};
 ghost use Rattle.etcd_cluster.specs.Worlds.{AreThere};
 ghost use Rattle.etcd_json.specs.Replies.{EntryFact};
-ghost use Rattle.etcd_client.specs.Asked.{change_asked, change_operations, head_asked, lead_asked, leader_asked, pieces_asked};
+ghost use Rattle.etcd_client.specs.Asked.{change_asked, change_operations, head_asked, lead_asked, leader_asked, past_asked, pieces_asked};
 ghost use Rattle.etcd_client.specs.Effects.{AreReadAs, AreWritesOfWords, Held, Holds, HoldsPieces, IsOfQuorum, IsReadAs, effects};
+ghost use Rattle.etcd_client.specs.Past.{StoodThere};
 ghost use Rattle.etcd_keys.specs.Keys.{IsOfWords, before_key, head_bytes, head_told, piece_key, place_told};
 
 /// A piece is read of its key as of the place at which it was put.
@@ -48,6 +49,11 @@ pub fn pieces_that_are_read_stand_there()
         → AreThere generation pieces stand }
 {}
 
+/// So do those that were told of a version, by all that was told of it.
+pub fn pieces_that_were_told_stood_there()
+    ensures { StoodThere }
+{}
+
 /// A head that is read of what stands under its key is the one that stands there, and was put in that cluster.
 pub fn heads_that_are_read_stand_there()
     ensures { (prefix : List ℕ) (known cluster : ℕ) (entries : List EntryFact) (held : Held) (stand : Stand) (standing : Standing)
@@ -60,6 +66,7 @@ pub fn transactions_are_of_a_quorum()
     ensures changes { (prefix : List ℕ) (server cluster : ℕ) (change : ChangeFact) → IsOfQuorum (change_asked prefix server cluster change) }
     ensures heads { (prefix : List ℕ) → IsOfQuorum (head_asked prefix) }
     ensures pieces { (prefix : List ℕ) (wanted : Wanted) → IsOfQuorum (pieces_asked prefix wanted) }
+    ensures past { (prefix : List ℕ) (wanted : Wanted) → IsOfQuorum (past_asked prefix wanted) }
     ensures leaders { (prefix : List ℕ) → IsOfQuorum (leader_asked prefix) }
     ensures leads { (prefix : List ℕ) (lease : ℕ) → IsOfQuorum (lead_asked prefix lease) }
 {}

@@ -1,12 +1,15 @@
 //! Who writes a list.
 
 ghost use Rattle.std.specs.Prelude.{◌≡◌, Some};
-ghost use Rattle.etcd_client.specs.Exchanges.{Asks, Leads, MayAsk, cluster_question, elsewhere_question, grant_question, is_other, lead_question, leader_question, reply_question};
+ghost use Rattle.etcd_client.specs.Exchanges.{Asks, Leads, MayAsk, cluster_question, elsewhere_question, grant_question, is_other, lead_question, leader_question, reply_question, revoke_question};
 
 use crate::asked::{head_request, lead_request, leader_request};
 use crate::members::{AskFault, Members};
 use crate::told::{elsewhere_told, leader_told};
-use etcd_json::{Granted, Reply, grant_request, granted_reply, transaction_reply};
+use etcd_json::{
+    Granted, Header, Reply, grant_request, granted_reply, lease_request, revision_reply,
+    transaction_reply,
+};
 use etcd_keys::Names;
 use std::alloc::Global;
 
@@ -136,4 +139,13 @@ pub fn lead<M: Members>(
         lease: granted.lease,
         seconds: granted.seconds,
     }))
+}
+
+/// Asks once that a lease end: who leads by it leads no more, and another one may.
+pub fn give_back<M: Members>(alloc: Global, members: &mut M, lease: u64) -> Result<Header, AskFault>
+    ensures { MayAsk (revoke_question lease) result (M.exchanges members.old) (M.exchanges members.new) }
+{
+    let text = lease_request(alloc, lease)?;
+    let told = members.ask("/v3/lease/revoke", &text)?;
+    Ok(revision_reply(alloc, &told)?)
 }

@@ -11,29 +11,31 @@ use std::alloc::{AllocError, AllocFailed};
 /// Why nothing is told.
 #[derive(Clone, Copy, Debug, PartialEq, Eq)]
 pub enum AskFault {
-    /// It may be done, be done later, or never.
+    /// It may be done, be done later, or never: nothing that can be read was told of it.
     Unclear,
     /// It is not done, with this code.
     Refused(u64),
+    /// Memory was refused: so it is, or it was not asked.
+    Memory,
 }
 
 impl From<AllocError> for AskFault {
-    ghost use Rattle.etcd_client.specs.declared.members.AskFault.TheVariants.{Unclear};
+    ghost use Rattle.etcd_client.specs.declared.members.AskFault.TheVariants.{Memory};
 
-    ghost from_gives = { λ _ fault. fault ≡ Unclear };
+    ghost from_gives = { λ _ fault. fault ≡ Memory };
 
     fn from(_refused: AllocError) -> AskFault {
-        AskFault::Unclear
+        AskFault::Memory
     }
 }
 
 impl<T: Drop> From<AllocFailed<T>> for AskFault {
-    ghost use Rattle.etcd_client.specs.declared.members.AskFault.TheVariants.{Unclear};
+    ghost use Rattle.etcd_client.specs.declared.members.AskFault.TheVariants.{Memory};
 
-    ghost from_gives = { λ _ fault. fault ≡ Unclear };
+    ghost from_gives = { λ _ fault. fault ≡ Memory };
 
     fn from(_refused: AllocFailed<T>) -> AskFault {
-        AskFault::Unclear
+        AskFault::Memory
     }
 }
 
@@ -48,12 +50,15 @@ impl From<CallFault> for AskFault {
 }
 
 impl From<ReplyFault> for AskFault {
-    ghost use Rattle.etcd_client.specs.declared.members.AskFault.TheVariants.{Unclear};
+    ghost use Rattle.etcd_client.specs.Told.{unread_by};
 
-    ghost from_gives = { λ _ fault. fault ≡ Unclear };
+    ghost from_gives = { λ unread fault. fault ≡ unread_by unread };
 
-    fn from(_fault: ReplyFault) -> AskFault {
-        AskFault::Unclear
+    fn from(fault: ReplyFault) -> AskFault {
+        match fault {
+            ReplyFault::Memory => AskFault::Memory,
+            ReplyFault::Strange => AskFault::Unclear,
+        }
     }
 }
 

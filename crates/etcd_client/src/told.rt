@@ -4,7 +4,7 @@ ghost use Rattle.std.specs.Prelude.{◌≡◌, map};
 ghost use Rattle.etcd_cluster.specs.Stands.{piece_fact};
 ghost use Rattle.etcd_json.specs.Outcomes.{ReadsAs};
 ghost use Rattle.etcd_json.specs.Replies.{entry_fact, reply_fact};
-ghost use Rattle.etcd_client.specs.Told.{are_of_other, change_told, elsewhere_told, head_in, head_read, leader_told, piece_told, pieces_in, pieces_seen, pieces_told, standing_of};
+ghost use Rattle.etcd_client.specs.Told.{are_of_other, change_told, elsewhere_told, head_in, head_read, leader_told, past_told, piece_told, pieces_in, pieces_of, pieces_seen, pieces_told, standing_of};
 
 use etcd_cluster::change::{Answer, Head, Piece, Standing};
 use etcd_json::ReplyFault::Strange;
@@ -96,8 +96,7 @@ fn piece_told(alloc: Global, before: &[u8], entry: &Entry) -> Result<Piece, Repl
 
 /// The pieces that were found under keys that begin so.
 fn pieces_in(alloc: Global, before: &[u8], entries: &[Entry]) -> Result<Vec<Piece>, ReplyFault>
-    ensures { ReadsAs (λ pieces. map piece_fact pieces.items) result
-        (pieces_in before.now (map entry_fact entries.now)) }
+    ensures { ReadsAs pieces_of result (pieces_in before.now (map entry_fact entries.now)) }
 {
     let mut pieces = Vec::new(alloc);
     let mut rest = entries;
@@ -108,7 +107,23 @@ fn pieces_in(alloc: Global, before: &[u8], entries: &[Entry]) -> Result<Vec<Piec
     Ok(pieces)
 }
 
-/// Pieces of that generation, where the head was of the version that was wanted.
+/// Pieces of that generation.
+pub(crate) fn past_told(
+    alloc: Global,
+    names: &Names,
+    generation: u64,
+    reply: &Reply,
+) -> Result<Vec<Piece>, ReplyFault>
+    ensures { ReadsAs pieces_of result (past_told names.now.prefix.items generation (reply_fact reply.now)) }
+{
+    let before = names.before(alloc, generation)?;
+    match reply.responses.as_slice() {
+        [Response::Found(found)] => pieces_in(alloc, &before, &found.entries),
+        _ => Err(Strange),
+    }
+}
+
+/// Those, where the head was of the version that was wanted.
 pub(crate) fn pieces_told(
     alloc: Global,
     names: &Names,
@@ -120,11 +135,7 @@ pub(crate) fn pieces_told(
     if !reply.succeeded {
         return Ok(None);
     }
-    let before = names.before(alloc, generation)?;
-    match reply.responses.as_slice() {
-        [Response::Found(found)] => Ok(Some(pieces_in(alloc, &before, &found.entries)?)),
-        _ => Err(Strange),
-    }
+    Ok(Some(past_told(alloc, names, generation, reply)?))
 }
 
 /// Whether somebody leads.

@@ -1,12 +1,12 @@
 -- How requests are spelled: as tokens of JSON (RFC 8259), printed without a blank.
-use Rattle.std.specs.Prelude.{ℕ, true, List, [], ◌∷◌, ◌++◌, codes, decimal, flat_map, map}
+use Rattle.std.specs.Prelude.{ℕ, List, [], ◌∷◌, ◌++◌, codes, decimal, flat_map, map}
 use Rattle.base64.specs.Engines.{standard}
 use Rattle.base64.specs.GeneralPurpose.{encode_of}
 use Rattle.json.specs.Print.{print}
-use Rattle.json.specs.Token.{Token, begin_array, begin_object, boolean, end_array, end_object, key, string}
+use Rattle.json.specs.Token.{Token, begin_array, begin_object, end_array, end_object, key, string}
 use Rattle.etcd_json.specs.declared.request.Compare.{Compare}
 use Rattle.etcd_json.specs.declared.request.Operation.{Operation}
-use Rattle.etcd_json.specs.declared.request.Operation.TheVariants.{Delete, Get, Keys, Put, PutLeased, Range}
+use Rattle.etcd_json.specs.declared.request.Operation.TheVariants.{Delete, Get, Past, Put, PutLeased, Range}
 use Rattle.etcd_json.specs.declared.request.Target.{Target}
 use Rattle.etcd_json.specs.declared.request.Target.TheVariants.{Created, Written}
 use Rattle.etcd_json.specs.declared.request.Transaction.{Transaction}
@@ -49,7 +49,7 @@ pub data OperationFact : Type 0 where
   DeleteIn : (from to : List ℕ) → OperationFact
   GetAt : (name : List ℕ) → OperationFact
   RangeIn : (from to : List ℕ) → (most : ℕ) → OperationFact
-  KeysIn : (from to : List ℕ) → (most : ℕ) → OperationFact
+  PastIn : (from to : List ℕ) → (most revision : ℕ) → OperationFact
 
 abbrev pub operation_fact : Operation → OperationFact
 operation_fact (Put name value) = PutAt name.now value.now
@@ -57,7 +57,7 @@ operation_fact (PutLeased name value lease) = PutLeasedAt name.now value.now lea
 operation_fact (Delete from to) = DeleteIn from.now to.now
 operation_fact (Get name) = GetAt name.now
 operation_fact (Range from to most) = RangeIn from.now to.now most
-operation_fact (Keys from to most) = KeysIn from.now to.now most
+operation_fact (Past from to most revision) = PastIn from.now to.now most revision
 
 pub record TransactionFact : Type 0 where
   pub compares : List CompareFact
@@ -105,7 +105,7 @@ operation_name (PutLeasedAt name value lease) = codes "request_put"
 operation_name (DeleteIn from to) = codes "request_delete_range"
 operation_name (GetAt name) = codes "request_range"
 operation_name (RangeIn from to most) = codes "request_range"
-operation_name (KeysIn from to most) = codes "request_range"
+operation_name (PastIn from to most revision) = codes "request_range"
 
 abbrev pub operation_members : OperationFact → List Token
 operation_members (PutAt name value) = put_members name value
@@ -113,7 +113,7 @@ operation_members (PutLeasedAt name value lease) = put_members name value ++ num
 operation_members (DeleteIn from to) = bounds from to
 operation_members (GetAt name) = bytes_member (codes "key") name
 operation_members (RangeIn from to most) = bounds from to ++ number_member (codes "limit") most
-operation_members (KeysIn from to most) = bounds from to ++ (number_member (codes "limit") most ++ key (codes "keys_only") ∷ boolean true ∷ [])
+operation_members (PastIn from to most revision) = bounds from to ++ (number_member (codes "limit") most ++ number_member (codes "revision") revision)
 
 abbrev pub operation_tokens : OperationFact → List Token
 operation_tokens operation = braced (key (operation_name operation) ∷ braced (operation_members operation))
@@ -133,9 +133,9 @@ transaction_text t = print (braced (transaction_members t))
 abbrev pub grant_text : ℕ → List ℕ
 grant_text seconds = print (braced (number_member (codes "TTL") seconds))
 
--- the lease begins anew
-abbrev pub keepalive_text : ℕ → List ℕ
-keepalive_text lease = print (braced (number_member (codes "ID") lease))
+-- the lease begins anew, or ends
+abbrev pub lease_text : ℕ → List ℕ
+lease_text lease = print (braced (number_member (codes "ID") lease))
 
 -- what keys had before that revision is let go of
 abbrev pub compaction_text : ℕ → List ℕ

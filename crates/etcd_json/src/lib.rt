@@ -12,7 +12,7 @@ mod reply;
 mod request;
 
 pub use paper::{
-    Paper, compaction_request, grant_request, keepalive_request, login_request, transaction_request,
+    Paper, compaction_request, grant_request, lease_request, login_request, transaction_request,
 };
 pub use reading::{
     fault_code, granted_reply, keepalive_reply, login_reply, revision_reply, transaction_reply,

@@ -1,9 +1,9 @@
 //! Requests, spelled.
 
-ghost use Rattle.std.specs.Prelude.{◌≡◌, ◌++◌, ◌∷◌, [], true, IfOk, OnOk, flat_map, map};
-ghost use Rattle.json.specs.Token.{begin_array, begin_object, boolean, end_array, end_object, key};
+ghost use Rattle.std.specs.Prelude.{◌≡◌, ◌++◌, ◌∷◌, [], IfOk, OnOk, flat_map, map};
+ghost use Rattle.json.specs.Token.{begin_array, begin_object, end_array, end_object, key};
 ghost use Rattle.json.specs.Print.{print};
-ghost use Rattle.etcd_json.specs.Requests.{KeysIn, PutLeasedAt, RangeIn, bounds, bytes_member, compaction_text, compare_fact, compare_members, compare_tokens, grant_text, keepalive_text, login_text, number_member, operation_fact, operation_members, operation_name, operation_tokens, put_members, revision_name, target_name, text_member, transaction_fact, transaction_text};
+ghost use Rattle.etcd_json.specs.Requests.{PastIn, PutLeasedAt, RangeIn, bounds, bytes_member, compaction_text, compare_fact, compare_members, compare_tokens, grant_text, lease_text, login_text, number_member, operation_fact, operation_members, operation_name, operation_tokens, put_members, revision_name, target_name, text_member, transaction_fact, transaction_text};
 
 use crate::request::{Compare, Operation, Target, Transaction};
 use base64::engine::general_purpose::STANDARD;
@@ -83,14 +83,6 @@ impl Paper {
         self.text(name, text.as_str())
     }
 
-    /// One more member that is true.
-    fn yes(&mut self, name: &str) -> Result<(), AllocError>
-        ensures { OnOk result (self.new.json.tokens ≡ self.old.json.tokens ++ key name.now ∷ boolean true ∷ []) }
-    {
-        self.json.key(name)?;
-        self.json.boolean(true)
-    }
-
     /// Two more members: from which key on, and up to which one.
     fn bounds(&mut self, from: &[u8], to: &[u8]) -> Result<(), AllocError>
         ensures { OnOk result (self.new.json.tokens ≡ self.old.json.tokens ++ bounds from.now to.now) }
@@ -142,12 +134,12 @@ impl Paper {
         self.number("limit", most)
     }
 
-    /// The members of a range without values.
-    fn keys(&mut self, from: &[u8], to: &[u8], most: u64) -> Result<(), AllocError>
-        ensures { OnOk result (self.new.json.tokens ≡ self.old.json.tokens ++ operation_members (KeysIn from.now to.now most)) }
+    /// The members of a range at a revision.
+    fn past(&mut self, from: &[u8], to: &[u8], most: u64, revision: u64) -> Result<(), AllocError>
+        ensures { OnOk result (self.new.json.tokens ≡ self.old.json.tokens ++ operation_members (PastIn from.now to.now most revision)) }
     {
         self.range(from, to, most)?;
-        self.yes("keys_only")
+        self.number("revision", revision)
     }
 
     /// The members of an operation.
@@ -160,7 +152,7 @@ impl Paper {
             Operation::Delete(from, to) => self.bounds(from, to),
             Operation::Get(name) => self.bytes("key", name),
             Operation::Range(from, to, most) => self.range(from, to, most),
-            Operation::Keys(from, to, most) => self.keys(from, to, most),
+            Operation::Past(from, to, most, revision) => self.past(from, to, most, revision),
         }
     }
 
@@ -250,9 +242,9 @@ pub fn grant_request(alloc: Global, seconds: u64) -> Result<Vec<u8>, AllocError>
     paper.finish()
 }
 
-/// A lease is to begin anew (`/v3/lease/keepalive`).
-pub fn keepalive_request(alloc: Global, lease: u64) -> Result<Vec<u8>, AllocError>
-    ensures { IfOk result (λ text. text.items ≡ keepalive_text lease) }
+/// A lease is to begin anew, or to end (`/v3/lease/keepalive`, `/v3/lease/revoke`).
+pub fn lease_request(alloc: Global, lease: u64) -> Result<Vec<u8>, AllocError>
+    ensures { IfOk result (λ text. text.items ≡ lease_text lease) }
 {
     let mut paper = Paper::new(alloc)?;
     paper.number("ID", lease)?;

@@ -30,8 +30,8 @@ pub enum Operation<'a> {
     Get(&'a [u8]),
     /// What stands under the keys from the one on, up to the other: under the first of them, no more than so many.
     Range(&'a [u8], &'a [u8], u64),
-    /// These keys, without their values.
-    Keys(&'a [u8], &'a [u8], u64),
+    /// What stood under these keys at that revision.
+    Past(&'a [u8], &'a [u8], u64, u64),
 }
 
 /// Where all compares hold, the one list of operations is done, and else the other one: all of it at one moment.

@@ -1,2 +1,3 @@
 mod Leading
 mod Named
+mod Listed

@@ -15,7 +15,7 @@ pub record IsPut {D : Type 0} (device : Device D) (bytes : List ℕ) (new : D) :
   pub durable : Only bytes (device.may_leave new)
   pub crash : ComesOfStep (Swapped bytes) (device.may_leave opened) (device.may_leave new)
 
--- why bytes are not read: memory, or they were changed meanwhile
+-- why bytes are not read: memory, or a piece is missing, or was let go of meanwhile
 abbrev pub IsUnreadBy : ListFault → Type 0
 IsUnreadBy fault = (fault ≡ Memory) ⊎ (fault ≡ Unread)
 

@@ -13,6 +13,7 @@ use Rattle.standby.specs.declared.fault.ListFault.TheVariants.{Memory, Refused, 
 abbrev pub of_asking : AskFault → ListFault
 of_asking asks.Unclear = Unclear
 of_asking (asks.Refused code) = Refused code
+of_asking asks.Memory = Memory
 
 abbrev pub of_device : DeviceFault → ListFault
 of_device devices.Memory = Memory

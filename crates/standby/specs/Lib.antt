@@ -5,4 +5,5 @@ pub mod Doors
 pub mod Waits
 pub mod Access
 pub mod Opened
+pub mod Listed
 pub mod Copied

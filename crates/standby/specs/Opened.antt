@@ -2,7 +2,7 @@
 use Rattle.std.specs.Prelude.{◌≡◌, ◌<◌, ◌++◌, ℕ, List, [], Ok, true}
 use Rattle.cluster_device.specs.Sources.{Telling}
 use Rattle.cluster_file.specs.declared.file.ClusterFile.{ClusterFile}
-use Rattle.etcd_client.specs.Exchanges.{Asks, Exchange, cluster_question, elsewhere_question}
+use Rattle.etcd_client.specs.Exchanges.{Asks, Exchange, elsewhere_question}
 use Rattle.etcd_client.specs.Noted.{no_log}
 use Rattle.etcd_client.specs.declared.client.EtcdCluster.{EtcdCluster}
 use Rattle.etcd_client.specs.declared.members.Members.{Ghosts as Members}
@@ -30,19 +30,6 @@ pub record IsLed {M : Type 0} (members : Members M) (prefix : List ℕ) (seconds
 -- some server does
 abbrev pub SomeLead : {M : Type 0} → Members M → List ℕ → ℕ → Type 0
 SomeLead {M} members prefix seconds = (cluster : EtcdCluster M) × IsLed members prefix seconds cluster
-
--- WHO READS AND LEADS NOTHING has no number, and knows in which cluster it reads.
-pub record IsReading {M : Type 0} (members : Members M) (prefix : List ℕ) (cluster : EtcdCluster M) : Type 0 where
-  pub before : List Exchange
-  pub asked : List Exchange
-  pub told : Asks (cluster_question prefix) (Ok cluster.led.cluster) before asked
-  pub since : IsSince asked (members.exchanges cluster.members)
-  pub nobody : cluster.led.server ≡ 0
-  pub fresh : IsFresh prefix cluster
-
--- somebody reads
-abbrev pub SomeRead : {M : Type 0} → Members M → List ℕ → Type 0
-SomeRead {M} members prefix = (cluster : EtcdCluster M) × IsReading members prefix cluster
 
 -- A file is that of a server that leads.
 pub record IsOfLeader {M : Type 0} (members : Members M) (prefix : List ℕ) (seconds : ℕ) (file : ClusterFile (EtcdCluster M)) : Type 0 where

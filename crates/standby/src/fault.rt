@@ -31,7 +31,7 @@ pub enum ListFault {
     AlreadyExists,
     /// Somebody leads.
     Led,
-    /// It could not be read to its end, or was changed meanwhile.
+    /// A piece of it is missing, or what stood there was let go of while it was read, too often.
     Unread,
     /// It could not be put there.
     Unplaced,
@@ -76,6 +76,7 @@ impl From<AskFault> for ListFault {
         match asked {
             AskFault::Unclear => ListFault::Unclear,
             AskFault::Refused(code) => ListFault::Refused(code),
+            AskFault::Memory => ListFault::Memory,
         }
     }
 }

@@ -1,5 +1,6 @@
 //! A list in etcd, as whoever writes or reads it comes to it: `addresses` says where its members listen, `waiting` waits until
-//! nobody else leads, at a `door` or without one, `opening` finds the list then, and `copying` takes it, or puts another one there.
+//! nobody else leads, at a `door` or without one, `opening` finds the list then, `reading` reads it as it stands, and `copying` takes
+//! that, or puts another one there.
 //! `porch` is the door's socket, and `door_log` notes what was told there.
 #![tactic(auto)]
 
@@ -10,6 +11,7 @@ mod door_log;
 mod fault;
 mod opening;
 mod porch;
+mod reading;
 mod waiting;
 
 pub use addresses::addresses_of;

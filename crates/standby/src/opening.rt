@@ -3,6 +3,7 @@
 ghost use Rattle.std.specs.Prelude.{◌≡◌, [], IfErr, IfOk, string_bytes, ℕ};
 ghost use Rattle.cluster_file.specs.Opened.{IsOpened};
 ghost use Rattle.cluster_file.specs.Places.{IsRead};
+ghost use Rattle.etcd_client.specs.Past.{OnlyReads};
 ghost use Rattle.etcd_cluster.specs.Knowing.{IsUnused};
 ghost use Rattle.standby.specs.Doors.{RefusesMeanwhile};
 ghost use Rattle.standby.specs.Access.{IsAccessOf};
@@ -88,6 +89,7 @@ pub(crate) fn refuse_other<M: Members>(
     names: &Names,
 ) -> Result<(), ListFault>
     ensures since { IsSince (M.exchanges members.old) (M.exchanges members.new) }
+    ensures reads { OnlyReads (M.exchanges members.old) (M.exchanges members.new) }
     ensures other { IfErr result (λ fault. (fault ≡ OtherCluster)
         × IsElsewhere names.now.prefix.items (M.exchanges members.old) (M.exchanges members.new)) }
 {

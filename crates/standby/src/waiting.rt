@@ -39,7 +39,7 @@ pub(crate) fn wait_to_lead<R: Net + Clock, M: Members>(
                     return Err(ListFault::Refused(code));
                 }
             }
-            Ok(None) | Err(AskFault::Unclear) => {}
+            Ok(None) | Err(AskFault::Unclear | AskFault::Memory) => {}
         }
         door.wait(PAUSE);
     }

@@ -6,6 +6,7 @@ returns c = record {
   changes = λ prefix server cluster change. inl (omega arith);
   heads = λ prefix. inl (omega arith);
   pieces = λ prefix wanted. inl (omega arith);
+  past = λ prefix wanted. inl (omega arith);
   leaders = λ prefix. inl (omega arith);
   leads = λ prefix lease. inl (omega arith);
 }

@@ -4,13 +4,14 @@ use Rattle.etcd_json.specs.Replies.{reply_fact}
 use Rattle.etcd_json.specs.Requests.{TransactionFact, transaction_text}
 use Rattle.etcd_client.specs.Asked.{leader_asked}
 use Rattle.etcd_client.specs.Exchanges.{Asks, free_in, free_told, reply_question}
-use Rattle.etcd_client.specs.declared.members.AskFault.TheVariants.{Unclear}
-use Rattle.etcd_client.proofs.Exchanged.{asks_fault, asks_given, asks_strange}
+use Rattle.etcd_client.specs.declared.members.AskFault.TheVariants.{Memory}
+use Rattle.etcd_client.specs.Told.{leader_told, unread_by}
+use Rattle.etcd_client.proofs.Exchanged.{asks_fault, asks_given, asks_unread, unread_map}
 use Rattle.etcd_client.proofs.leading.cluster_free.Goals as goal
 
 pub returns-in_err-text : goal.returns-in_err-text
 returns-in_err-text g c =
-    let is : c.from_residual.result ≡ Err Unclear = search rules in
+    let is : c.from_residual.result ≡ Err Memory = search rules in
     inr (is, refl)
 
 pub returns-in_err-reply : goal.returns-in_err-reply
@@ -35,8 +36,10 @@ returns-in_err-leader_told g c =
     let before = D.exchanges c.args.members.now in
     let after = D.exchanges c.transact.new.members in
     let reply = c.in_ok-reply.reply in
-    let is : c.from_residual-in_err-leader_told.result ≡ Err Unclear = search rules in
-    rw is (inl (asks_strange known transaction (λ (free : Option ℕ). free) free_told before after reply
+    let unread = c.in_err-leader_told.field-0.0 in
+    let is : c.from_residual-in_err-leader_told.result ≡ Err (unread_by unread) = search rules in
+    rw is (inl (asks_unread known transaction (λ (free : Option ℕ). free) free_told before after unread reply
+    (unread_map (λ (leads : Bool). leads) (λ (free : Option ℕ). free) (free_in reply.header.cluster) unread (leader_told (reply_fact reply)) c.in_err-leader_told.ensures)
     (subst (λ (t : List ℕ). Asks (reply_question known t) (Ok reply) before after) text c.in_ok-reply.ensures)))
 
 pub returns-then-branch : goal.returns-then-branch

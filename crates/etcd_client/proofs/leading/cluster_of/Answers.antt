@@ -3,13 +3,13 @@ use Rattle.std.specs.Prelude.{Err, Ok, Option, None}
 use Rattle.etcd_json.specs.Requests.{TransactionFact, transaction_text}
 use Rattle.etcd_client.specs.Asked.{leader_asked}
 use Rattle.etcd_client.specs.Exchanges.{Asks, cluster_told, reply_question}
-use Rattle.etcd_client.specs.declared.members.AskFault.TheVariants.{Unclear}
+use Rattle.etcd_client.specs.declared.members.AskFault.TheVariants.{Memory}
 use Rattle.etcd_client.proofs.Exchanged.{asks_fault, asks_given}
 use Rattle.etcd_client.proofs.leading.cluster_of.Goals as goal
 
 pub returns-in_err-text : goal.returns-in_err-text
 returns-in_err-text g c =
-    let is : c.from_residual.result ≡ Err Unclear = search rules in
+    let is : c.from_residual.result ≡ Err Memory = search rules in
     inr (is, refl)
 
 pub returns-in_err-reply : goal.returns-in_err-reply

@@ -2,13 +2,14 @@ use Rattle.std.proofs.Common.{rules, ◌≡◌, ◌∙◌, inl, inr, refl, sym, 
 use Rattle.std.specs.Prelude.{Err}
 use Rattle.etcd_json.specs.Replies.{granted_told}
 use Rattle.etcd_client.specs.Exchanges.{grant_question}
-use Rattle.etcd_client.specs.declared.members.AskFault.TheVariants.{Unclear}
-use Rattle.etcd_client.proofs.Exchanged.{asked_fault, asked_given, asked_strange}
+use Rattle.etcd_client.specs.declared.members.AskFault.TheVariants.{Memory}
+use Rattle.etcd_client.specs.Told.{unread_by}
+use Rattle.etcd_client.proofs.Exchanged.{asked_fault, asked_given, asked_unread}
 use Rattle.etcd_client.proofs.leading.grant.Goals as goal
 
 pub returns-in_err-text : goal.returns-in_err-text
 returns-in_err-text g c =
-    let is : c.from_residual.result ≡ Err Unclear = search rules in
+    let is : c.from_residual.result ≡ Err Memory = search rules in
     inr (is, refl)
 
 pub returns-in_err-told : goal.returns-in_err-told
@@ -21,8 +22,9 @@ returns-in_err-told g c =
 pub returns-in_err-granted_reply : goal.returns-in_err-granted_reply
 returns-in_err-granted_reply g c =
     let sent = c.deref.ensures.value ∙ c.in_ok-text.ensures in
-    let is : c.from_residual-in_err-granted_reply.result ≡ Err Unclear = search rules in
-    rw is (inl (asked_strange (grant_question c.args.seconds) c.deref.result.now _ _ sent c.in_ok-told.told.items c.in_ok-told.ensures.asked))
+    let unread = c.in_err-granted_reply.field-0.0 in
+    let is : c.from_residual-in_err-granted_reply.result ≡ Err (unread_by unread) = search rules in
+    rw is (inl (asked_unread (grant_question c.args.seconds) c.deref.result.now _ _ sent unread c.in_ok-told.told.items _ c.in_ok-told.ensures.asked (sym (ap granted_told c.deref-2.ensures.value)) c.in_err-granted_reply.ensures))
 
 pub returns : goal.returns
 returns g c =

@@ -3,12 +3,12 @@ use Rattle.std.specs.Prelude.{Err, Some}
 use Rattle.etcd_json.specs.Requests.{transaction_text}
 use Rattle.etcd_client.specs.Asked.{lead_asked}
 use Rattle.etcd_client.specs.Exchanges.{Asks, reply_question}
-use Rattle.etcd_client.specs.declared.members.AskFault.TheVariants.{Unclear}
+use Rattle.etcd_client.specs.declared.members.AskFault.TheVariants.{Memory}
 use Rattle.etcd_client.proofs.leading.take_lead.Goals as goal
 
 pub returns-in_err-text : goal.returns-in_err-text
 returns-in_err-text g c =
-    let is : c.from_residual.result ≡ Err Unclear = search rules in
+    let is : c.from_residual.result ≡ Err Memory = search rules in
     inr (is, refl)
 
 pub returns : goal.returns

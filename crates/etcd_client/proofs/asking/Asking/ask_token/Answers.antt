@@ -2,7 +2,8 @@ use Rattle.std.proofs.Common.{rules, ◌≡◌, ◌∙◌, inl, inr, refl, sym, 
 use Rattle.std.specs.Prelude.{Err, string_bytes}
 use Rattle.etcd_json.specs.Replies.{login_told}
 use Rattle.etcd_client.specs.Tries.{asker}
-use Rattle.etcd_client.specs.declared.members.AskFault.TheVariants.{Unclear}
+use Rattle.etcd_client.specs.Told.{unread_by}
+use Rattle.etcd_client.proofs.Tried.{no_token_in}
 use Rattle.etcd_client.proofs.asking.Asking.ask_token.Goals as goal
 
 pub returns-in_err-text-clause-token : goal.returns-in_err-text-clause-token
@@ -13,8 +14,9 @@ returns-in_err-text-clause-token g c =
 
 pub returns-in_err-token-clause-token : goal.returns-in_err-token-clause-token
 returns-in_err-token-clause-token g c =
-    let is : c.from_residual-in_err-token.result ≡ Err Unclear = search rules in
-    rw is (inr (refl, (c.in_ok-text.text, c.in_ok-text.ensures.once)))
+    let unread = c.in_err-token.field-0.0 in
+    let is : c.from_residual-in_err-token.result ≡ Err (unread_by unread) = search rules in
+    rw is (inr (c.in_ok-text.text, c.in_ok-text.ensures.once, no_token_in c.in_ok-text.text unread _ (sym (ap login_told c.deref.ensures.value)) c.in_err-token.ensures))
 
 pub returns-clause-token : goal.returns-clause-token
 returns-clause-token g c =

@@ -1,6 +1,6 @@
 use Rattle.std.proofs.Common.{refl}
 use Rattle.etcd_client.specs.Tries.{Asker, asker, turned}
-use Rattle.etcd_client.proofs.Tried.{hears_done, hears_forgotten, hears_refused, hears_unclear, hears_unread}
+use Rattle.etcd_client.proofs.Tried.{hears_done, hears_forgotten, hears_refused, hears_unclear}
 use Rattle.etcd_client.proofs.asking.Asking.hear.Goals as goal
 
 pub returns-in-Done-clause-next : goal.returns-in-Done-clause-next
@@ -28,6 +28,4 @@ returns-in-Unclear-clause-next g c =
 
 pub returns-in-Unread-clause-next : goal.returns-in-Unread-clause-next
 returns-in-Unread-clause-next g c =
-    let old = c.args.self.now in
-    let new = c.next-in-Unread.new.self in
-    hears_unread c.args.response (asker old.access old.at old.token old.log.log.tries) (asker new.access new.at new.token new.log.log.tries) c.next-in-Unread.ensures.turned
+    c.next-in-Unread.ensures.turned

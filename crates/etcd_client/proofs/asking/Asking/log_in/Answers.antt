@@ -2,7 +2,7 @@ use Rattle.std.proofs.Common.{rules, ◌≡◌, ◌∙◌, inl, inr, List, ℕ, 
 use Rattle.std.specs.Prelude.{Err, Some, option_map, is_some, string_bytes}
 use Rattle.etcd_json.specs.Requests.{login_text}
 use Rattle.etcd_client.specs.Tries.{User, asker, user_of}
-use Rattle.etcd_client.specs.declared.members.AskFault.TheVariants.{Unclear}
+use Rattle.etcd_client.specs.declared.members.AskFault.TheVariants.{Memory}
 use Rattle.etcd_client.proofs.Tried.{no_token, some_token, with_words}
 use Rattle.etcd_client.proofs.asking.Asking.log_in.Goals as goal
 
@@ -17,7 +17,7 @@ returns-in_default-clause-known g c =
 
 pub returns-in_err-body-clause-known : goal.returns-in_err-body-clause-known
 returns-in_err-body-clause-known g c =
-    let is : c.from_residual.result ≡ Err Unclear = search rules in
+    let is : c.from_residual.result ≡ Err Memory = search rules in
     rw is (inl (refl, refl))
 
 pub returns-clause-known : goal.returns-clause-known

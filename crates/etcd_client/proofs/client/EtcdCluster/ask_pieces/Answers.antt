@@ -2,15 +2,15 @@ use Rattle.std.proofs.Common.{rules, ◌≡◌, ◌∙◌, inl, inr, List, ℕ, 
 use Rattle.std.specs.Prelude.{Err, Ok, Option, Some}
 use Rattle.etcd_json.specs.Requests.{TransactionFact, transaction_text}
 use Rattle.etcd_client.specs.Asked.{pieces_asked}
-use Rattle.etcd_client.specs.Told.{pieces_seen, pieces_told}
+use Rattle.etcd_client.specs.Told.{pieces_seen, pieces_told, unread_by}
 use Rattle.etcd_client.specs.Exchanges.{Asks, reply_question}
-use Rattle.etcd_client.specs.declared.members.AskFault.TheVariants.{Unclear}
-use Rattle.etcd_client.proofs.Exchanged.{asks_fault, asks_given, asks_strange}
+use Rattle.etcd_client.specs.declared.members.AskFault.TheVariants.{Memory}
+use Rattle.etcd_client.proofs.Exchanged.{asks_fault, asks_given, asks_unread}
 use Rattle.etcd_client.proofs.client.EtcdCluster.ask_pieces.Goals as goal
 
 pub returns-in_err-text-clause-asked : goal.returns-in_err-text-clause-asked
 returns-in_err-text-clause-asked g c =
-    let is : c.from_residual.result ≡ Err Unclear = search rules in
+    let is : c.from_residual.result ≡ Err Memory = search rules in
     inr (is, refl)
 
 pub returns-in_err-reply-clause-asked : goal.returns-in_err-reply-clause-asked
@@ -37,8 +37,9 @@ returns-in_err-pieces_told-clause-asked g c =
     let before = D.exchanges old.members in
     let after = D.exchanges c.transact.new.members in
     let reply = c.in_ok-reply.reply in
-    let is : c.from_residual-in_err-pieces_told.result ≡ Err Unclear = search rules in
-    rw is (inl (asks_strange known transaction pieces_seen (pieces_told old.names.prefix.items c.args.wanted.generation) before after reply
+    let unread = c.in_err-pieces_told.field-0.0 in
+    let is : c.from_residual-in_err-pieces_told.result ≡ Err (unread_by unread) = search rules in
+    rw is (inl (asks_unread known transaction pieces_seen (pieces_told old.names.prefix.items c.args.wanted.generation) before after unread reply c.in_err-pieces_told.ensures
     (subst (λ (t : List ℕ). Asks (reply_question known t) (Ok reply) before after) text c.in_ok-reply.ensures)))
 
 pub returns-clause-asked : goal.returns-clause-asked

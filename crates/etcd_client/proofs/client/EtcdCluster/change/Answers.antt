@@ -4,15 +4,15 @@ use Rattle.etcd_json.specs.Requests.{TransactionFact, transaction_text}
 use Rattle.etcd_cluster.specs.Stands.{change_fact}
 use Rattle.etcd_cluster.specs.declared.change.Answer.{Answer}
 use Rattle.etcd_client.specs.Asked.{change_asked}
-use Rattle.etcd_client.specs.Told.{change_told}
+use Rattle.etcd_client.specs.Told.{change_told, unread_by}
 use Rattle.etcd_client.specs.Exchanges.{Asks, reply_question}
-use Rattle.etcd_client.specs.declared.members.AskFault.TheVariants.{Unclear}
-use Rattle.etcd_client.proofs.Exchanged.{asks_fault, asks_given, asks_strange}
+use Rattle.etcd_client.specs.declared.members.AskFault.TheVariants.{Memory}
+use Rattle.etcd_client.proofs.Exchanged.{asks_fault, asks_given, asks_unread}
 use Rattle.etcd_client.proofs.client.EtcdCluster.change.Goals as goal
 
 pub returns-in_err-text-clause-asked : goal.returns-in_err-text-clause-asked
 returns-in_err-text-clause-asked g c =
-    let is : c.from_residual.result ≡ Err Unclear = search rules in
+    let is : c.from_residual.result ≡ Err Memory = search rules in
     inr (is, refl)
 
 pub returns-in_err-reply-clause-asked : goal.returns-in_err-reply-clause-asked
@@ -39,8 +39,9 @@ returns-in_err-change_told-clause-asked g c =
     let before = D.exchanges old.members in
     let after = D.exchanges c.transact.new.members in
     let reply = c.in_ok-reply.reply in
-    let is : c.from_residual-in_err-change_told.result ≡ Err Unclear = search rules in
-    rw is (inl (asks_strange known transaction (λ (answer : Answer). answer) (change_told old.names.prefix.items) before after reply
+    let unread = c.in_err-change_told.field-0.0 in
+    let is : c.from_residual-in_err-change_told.result ≡ Err (unread_by unread) = search rules in
+    rw is (inl (asks_unread known transaction (λ (answer : Answer). answer) (change_told old.names.prefix.items) before after unread reply c.in_err-change_told.ensures
     (subst (λ (t : List ℕ). Asks (reply_question known t) (Ok reply) before after) text c.in_ok-reply.ensures)))
 
 pub returns-clause-asked : goal.returns-clause-asked

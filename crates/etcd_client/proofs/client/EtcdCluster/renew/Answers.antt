@@ -2,13 +2,14 @@ use Rattle.std.proofs.Common.{rules, ◌≡◌, ◌∙◌, inl, inr, refl, sym, 
 use Rattle.std.specs.Prelude.{Err}
 use Rattle.etcd_json.specs.Replies.{keepalive_told}
 use Rattle.etcd_client.specs.Exchanges.{keepalive_question}
-use Rattle.etcd_client.specs.declared.members.AskFault.TheVariants.{Unclear}
-use Rattle.etcd_client.proofs.Exchanged.{asked_fault, asked_given, asked_strange}
+use Rattle.etcd_client.specs.declared.members.AskFault.TheVariants.{Memory}
+use Rattle.etcd_client.specs.Told.{unread_by}
+use Rattle.etcd_client.proofs.Exchanged.{asked_fault, asked_given, asked_unread}
 use Rattle.etcd_client.proofs.client.EtcdCluster.renew.Goals as goal
 
 pub returns-in_err-body-clause-asked : goal.returns-in_err-body-clause-asked
 returns-in_err-body-clause-asked g c =
-    let is : c.from_residual.result ≡ Err Unclear = search rules in
+    let is : c.from_residual.result ≡ Err Memory = search rules in
     inr (is, refl)
 
 pub returns-in_err-text-clause-asked : goal.returns-in_err-text-clause-asked
@@ -21,8 +22,9 @@ returns-in_err-text-clause-asked g c =
 pub returns-in_err-keepalive_reply-clause-asked : goal.returns-in_err-keepalive_reply-clause-asked
 returns-in_err-keepalive_reply-clause-asked g c =
     let sent = c.deref.ensures.value ∙ c.in_ok-body.ensures in
-    let is : c.from_residual-in_err-keepalive_reply.result ≡ Err Unclear = search rules in
-    rw is (inl (asked_strange (keepalive_question c.args.self.now.led.lease) c.deref.result.now _ _ sent c.in_ok-text.text.items c.in_ok-text.ensures.asked))
+    let unread = c.in_err-keepalive_reply.field-0.0 in
+    let is : c.from_residual-in_err-keepalive_reply.result ≡ Err (unread_by unread) = search rules in
+    rw is (inl (asked_unread (keepalive_question c.args.self.now.led.lease) c.deref.result.now _ _ sent unread c.in_ok-text.text.items _ c.in_ok-text.ensures.asked (sym (ap keepalive_told c.deref-2.ensures.value)) c.in_err-keepalive_reply.ensures))
 
 pub returns-clause-asked : goal.returns-clause-asked
 returns-clause-asked g c =

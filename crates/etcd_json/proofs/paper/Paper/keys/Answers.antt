@@ -1,5 +1,0 @@
-use Rattle.std.proofs.Common.{append_assoc}
-use Rattle.etcd_json.proofs.paper.Paper.keys.Goals as goal
-
-pub returns : goal.returns
-returns c = simp append_assoc at (rw (c.in_ok-range.ensures) at c.yes.ensures)
