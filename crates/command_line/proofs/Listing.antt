@@ -1,5 +1,5 @@
 -- How the commands on a list in etcd end.
-use Rattle.std.proofs.Common.{◌≡◌, ◌⊎◌, List, Ok, Option, Err, Result, Some, ap, inl, inr, refl, ℕ, subst}
+use Rattle.std.proofs.Common.{◌≡◌, ◌∙◌, ◌⊎◌, List, Ok, Option, Err, Result, Some, ap, inl, inr, refl, ℕ, subst, sym}
 use Rattle.std.specs.Prelude.{IfErr, IfOk, OnOk}
 use Rattle.batch_file.specs.Frames.{RefusesFile}
 use Rattle.batch_file.specs.declared.framing.ReadFault.{ReadFault}
@@ -7,16 +7,18 @@ use Rattle.batch_file.specs.declared.framing.ReadFault.TheVariants as reads
 use Rattle.commands.specs.Outputs.{GetsText}
 use Rattle.commands.specs.Performed.{IsPrinted, IsTold, IsUntold, IsUnwritten}
 use Rattle.commands.specs.Faults.{IsOfState}
-use Rattle.commands.specs.States.{HasNoAccount, IsStateText, IsStateTold, IsUnread}
+use Rattle.commands.specs.States.{HasNoAccount, IsStateTold, IsUnread}
 use Rattle.commands.specs.declared.fault.CommandFault.TheVariants as faults
-use Rattle.commands.specs.Statuses.{status_of_answer}
 use Rattle.commands.specs.declared.answer.Answer.{Answer}
 use Rattle.commands.specs.declared.answer.Answer.TheVariants as answers
 use Rattle.command_line.specs.Names.{CommandFault, Done, IsUntouched, Output, Outputs, Status}
 use Rattle.command_line.specs.ListCommands.{list_of}
-use Rattle.command_line.specs.ListEndings.{EndsListCommand, FailsListCommand, FailsOn, IsListShown, IsNoState, TellsListDone}
+use Rattle.command_line.specs.ListEndings.{EndsListCommand, FailsListCommand, FailsOn, AreLines, IsListShown, IsNoState, TellsList, TellsListDone}
 use Rattle.command_line.specs.declared.list_command.ListCommand.{ListCommand}
+use Rattle.command_line.specs.declared.list_command.ListCommand.TheVariants.{Show}
 use Rattle.hook_commands.specs.File.{File}
+use Rattle.standby.specs.Listed.{IsListOf}
+use Rattle.start_words.specs.declared.list.ListWords.{ListWords}
 use Rattle.state_file.specs.Faults.{of_reading}
 
 -- why a command on the list of this prefix does nothing
@@ -24,20 +26,29 @@ pub stops : (command : ListCommand) (file : File) (prefix : List ℕ) (fault : C
     FailsListCommand command file fault
 stops command file prefix fault same why = inr (subst (λ (p : List ℕ). FailsOn command p file fault) same why)
 
--- an answer that shows a list is done, and is printed as its text
-pub is_done : (answer : Answer) → IsListShown answer → status_of_answer answer ≡ Done
-is_done (answers.Lines text) is = refl
-is_done _ is = absurd is
+-- an answer that shows a list has lines, and is printed as its text
+pub are_lines : (prefix : List ℕ) (answer : Answer) → IsListShown prefix answer → AreLines answer
+are_lines prefix (answers.Lines text) is = tt
+are_lines prefix _ is = absurd is
 
-pub is_text : {W : Type 0} (answer : Answer) (out : Output W) → IsListShown answer → IsPrinted answer out →
-    (bytes text : List ℕ) × (now : Option ℕ) × IsStateText bytes now text × GetsText out text
-is_text (answers.Lines text) out is printed = (is.0, text.items, is.1, is.2, printed)
-is_text _ out is printed = absurd is
+is_text : {W : Type 0} (prefix : List ℕ) (answer : Answer) (out : Output W) → IsListShown prefix answer → IsPrinted answer out →
+    (text : List ℕ) × TellsList prefix text × GetsText out text
+is_text prefix (answers.Lines text) out is printed = (text.items, is, printed)
+is_text prefix _ out is printed = absurd is
 
--- a text that is told is that of the bytes
-pub is_told_text : (path bytes : List ℕ) (now : Option ℕ) (answer : Answer) → IsStateTold path (Some bytes) now (Ok answer) → (text : List ℕ) × IsStateText bytes now text
-is_told_text path bytes now (answers.Lines text) told = (text.items, told)
-is_told_text path bytes now _ told = absurd told
+pub shows_list : {W E : Type 0} (command : ListCommand) (list : ListWords) (prefix : List ℕ) (file : File) (answer : Answer) (to : Outputs W E) → command ≡ Show list →
+    prefix ≡ (list_of command).prefix.now → IsListShown prefix answer → IsUntouched to.err → IsPrinted answer to.out → TellsListDone command file to
+shows_list command list prefix file answer to is same shown err printed =
+    let text = is_text prefix answer to.out shown printed in
+    let named : prefix ≡ list.prefix.now = same ∙ ap (λ (k : ListCommand). (list_of k).prefix.now) is in
+    subst (λ (k : ListCommand). TellsListDone k file to) (sym is) (err, text.0, subst (λ (p : List ℕ). TellsList p text.0) named text.1, text.2)
+
+-- a text that is told of the bytes of a list shows it
+pub is_shown : (prefix bytes : List ℕ) (now : Option ℕ) (r : Result Answer CommandFault) → IsListOf prefix bytes → IsStateTold prefix (Some bytes) now r
+    → IfOk r (IsListShown prefix)
+is_shown prefix bytes now (Ok (answers.Lines text)) list told = (bytes, now, list, told)
+is_shown prefix bytes now (Ok _) list told = absurd told
+is_shown prefix bytes now (Err fault) list told = tt
 
 is_read : (path bytes : List ℕ) (fault : CommandFault) → IsUnread path (Some bytes) fault → ⊥
 is_read path bytes (faults.CannotRead named) unread = cc

@@ -2,6 +2,7 @@
 use Rattle.std.specs.Prelude.{◌≡◌, ⊤, ℕ, ◌-◌, Bool, false, ◌||◌, if◌then◌else◌, List, [], ◌∷◌, codes, length, map, Option, None, Some, option_map, unwrap_or, slice_get, Result, Ok, Err}
 use Rattle.command_line.specs.Names.{string_bytes, Call, Command, OnList, State, CommandFault, BadArguments, BadCommand, OutOfMemory, HookSaid, file_named_by, IsCommand, Arguments}
 use Rattle.std.specs.Str.{bytes_eq}
+use Rattle.manual.specs.Words.{is_command}
 use Rattle.command_line.specs.declared.call.Call.TheVariants.{Service}
 use Rattle.commands.specs.declared.command.Command.TheVariants.{Explain}
 use Rattle.command_line.specs.ListCommands.{NameList, file_of_list, password_of_list}
@@ -27,14 +28,6 @@ NameCall words (Service service) = IsService words service
 -- words name no call
 abbrev pub NameNoCall : Arguments → Type 0
 NameNoCall words = (call : Call) → NameCall words call → ⊥
-
--- a word is the name of a command, by which `help` explains it
-abbrev pub is_command : List ℕ → Bool
-is_command name =
-    bytes_eq name (codes "run") || bytes_eq name (codes "ask") || bytes_eq name (codes "ask2") || bytes_eq name (codes "asm") ||
-    bytes_eq name (codes "list") || bytes_eq name (codes "check") || bytes_eq name (codes "check2") || bytes_eq name (codes "start") ||
-    bytes_eq name (codes "serve") || bytes_eq name (codes "registry") || bytes_eq name (codes "state") || bytes_eq name (codes "replay") ||
-    bytes_eq name (codes "help")
 
 -- the command's name with which words begin
 abbrev pub command_in : List (List ℕ) → Option (List ℕ)

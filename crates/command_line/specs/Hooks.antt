@@ -1,12 +1,12 @@
 -- Hooks in files, installed one after the other before a server listens.
-use Rattle.std.specs.Prelude.{◌≡◌, ◌≢◌, ◌⊎◌, ⊤, ℕ, List, [], ◌∷◌, None, IsSomeAnd, map, option_map}
-use Rattle.command_line.specs.Names.{HookSaid, hook_said, IsInstalled, Named, RefusesInstall, CommandFault, CannotRead, Hook, OutOfMemory, HookFact, IsHexOf, IsNoHex}
+use Rattle.std.specs.Prelude.{◌≡◌, ◌≢◌, ◌⊎◌, ⊤, ℕ, List, [], ◌∷◌, None, map, option_map}
+use Rattle.command_line.specs.Names.{HookSaid, hook_said, IsInstalled, Named, RefusesInstall, CommandFault, CannotRead, Hook, OutOfMemory, HookFact}
 use Rattle.hook_host.specs.declared.fault.HookFault.{HookFault}
 use Rattle.hook_host.specs.declared.fault.HookFault.TheVariants as memory
 use Rattle.endpoints.specs.Layouts.{version_of}
 use Rattle.command_line.specs.declared.hook_files.HookCode.{HookCode}
 use Rattle.command_line.specs.declared.hook_files.HookRead.{HookRead}
-use Rattle.hook_commands.specs.File.{File}
+use Rattle.hook_commands.specs.File.{File, HoldsCode}
 
 -- what the words say of a hook, and what stands in its file
 pub record HookInFile : Type 0 where
@@ -19,10 +19,6 @@ in_file read = record { said = hook_said read.hook; file = option_map (λ v. v.i
 -- what the words say of each
 abbrev pub said_of : List HookInFile → List HookSaid
 said_of hooks = map (λ h. h.said) hooks
-
--- the code in a file: the bytes that its text is hex of, or the file itself, where it is no hex
-abbrev pub HoldsCode : File → List ℕ → Type 0
-HoldsCode file code = IsSomeAnd file (λ text. IsHexOf text code ⊎ (IsNoHex text × (code ≡ text)))
 
 -- a hook's name, the version of its record, and the code in its file
 pub record IsFactOf (hook : HookInFile) (fact : HookFact) : Type 0 where

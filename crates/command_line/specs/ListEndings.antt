@@ -13,6 +13,7 @@ use Rattle.command_line.specs.ListFaults.{FailsSo, IsUnasked}
 use Rattle.command_line.specs.StateEndings.{IsTrial, RefusesTrial, would_end}
 use Rattle.command_line.specs.declared.list_command.ListCommand.{ListCommand}
 use Rattle.standby.specs.Copied.{IsNotPut, IsUntaken}
+use Rattle.standby.specs.Listed.{IsListOf}
 use Rattle.standby.specs.declared.fault.ListFault.{ListFault}
 use Rattle.command_line.specs.declared.list_command.ListCommand.TheVariants.{From, New, Show, To, Trial}
 
@@ -29,10 +30,19 @@ abbrev pub FailsTrialOn : List ℕ → File → List ℕ → CommandFault → Ty
 FailsTrialOn config file prefix fault =
     HoldsNoRegistry config file fault ⊎ ((registry : RegistryRecord) × HoldsRegistry file registry × RefusesTrial registry prefix fault)
 
--- lines that tell what some bytes stand for
-abbrev pub IsListShown : Answer → Type 0
-IsListShown (answers.Lines text) = (bytes : List ℕ) × (now : Option ℕ) × IsStateText bytes now text.items
-IsListShown answer = ⊥
+-- text tells what the bytes of a list stand for, as it stood at one version
+abbrev pub TellsList : List ℕ → List ℕ → Type 0
+TellsList prefix text = (bytes : List ℕ) × (now : Option ℕ) × IsListOf prefix bytes × IsStateText bytes now text
+
+-- lines that are printed
+abbrev pub AreLines : Answer → Type 0
+AreLines (answers.Lines text) = Unit {0}
+AreLines answer = ⊥
+
+-- such lines
+abbrev pub IsListShown : List ℕ → Answer → Type 0
+IsListShown prefix (answers.Lines text) = TellsList prefix text.items
+IsListShown prefix answer = ⊥
 
 -- bytes are a file of these batches
 abbrev pub Holds : List (List ℕ) → List ℕ → Type 0
@@ -69,10 +79,10 @@ abbrev pub FailsListCommand : ListCommand → File → CommandFault → Type 0
 FailsListCommand command file fault =
     FailsSo (IsUnasked (list_of command)) (list_of command).prefix.now fault ⊎ FailsOn command (list_of command).prefix.now file fault
 
--- What is printed where it is done: what the bytes that stood there stand for, what a start would end, and else nothing. A list that is
+-- What is printed where it is done: what the bytes of the list stand for, what a start would end, and else nothing. A list that is
 -- made of a file is made of the batches of a state file, each of which is right.
 abbrev pub TellsListDone : {W E : Type 0} → ListCommand → File → Outputs W E → Type 0
-TellsListDone (Show list) file to = IsUntouched to.err × (bytes text : List ℕ) × (now : Option ℕ) × IsStateText bytes now text × GetsText to.out text
+TellsListDone (Show list) file to = IsUntouched to.err × (text : List ℕ) × TellsList list.prefix.now text × GetsText to.out text
 TellsListDone (New list) file to = IsUntouched to.out × IsUntouched to.err
 TellsListDone (From path list) file to = IsUntouched to.out × IsUntouched to.err × (batches : List (List ℕ)) × IsCopyOf file batches
 TellsListDone (To path list) file to = IsUntouched to.out × IsUntouched to.err

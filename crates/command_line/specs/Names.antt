@@ -18,7 +18,7 @@ pub use Rattle.daemon.specs.Listening.{IsToldBy}
 pub use Rattle.ports.specs.Listening.{Announces}
 pub use Rattle.ports.specs.declared.fault.ListenFault.{ListenFault}
 pub use Rattle.hook_chain.specs.Chains.{IsInstalled, Named, RefusesInstall}
-pub use Rattle.hook_commands.specs.HexText.{IsHexOf, IsNoHex}
+pub use Rattle.hook_commands.specs.HexText.{IsHexOf}
 pub use Rattle.rules_codec.specs.Facts.{HookFact, hook_fact}
 pub use Rattle.lifetime.specs.declared.life.LifeEnd.{LifeEnd}
 pub use Rattle.start_words.specs.Options.{HookSaid, hook_said, Said, wrong, clock_limit}

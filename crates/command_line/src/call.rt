@@ -3,12 +3,13 @@
 ghost use Rattle.std.specs.Prelude.{◌≡◌, map, string_bytes};
 ghost use Rattle.std.specs.Option.{option_copied};
 ghost use Rattle.start_words.specs.Options.{hook_said};
-ghost use Rattle.command_line.specs.Calls.{asks_help, command_in, file_of, helped_by, hooks_named_by, is_command, password_named_by, AreNamesRead, AreWordsRead};
+ghost use Rattle.command_line.specs.Calls.{asks_help, command_in, file_of, helped_by, hooks_named_by, password_named_by, AreNamesRead, AreWordsRead};
 
 use crate::list_command::ListCommand;
 use crate::service::Service;
 use crate::state_command::StateCommand;
 use commands::{Command, CommandFault};
+use manual::is_command;
 use start_words::HookFile;
 use std::alloc::Global;
 
@@ -43,25 +44,6 @@ fn helped<'w>(words: &'w [String]) -> Option<&'w str>
     } else {
         None
     }
-}
-
-/// Whether a word is the name of a command.
-fn is_command(name: &str) -> bool
-    ensures { result ≡ is_command name.now }
-{
-    name == "run"
-        || name == "ask"
-        || name == "ask2"
-        || name == "asm"
-        || name == "list"
-        || name == "check"
-        || name == "check2"
-        || name == "start"
-        || name == "serve"
-        || name == "registry"
-        || name == "state"
-        || name == "replay"
-        || name == "help"
 }
 
 /// The command's name with which words begin.

@@ -1,16 +1,16 @@
 //! Hooks in files, which a server has before it listens.
 
-ghost use Rattle.std.specs.Prelude.{◌≡◌, [], Some, OnOk, IfOk, IfErr, map};
+ghost use Rattle.std.specs.Prelude.{◌≡◌, [], OnOk, IfOk, IfErr, map};
 ghost use Rattle.endpoints.specs.Layouts.{version_of};
 ghost use Rattle.rules_codec.specs.Facts.{hook_fact};
 ghost use Rattle.start_words.specs.Options.{hook_said};
-ghost use Rattle.command_line.specs.Hooks.{AreFactsOf, hook_fact_of, HoldsCode, in_file, IsFactOf, RefusesHook, RefusesHooks, said_of, TakesHook, TakesHooks};
+ghost use Rattle.command_line.specs.Hooks.{AreFactsOf, hook_fact_of, in_file, IsFactOf, RefusesHook, RefusesHooks, said_of, TakesHook, TakesHooks};
 ghost use Rattle.commands.specs.declared.fault.CommandFault.TheVariants.{OutOfMemory};
 
 use commands::{CommandFault, bytes_at};
 use consent::RecordVersion;
 use hook_chain::Chain;
-use hook_commands::bytes_of_hex;
+use hook_commands::code_in;
 use hook_host::{HookFault, HookHost};
 use insn::layout::Layout;
 use rules_codec::KeptHook;
@@ -84,16 +84,6 @@ pub struct HooksTaken<'w> {
     pub chain: Chain,
     /// The code of each.
     pub codes: Vec<HookCode<'w>>,
-}
-
-/// The code in a file: the bytes that its text is hex of, or the file itself, where it is no hex.
-fn code_in(alloc: Global, file: &[u8]) -> Result<Vec<u8>, AllocError>
-    ensures { IfOk result (λ code. HoldsCode (Some file.now) code.items) }
-{
-    match bytes_of_hex(alloc, file)? {
-        Some(code) => Ok(code),
-        None => Vec::from_slice(alloc, file),
-    }
 }
 
 /// Installs the hook in a file behind the others.

@@ -6,11 +6,12 @@ ghost use Rattle.commands.specs.Outputs.{IsUntouched, output, outputs};
 ghost use Rattle.commands.specs.Performed.{IsPrinted, IsTold, IsUntold, IsUnwritten};
 ghost use Rattle.commands.specs.declared.status.Status.TheVariants.{Done};
 ghost use Rattle.command_line.specs.ListCommands.{list_of};
-ghost use Rattle.command_line.specs.ListEndings.{EndsListCommand, FailsTrialOn, Holds, IsCopyOf, IsListShown, IsNoState, IsNoStateFile};
+ghost use Rattle.command_line.specs.ListEndings.{AreLines, EndsListCommand, FailsTrialOn, Holds, IsCopyOf, IsListShown, IsNoState, IsNoStateFile};
 ghost use Rattle.command_line.specs.ListFaults.{FailsSo};
 ghost use Rattle.command_line.specs.Makings.{FailsMaking};
 ghost use Rattle.command_line.specs.StateEndings.{IsTrial};
 ghost use Rattle.standby.specs.Copied.{IsNotPut, IsPut, IsUntaken};
+ghost use Rattle.standby.specs.Listed.{IsListOf};
 
 use crate::call_files::CallFiles;
 use crate::list_command::ListCommand;
@@ -63,7 +64,7 @@ fn list_taken<'r, 'w, R: Net + Clock + AllocGlobal>(
     rt: &'r R,
     terms: ListTerms<'w>,
 ) -> Result<TakenList<'r, R>, CommandFault<'w>>
-    ensures whole { IfOk result (λ taken. ⟦<ListFile<'r, R> as Device>⟧.seen taken.file ≡ taken.bytes.items) }
+    ensures list { IfOk result (λ taken. IsListOf terms.entry.prefix.now taken.bytes.items) }
     ensures refused { IfErr result (FailsSo IsUntaken terms.entry.prefix.now) }
 {
     match take_list(rt, rt.alloc(), terms) {
@@ -138,7 +139,7 @@ fn shown<'w, R: Net + Clock + AllocGlobal>(
     rt: &R,
     terms: ListTerms<'w>,
 ) -> Result<Answer, CommandFault<'w>>
-    ensures shown { IfOk result IsListShown }
+    ensures shown { IfOk result (IsListShown terms.entry.prefix.now) }
     ensures refused { IfErr result (λ fault. FailsSo IsUntaken terms.entry.prefix.now fault ⊎ IsNoState terms.entry.prefix.now fault) }
 {
     let taken = list_taken(rt, terms)?;
@@ -162,7 +163,7 @@ fn ended_by<'w, R: Net + Clock + AllocGlobal>(
 
 /// Prints an answer, and says how the program then ends. A write that fails is bad use.
 fn print_answer<W: Printer, E: Printer>(answer: &Answer, out: &mut W, err: &mut E) -> Status
-    requires { IsListShown answer.now }
+    requires { AreLines answer.now }
     ensures { let to = outputs (output W.contents W.writes out.old out.new) (output E.contents E.writes err.old err.new) in
         IsUnwritten result to ⊎ ((result ≡ Done) × IsUntouched to.err × IsPrinted answer.now to.out) }
 {

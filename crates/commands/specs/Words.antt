@@ -4,9 +4,6 @@ use Rattle.std.specs.String.{string_bytes}
 use Rattle.std.specs.declared.alloc.Global.{Global}
 use Rattle.hook_commands.specs.declared.asking.AskWords.{AskWords}
 use Rattle.insn.specs.declared.layout.Layout.TheVariants.{V1, V2}
-use Rattle.hook_commands.specs.Answers.{file_of_hook_command}
-use Rattle.hook_commands.specs.declared.command.HookCommand.{HookCommand}
-use Rattle.hook_commands.specs.declared.command.HookCommand.TheVariants as hook
 use Rattle.commands.specs.declared.command.Command.{Command}
 use Rattle.commands.specs.declared.command.Command.TheVariants as commands
 use Rattle.commands.specs.declared.command.HelpWord.TheVariants.{Help, Long, Short}
@@ -19,23 +16,19 @@ Arguments = List (String Global)
 abbrev pub ask_words : AskWords → List (List ℕ)
 ask_words w = w.kind.now ∷ w.now.now ∷ w.client.now ∷ w.owner.now ∷ w.scope.now ∷ w.life.now ∷ []
 
--- the words that name a command about a hook
-abbrev pub hook_words_of : HookCommand → List (List ℕ)
-hook_words_of (hook.Run code_hex record_hex) = codes "run" ∷ code_hex.now ∷ record_hex.now ∷ []
-hook_words_of (hook.Trace code_hex record_hex) = codes "run" ∷ codes "--trace" ∷ code_hex.now ∷ record_hex.now ∷ []
-hook_words_of (hook.Assemble path) = codes "asm" ∷ path.now ∷ []
-hook_words_of (hook.List path) = codes "list" ∷ path.now ∷ []
-hook_words_of (hook.ListSlots path) = codes "list" ∷ codes "--slots" ∷ path.now ∷ []
-hook_words_of (hook.Check V1 path) = codes "check" ∷ path.now ∷ []
-hook_words_of (hook.Check V2 path) = codes "check2" ∷ path.now ∷ []
-hook_words_of (hook.Why V1 path) = codes "check" ∷ codes "--why" ∷ path.now ∷ []
-hook_words_of (hook.Why V2 path) = codes "check2" ∷ codes "--why" ∷ path.now ∷ []
-hook_words_of (hook.Ask V1 words) = codes "ask" ∷ ask_words words
-hook_words_of (hook.Ask V2 words) = codes "ask2" ∷ ask_words words
-
 -- the words that name a command
 abbrev pub words_of_command : Command → List (List ℕ)
-words_of_command (commands.Hook command) = hook_words_of command
+words_of_command (commands.Run code_hex record_hex) = codes "run" ∷ code_hex.now ∷ record_hex.now ∷ []
+words_of_command (commands.Trace code_hex record_hex) = codes "run" ∷ codes "--trace" ∷ code_hex.now ∷ record_hex.now ∷ []
+words_of_command (commands.Assemble path) = codes "asm" ∷ path.now ∷ []
+words_of_command (commands.List path) = codes "list" ∷ path.now ∷ []
+words_of_command (commands.ListSlots path) = codes "list" ∷ codes "--slots" ∷ path.now ∷ []
+words_of_command (commands.Check V1 path) = codes "check" ∷ path.now ∷ []
+words_of_command (commands.Check V2 path) = codes "check2" ∷ path.now ∷ []
+words_of_command (commands.Why V1 path) = codes "check" ∷ codes "--why" ∷ path.now ∷ []
+words_of_command (commands.Why V2 path) = codes "check2" ∷ codes "--why" ∷ path.now ∷ []
+words_of_command (commands.Ask V1 words) = codes "ask" ∷ ask_words words
+words_of_command (commands.Ask V2 words) = codes "ask2" ∷ ask_words words
 words_of_command (commands.Registry path) = codes "registry" ∷ path.now ∷ []
 words_of_command (commands.State path) = codes "state" ∷ path.now ∷ []
 words_of_command (commands.StateFront path) = codes "state" ∷ codes "--front" ∷ path.now ∷ []
@@ -54,13 +47,13 @@ IsNoCommand words = (command : Command) → map string_bytes words ≢ words_of_
 
 -- a command that tells an ask
 abbrev pub IsAsking : Command → Type 0
-IsAsking (commands.Hook (hook.Ask layout words)) = ⊤
+IsAsking (commands.Ask layout words) = ⊤
 IsAsking command = ⊥
 
 -- a command about a file that has an option
 abbrev pub IsOptional : Command → Type 0
-IsOptional (commands.Hook (hook.ListSlots path)) = ⊤
-IsOptional (commands.Hook (hook.Why layout path)) = ⊤
+IsOptional (commands.ListSlots path) = ⊤
+IsOptional (commands.Why layout path) = ⊤
 IsOptional (commands.StateFront path) = ⊤
 IsOptional command = ⊥
 
@@ -74,11 +67,13 @@ NameNoOptional words = (command : Command) → IsOptional command → words_of_c
 
 -- the path of the file that a command is about
 abbrev pub file_named_by : Command → Option (List ℕ)
-file_named_by (commands.Hook command) = file_of_hook_command command
+file_named_by (commands.Assemble path) = Some path.now
+file_named_by (commands.List path) = Some path.now
+file_named_by (commands.ListSlots path) = Some path.now
+file_named_by (commands.Check layout path) = Some path.now
+file_named_by (commands.Why layout path) = Some path.now
 file_named_by (commands.Registry path) = Some path.now
 file_named_by (commands.State path) = Some path.now
 file_named_by (commands.StateFront path) = Some path.now
 file_named_by (commands.Replay path) = Some path.now
-file_named_by (commands.Help word) = None
-file_named_by (commands.Explain name) = None
-file_named_by commands.Version = None
+file_named_by command = None

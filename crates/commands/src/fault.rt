@@ -3,7 +3,7 @@
 ghost use Rattle.std.specs.Prelude.{◌≡◌};
 ghost use Rattle.commands.specs.Statuses.{status_of_command_fault, status_of_hook_command};
 ghost use Rattle.commands.specs.Faults.{IsOfState};
-ghost use Rattle.commands.specs.declared.fault.CommandFault.TheVariants.{OutOfMemory};
+ghost use Rattle.commands.specs.declared.fault.CommandFault.TheVariants.{HookCommand, OutOfMemory};
 
 use crate::status::Status;
 use assembler::AsmFault;
@@ -217,7 +217,7 @@ fn advice_on_list(fault: &ListFault) -> &'static str {
     match fault {
         ListFault::Missing => "; oauthd state --new --etcd makes one",
         ListFault::OtherCluster => "; a snapshot of another cluster was restored",
-        ListFault::Unread => "; it is read while nobody writes, or by a start",
+        ListFault::Unread => "; a piece is missing, or etcd is compacted too often",
         ListFault::Led => "; a server runs on it",
         _ => "",
     }
@@ -240,6 +240,15 @@ impl<'w> CommandFault<'w> {
             StateFault::Memory => CommandFault::OutOfMemory,
             fault => CommandFault::State(path, fault),
         }
+    }
+}
+
+/// A command about a hook that has no answer.
+impl<'w> From<HookCommandFault<'w>> for CommandFault<'w> {
+    ghost from_gives = { λ fault f. f ≡ HookCommand fault };
+
+    fn from(fault: HookCommandFault<'w>) -> CommandFault<'w> {
+        CommandFault::HookCommand(fault)
     }
 }
 

@@ -4,7 +4,7 @@ ghost use Rattle.std.specs.Prelude.{◌≡◌, ◌≢◌, [], ◌∷◌, map, st
 ghost use Rattle.commands.specs.Words.{ask_words, words_of_command, IsAsking, IsCommand, NameNone, NameNoOptional};
 
 use crate::command::Command;
-use hook_commands::{AskWords, HookCommand};
+use hook_commands::AskWords;
 use insn::layout::Layout;
 
 /// The command about a file that a name, an option and the file's path name.
@@ -13,15 +13,15 @@ pub fn with_option<'w>(name: &str, option: &str, word: &'w str) -> Option<Comman
     ensures none { IfNone result (NameNoOptional (name.now ∷ option.now ∷ word.now ∷ [])) }
 {
     match (name, option) {
-        ("list", "--slots") => Some(Command::Hook(HookCommand::ListSlots { path: word })),
-        ("check", "--why") => Some(Command::Hook(HookCommand::Why {
+        ("list", "--slots") => Some(Command::ListSlots { path: word }),
+        ("check", "--why") => Some(Command::Why {
             layout: Layout::V1,
             path: word,
-        })),
-        ("check2", "--why") => Some(Command::Hook(HookCommand::Why {
+        }),
+        ("check2", "--why") => Some(Command::Why {
             layout: Layout::V2,
             path: word,
-        })),
+        }),
         ("state", "--front") => Some(Command::StateFront { path: word }),
         _ => None,
     }
@@ -39,10 +39,10 @@ pub fn to_trace<'w>(
     ensures none { IfNone result (NameNone (name.now ∷ option.now ∷ code_hex.now ∷ record_hex.now ∷ [])) }
 {
     match (name, option) {
-        ("run", "--trace") => Some(Command::Hook(HookCommand::Trace {
+        ("run", "--trace") => Some(Command::Trace {
             code_hex,
             record_hex,
-        })),
+        }),
         _ => None,
     }
 }
@@ -57,7 +57,7 @@ fn asking<'w>(name: &str, words: AskWords<'w>) -> Option<Command<'w>>
         "ask2" => Layout::V2,
         _ => return None,
     };
-    Some(Command::Hook(HookCommand::Ask { layout, words }))
+    Some(Command::Ask { layout, words })
 }
 
 /// The command that tells an ask, where words name one.

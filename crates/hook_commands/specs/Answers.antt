@@ -1,17 +1,13 @@
--- What the commands about hooks answer.
-use Rattle.std.specs.Prelude.{◌≡◌, ◌⊎◌, ℕ, List, Option, None, Some, Result, Ok, Err, ⊤}
+-- What the commands about a hook's code and a record answer.
+use Rattle.std.specs.Prelude.{◌≡◌, ◌⊎◌, ℕ, List, Some, Result, Ok, Err, ⊤}
 use Rattle.hook_commands.specs.Names.{Instruction, Spells, HookAnswer, JudgeFault, HookCommandFault}
 use Rattle.machine.specs.declared.trace.Trace.{Trace}
 use Rattle.machine.specs.Trace.{IsTrace}
-use Rattle.hook_commands.specs.declared.command.HookCommand.{HookCommand}
-use Rattle.hook_commands.specs.declared.command.HookCommand.TheVariants as commands
 use Rattle.hook_commands.specs.declared.answer.HookAnswer.TheVariants as answers
 use Rattle.hook_commands.specs.declared.judge.Asked.{Asked}
 use Rattle.hook_commands.specs.declared.judge.Judged.{Judged}
 use Rattle.hook_commands.specs.declared.judge.JudgeFault.TheVariants as judge
 use Rattle.hook_commands.specs.declared.fault.HookCommandFault.TheVariants.{BadArguments, BadRecord, Insn, Verify, OutOfMemory}
-use Rattle.hook_commands.specs.Asking.{IsAskedAs}
-use Rattle.hook_commands.specs.File.{File, IsAssembledAs, IsCheckedOn, IsExplainedOn, IsListedAs, IsListedWithSlotsAs}
 use Rattle.hook_commands.specs.HexText.{IsHexOf, IsNoHex}
 use Rattle.hook_commands.specs.Judge.{IsJudged, asked_in}
 
@@ -54,23 +50,3 @@ IsTracedOn code_hex record_hex (Ok (answers.Traced trace judged)) =
     IsTraceOf code_hex record_hex trace × IsJudgedText code_hex record_hex (Ok judged)
 IsTracedOn code_hex record_hex (Ok answer) = ⊥
 IsTracedOn code_hex record_hex (Err fault) = IsRunOn code_hex record_hex (Err fault)
-
--- what a command answers, where this stands in its file
-abbrev pub IsHookAnsweredBy : HookCommand → File → Result HookAnswer HookCommandFault → Type 0
-IsHookAnsweredBy (commands.Run code_hex record_hex) file outcome = IsRunOn code_hex.now record_hex.now outcome
-IsHookAnsweredBy (commands.Trace code_hex record_hex) file outcome = IsTracedOn code_hex.now record_hex.now outcome
-IsHookAnsweredBy (commands.Assemble path) file outcome = IsAssembledAs path.now file outcome
-IsHookAnsweredBy (commands.List path) file outcome = IsListedAs path.now file outcome
-IsHookAnsweredBy (commands.ListSlots path) file outcome = IsListedWithSlotsAs path.now file outcome
-IsHookAnsweredBy (commands.Check layout path) file outcome = IsCheckedOn layout path.now file outcome
-IsHookAnsweredBy (commands.Why layout path) file outcome = IsExplainedOn layout path.now file outcome
-IsHookAnsweredBy (commands.Ask layout words) file outcome = IsAskedAs layout words outcome
-
--- the path of the file that a command is about
-abbrev pub file_of_hook_command : HookCommand → Option (List ℕ)
-file_of_hook_command (commands.Assemble path) = Some path.now
-file_of_hook_command (commands.List path) = Some path.now
-file_of_hook_command (commands.ListSlots path) = Some path.now
-file_of_hook_command (commands.Check layout path) = Some path.now
-file_of_hook_command (commands.Why layout path) = Some path.now
-file_of_hook_command command = None

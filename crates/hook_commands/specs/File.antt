@@ -4,6 +4,8 @@ use Rattle.hook_commands.specs.Names.{string_bytes, Layout, InsnFault, VerifyFau
 use Rattle.insn.specs.declared.instruction.Insn.{Insn}
 use Rattle.assembly.specs.Text.{canonical_text, Text}
 use Rattle.hook_commands.specs.declared.answer.HookAnswer.TheVariants as answers
+use Rattle.hook_commands.specs.declared.commands.file.FileCode.{FileCode}
+use Rattle.hook_commands.specs.declared.commands.file.FileCode.TheVariants as file_codes
 use Rattle.hook_commands.specs.declared.fault.HookCommandFault.TheVariants as faults
 use Rattle.hook_commands.specs.HexText.{IsHexOf, IsNoHex}
 use Rattle.hook_commands.specs.Judge.{IsTakenProgram, IsTurnedAway}
@@ -32,10 +34,18 @@ HoldsNoText path file fault = ⊥
 
 -- ---- programs
 
--- a file is hex of the bytes that spell a program
+-- the code in a file of these bytes: those that its text is hex of, or the file itself, where it is no hex
+abbrev pub IsCodeIn : List ℕ → FileCode → Type 0
+IsCodeIn bytes (file_codes.OfHex code) = IsHexOf bytes code.items
+IsCodeIn bytes (file_codes.Plain code) = IsNoHex bytes × (code.items ≡ bytes)
+
+abbrev pub HoldsCode : File → List ℕ → Type 0
+HoldsCode file code = IsSomeAnd file (λ bytes. IsHexOf bytes code ⊎ (IsNoHex bytes × (code ≡ bytes)))
+
+-- the code in a file spells a program
 pub record HoldsProgram (file : File) (program : List Insn) : Type 0 where
   pub code : List ℕ
-  pub hex : IsSomeAnd file (λ text. IsHexOf text code)
+  pub held : HoldsCode file code
   pub spelled : Spells code program
 
 -- a file is hex of bytes that are no program: this is their first fault
@@ -44,25 +54,24 @@ pub record HoldsFault (file : File) (fault : InsnFault) : Type 0 where
   pub hex : IsSomeAnd file (λ text. IsHexOf text code)
   pub first : FirstInsnFault code fault
 
--- why the file of a path holds no program: it cannot be read, it is not hex, or its bytes are no program
-abbrev pub HoldsNoProgram : List ℕ → File → HookCommandFault → Type 0
-HoldsNoProgram path file (faults.CannotRead named) = (file ≡ None) × (named.now ≡ path)
-HoldsNoProgram path file faults.BadArguments = IsSomeAnd file IsNoHex
-HoldsNoProgram path file (faults.Insn fault) = HoldsFault file fault
-HoldsNoProgram path file faults.OutOfMemory = ⊤
-HoldsNoProgram path file fault = ⊥
-
 -- bytes begin as an ELF file does
 abbrev pub is_elf : List ℕ → Bool
 is_elf (a ∷ b ∷ c ∷ d ∷ rest) = (a == 127) && (b == 69) && (c == 76) && (d == 70)
 is_elf bytes = false
 
--- why the file of a path holds no program, where one that is not hex is told with its path, and an ELF file as one
-abbrev pub HoldsNoToldProgram : List ℕ → File → HookCommandFault → Type 0
-HoldsNoToldProgram path file (faults.IsElf named) = (named.now ≡ path) × IsSomeAnd file (λ bytes. IsTrue (is_elf bytes)) × IsSomeAnd file IsNoHex
-HoldsNoToldProgram path file (faults.IsNotHex named) = (named.now ≡ path) × IsSomeAnd file (λ bytes. is_elf bytes ≡ false) × IsSomeAnd file IsNoHex
-HoldsNoToldProgram path file faults.BadArguments = ⊥
-HoldsNoToldProgram path file fault = HoldsNoProgram path file fault
+-- bytes are no hex, and spell no program
+abbrev pub HoldNoCode : List ℕ → Type 0
+HoldNoCode bytes = IsNoHex bytes × ((program : List Insn) → Spells bytes program → ⊥)
+
+-- why the file of a path holds no program: it cannot be read; it is neither hex nor a program, and is told with its path, an ELF file
+-- as one; or the bytes that it is hex of are no program
+abbrev pub HoldsNoProgram : List ℕ → File → HookCommandFault → Type 0
+HoldsNoProgram path file (faults.CannotRead named) = (file ≡ None) × (named.now ≡ path)
+HoldsNoProgram path file (faults.IsElf named) = (named.now ≡ path) × IsSomeAnd file (λ bytes. IsTrue (is_elf bytes) × HoldNoCode bytes)
+HoldsNoProgram path file (faults.IsNotHex named) = (named.now ≡ path) × IsSomeAnd file (λ bytes. (is_elf bytes ≡ false) × HoldNoCode bytes)
+HoldsNoProgram path file (faults.Insn fault) = HoldsFault file fault
+HoldsNoProgram path file faults.OutOfMemory = ⊤
+HoldsNoProgram path file fault = ⊥
 
 -- ---- `list`
 
@@ -76,7 +85,7 @@ pub record IsListing (file : File) (text : List ℕ) : Type 0 where
 abbrev pub IsListedAs : List ℕ → File → Result HookAnswer HookCommandFault → Type 0
 IsListedAs path file (Ok (answers.Listing text)) = IsListing file (string_bytes text)
 IsListedAs path file (Ok answer) = ⊥
-IsListedAs path file (Err fault) = HoldsNoToldProgram path file fault
+IsListedAs path file (Err fault) = HoldsNoProgram path file fault
 
 -- ---- `check` and `check2`
 
@@ -103,7 +112,7 @@ IsFileNotAccepted layout file fault = ⊥
 abbrev pub IsCheckedOn : Layout → List ℕ → File → Result HookAnswer HookCommandFault → Type 0
 IsCheckedOn layout path file (Ok (answers.Accepted count)) = IsAcceptedOn layout file count
 IsCheckedOn layout path file (Ok answer) = ⊥
-IsCheckedOn layout path file (Err fault) = HoldsNoToldProgram path file fault ⊎ IsFileNotAccepted layout file fault
+IsCheckedOn layout path file (Err fault) = HoldsNoProgram path file fault ⊎ IsFileNotAccepted layout file fault
 
 -- ---- `asm`
 
@@ -142,11 +151,11 @@ abbrev pub IsListedWithSlotsAs : List ℕ → File → Result HookAnswer HookCom
 IsListedWithSlotsAs path file (Ok (answers.Slots lines)) =
     (program : List Insn) × HoldsProgram file program × (lines.items ≡ slot_lines program)
 IsListedWithSlotsAs path file (Ok answer) = ⊥
-IsListedWithSlotsAs path file (Err fault) = HoldsNoToldProgram path file fault
+IsListedWithSlotsAs path file (Err fault) = HoldsNoProgram path file fault
 
 -- ---- `check --why` and `check2 --why`
 
 -- the answer tells what is found of the file's program
 abbrev pub IsExplainedOn : Layout → List ℕ → File → Result HookAnswer HookCommandFault → Type 0
 IsExplainedOn layout path file (Ok answer) = (program : List Insn) × HoldsProgram file program × IsExplanation layout program answer
-IsExplainedOn layout path file (Err fault) = HoldsNoToldProgram path file fault
+IsExplainedOn layout path file (Err fault) = HoldsNoProgram path file fault

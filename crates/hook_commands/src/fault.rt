@@ -18,9 +18,9 @@ pub enum HookCommandFault<'w> {
     BadRecord,
     /// The file of this path cannot be read.
     CannotRead(&'w str),
-    /// The file of this path is an ELF file, where hex is wanted.
+    /// The file of this path is an ELF file, where the code of a program is wanted.
     IsElf(&'w str),
-    /// The file of this path is not hex.
+    /// The file of this path is neither hex nor the bytes of a program.
     IsNotHex(&'w str),
     /// The text says no program, or memory was refused; and the word that names no instruction, where that is the fault.
     Text(AsmFault, Option<String>),

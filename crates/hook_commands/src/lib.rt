@@ -1,9 +1,9 @@
 //! The commands that try a hook: what each answers, by values alone.
 //!
-//! `command` has them as one enum, with a function for each in `commands` or `asking`; `answer` is what they answer,
-//! and `fault` why one has no answer. Each is a value that has all that is told, and its `Display` spells it. `judge`
-//! takes a hook's bytes and a record's through the layers below, and `hex_text` reads hex as arguments and files have
-//! it. No word of a command line, no file and no status is known here.
+//! There is a function for each in `commands` or `asking`; `answer` is what they answer, and `fault` why one has no
+//! answer. Each is a value that has all that is told, and its `Display` spells it. `judge` takes a hook's bytes and a
+//! record's through the layers below, and `hex_text` reads hex as arguments and files have it. No word of a command line,
+//! no file and no status is known here.
 //!
 //! `why` tells what `verifier::explain` finds, with what the manual says of a fault; `reading` names the registers that
 //! an instruction reads, `known_text` spells what is known of one, and `bytes_told` tells of the stack's bytes that a
@@ -15,7 +15,6 @@ pub mod answer;
 mod asking;
 mod back;
 mod bytes_told;
-pub mod command;
 mod commands;
 pub mod fault;
 pub mod hex_text;
@@ -27,8 +26,10 @@ mod way;
 mod why;
 
 pub use answer::HookAnswer;
-pub use asking::AskWords;
-pub use command::HookCommand;
-pub use commands::file::text_in;
+pub use asking::{AskWords, asked};
+pub use commands::file::{
+    assembled, check, code_in, explained_check, listing, listing_with_slots, text_in,
+};
+pub use commands::run::{run, traced};
 pub use fault::HookCommandFault;
 pub use hex_text::bytes_of_hex;

@@ -1,13 +1,23 @@
 -- Which words the manual explains.
-use Rattle.std.specs.Prelude.{ℕ, List, [], ◌∷◌, codes}
+use Rattle.std.specs.Prelude.{ℕ, Bool, List, [], ◌∷◌, ◌++◌, codes, bytes_eq}
+use Rattle.std.specs.List.{list_any}
+
+-- those of the commands, which they begin with
+unfoldable pub command_names : List (List ℕ)
+command_names =
+    codes "run" ∷ codes "ask" ∷ codes "ask2" ∷ codes "asm" ∷ codes "list" ∷ codes "check" ∷ codes "check2" ∷
+    codes "start" ∷ codes "serve" ∷ codes "registry" ∷ codes "state" ∷ codes "replay" ∷ codes "help" ∷ []
+
+-- a word is the name of a command
+abbrev pub is_command : List ℕ → Bool
+is_command name = list_any (λ word. bytes_eq name word) command_names
 
 -- those of the commands; of the faults that a command has however its files are; of those of a state file that are told
 -- with its path, and of those of a list in etcd; of those of the text of a hook, and of its code; of the verdicts on it; of
 -- the faults of a registry, and of an event; and of those of a start and of a server that are told behind another one's name
 unfoldable pub all_words : List (List ℕ)
 all_words =
-    codes "run" ∷ codes "ask" ∷ codes "ask2" ∷ codes "asm" ∷ codes "list" ∷ codes "check" ∷ codes "check2" ∷
-    codes "start" ∷ codes "serve" ∷ codes "registry" ∷ codes "state" ∷ codes "replay" ∷ codes "help" ∷
+    command_names ++
     codes "bad arguments" ∷ codes "bad record" ∷ codes "cannot read" ∷ codes "ELF file" ∷ codes "not hex" ∷
     codes "cannot write" ∷ codes "bad line" ∷ codes "hook" ∷ codes "State" ∷ codes "audit" ∷ codes "cannot listen" ∷
     codes "no random bytes" ∷ codes "connection ended" ∷ codes "stopped" ∷ codes "out of memory" ∷

@@ -7,4 +7,4 @@ mod topics;
 
 pub use page::{PAGE, VERSION};
 pub use topic::Topic;
-pub use topics::explained;
+pub use topics::{explained, is_command};

@@ -1,6 +1,7 @@
 //! What a name of the program means.
 
-ghost use Rattle.std.specs.Prelude.{◌≡◌, ◌↔◌, IsTrue};
+ghost use Rattle.std.specs.Prelude.{◌≡◌, ◌↔◌, IsTrue, bytes_eq};
+ghost use Rattle.std.specs.List.{list_any};
 ghost use Rattle.std.specs.Option.{option_copied};
 ghost use Rattle.manual.specs.Topics.{Say};
 
@@ -18,6 +19,13 @@ impl Topic {
     {
         self.name == name
     }
+}
+
+/// Whether one of some topics has a name.
+pub fn is_topic(topics: &[Topic], name: &str) -> bool
+    ensures { result ≡ list_any (λ topic. bytes_eq name.now topic.name.now) topics.now }
+{
+    topics.iter().any(|topic| name == topic.name)
 }
 
 /// What some topics say of a name: the text of the first one that has it.

@@ -1,7 +1,9 @@
 //! What there is to explain: the commands, and each of their faults.
 
+ghost use Rattle.std.specs.Prelude.{◌≡◌};
 ghost use Rattle.std.specs.Option.{option_copied};
 ghost use Rattle.manual.specs.Topics.{IsSaid};
+ghost use Rattle.manual.specs.Words.{is_command};
 
 mod code_faults;
 mod commands;
@@ -13,7 +15,7 @@ mod text_faults;
 mod use_faults;
 mod verdicts;
 
-use crate::topic::text_named;
+use crate::topic::{is_topic, text_named};
 use code_faults::CODE_FAULTS;
 use commands::COMMANDS;
 use config_faults::CONFIG_FAULTS;
@@ -23,6 +25,13 @@ use state_faults::STATE_FAULTS;
 use text_faults::TEXT_FAULTS;
 use use_faults::USE_FAULTS;
 use verdicts::VERDICTS;
+
+/// Whether a word is the name of a command.
+pub fn is_command(name: &str) -> bool
+    ensures { result ≡ is_command name.now }
+{
+    is_topic(&COMMANDS, name)
+}
 
 /// What the manual says of a name: its nine lists explain just these words.
 pub fn explained(name: &str) -> Option<&'static str>

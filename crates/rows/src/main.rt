@@ -1,11 +1,29 @@
 //! Runs rows: files of command lines, each with the files that it names and what it is to come to, over the call that `oauthd`
 //! makes of its words.
+//!
+//! `blocks`, `sections` and `words` read a file into rows, with the texts that `names` has; a `row` may be a `talk` over
+//! connections, which is told as a transcript. `running` runs it, in a `world` with another clock, and `comparing` tells what
+//! differs. Tests are what no row can say: clients of `serve` and `start`, over the machine's sockets.
 #![tactic(auto)]
 
+mod blocks;
+mod comparing;
+mod fault;
+mod names;
+mod reading;
+mod row;
 mod running;
+mod sections;
+mod talk;
+#[cfg(test)]
+mod tests;
+#[cfg(test)]
+mod texts;
+mod words;
+mod world;
 
-use row_files::names::Names;
-use row_files::reading::rows_of;
+use names::Names;
+use reading::rows_of;
 use running::run_row;
 use std::env;
 use std::fs::{self, File};

@@ -1,11 +1,11 @@
 //! Running a row.
 
+use crate::comparing::{Ended, differences};
+use crate::row::{Row, RowFile, Talk, Word};
+use crate::world::World;
 use command_line::perform;
 use commands::Status;
 use disk_file::Unknown;
-use row_files::comparing::{Ended, differences};
-use row_files::row::{Row, RowFile, Talk, Word};
-use row_files::world::World;
 use std::alloc::{AllocError, Global};
 use std::fs::{self, File, OpenOptions};
 use std::io::{self, Stdout, Write};

@@ -159,7 +159,7 @@ State Led: NAME: a server leads on this list, so that none is made there. Stop i
     Topic {
         name: "Unread",
         text: "\
-State Unread: NAME: the list could not be read to its end, or it was changed meanwhile, sixteen times. Read it where few changes come.
+State Unread: NAME: a piece of the list is missing, or etcd was compacted while it was read, four times.
 ",
     },
     Topic {

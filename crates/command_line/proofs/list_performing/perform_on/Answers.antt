@@ -1,11 +1,25 @@
 use Rattle.std.proofs.Common.{◌≡◌, inl, inr, refl, subst, sym}
-use Rattle.command_line.proofs.Listing.{ends_quietly, stops, told_why}
+use Rattle.command_line.proofs.Listing.{are_lines, ends_quietly, shows_list, stops, told_why}
 use Rattle.command_line.proofs.Names.{output, outputs}
 use Rattle.command_line.proofs.Outcomes.{each_ok, map_err, map_ok}
 use Rattle.command_line.specs.ListEndings.{FailsOn, TellsListDone}
 use Rattle.command_line.specs.declared.list_command.ListCommand.{ListCommand}
 use Rattle.commands.specs.NamedFiles.{bytes_in}
 use Rattle.command_line.proofs.list_performing.perform_on.Goals as goal
+
+pub print_answer-requires : goal.print_answer-requires
+print_answer-requires g c = are_lines c.args.terms.prefix.now c.in-Ok.answer c.in-Ok.ensures.shown
+
+pub returns-in-Ok : goal.returns-in-Ok
+returns-in-Ok g c =
+    let to = (outputs (output g.W.Write.contents g.W.Printer.writes c.args.out.now c.print_answer.new.out) (output g.E.Write.contents g.E.Printer.writes c.args.err.now c.print_answer.new.err)) in
+    elim c.print_answer.ensures [
+      | inl unwritten ↦ inl unwritten
+      | inr done ↦ inr (inl (
+        done.0,
+        shows_list c.args.command _ c.args.terms.prefix.now (bytes_in c.args.file) c.in-Ok.answer to c.in-Show.is c.requires c.in-Ok.ensures.shown done.1 done.2,
+      ))
+    ]
 
 pub returns-in-Show : goal.returns-in-Show
 returns-in-Show g c =

@@ -1,10 +1,10 @@
 use Rattle.std.proofs.Common.{refl}
-use Rattle.manual.specs.Words.{all_words}
+use Rattle.manual.specs.Words.{all_words, command_names}
 use Rattle.manual.proofs.Saying.{said_by_either}
 use Rattle.manual.proofs.topics.explained.Goals as goal
 
 pub returns : goal.returns
-unfolding all_words
+unfolding all_words command_names
 returns c =
     let said_2 = said_by_either _ _ c.args.name.now _ _ _ c.text_named.ensures c.text_named-2.ensures c.or.ensures in
     let said_3 = said_by_either _ _ c.args.name.now _ _ _ said_2 c.text_named-3.ensures c.or-2.ensures in

@@ -1,8 +1,8 @@
 //! Clients of `serve` and `start`, over the machine's sockets.
 
+use crate::world::World;
 use command_line::perform;
 use disk_file::Unknown;
-use row_files::world::World;
 use std::alloc::{AllocError, Global};
 use std::cell::Cell;
 use std::io::{self, ErrorKind, Read, Write};
