@@ -1,7 +1,7 @@
 """Bad days of a list in etcd, on a cluster of three members on loopback: no quorum, a full database, members that forget who asked,
-a restored snapshot, a list that is made shorter, and a member that answers what none does. Prints a line for each check.
+a restored snapshot, a list that is made shorter, a list that is listed while it is written, and a member that answers what none does. Prints a line for each check.
 
-Words: PROGRAM REGISTRY [DAY..]; the days are quorum, full, password, restored, shorter, strange. Ends by itself, with 0 where all is as wanted."""
+Words: PROGRAM REGISTRY [DAY..]; the days are quorum, full, password, restored, shorter, listed, strange. Ends by itself, with 0 where all is as wanted."""
 
 import base64
 import json
@@ -305,6 +305,46 @@ def shorter(program, registry):
     day.end()
 
 
+def listed(program, registry):
+    """Who made a list leads no more. It is listed and copied while 64 clients work, each time as it stood at one version, and while what stood there is let go of."""
+    day = Day(program, registry)
+    check("made", day.run("state", "--new"), "done")
+    took = day.serve(seconds=10)
+    check("leads-at-once", took is not None and took < 4, True)
+    consents(day.client(), "read")
+    ends = time.monotonic() + 30
+
+    def work():
+        client = day.client()
+        while time.monotonic() < ends:
+            token(client)
+
+    def let_go():
+        while time.monotonic() < ends:
+            day.control("compact", str(day.members.ask(0, "/v3/kv/range", {"key": text("oauthd/head")})["header"]["revision"]))
+
+    threads = [threading.Thread(target=work) for _ in range(64)]
+    for it in threads:
+        it.start()
+    sizes = []
+    for _ in range(10):
+        told = day.run("state").splitlines()[-1]
+        check("listed", told, '"kind":"file"')
+        sizes.append(json.loads(told).get("bytes", 0) if told.startswith("{") else 0)
+    check("each-later", sizes == sorted(sizes) and sizes[0] < sizes[-1], True)
+    check("copied", day.run("state", "--to", f"{day.room}/copy"), "done")
+    copy = subprocess.run([program, "state", f"{day.room}/copy"], stdout=subprocess.PIPE, stderr=subprocess.STDOUT, text=True).stdout
+    check("whole", copy.splitlines()[-1], '"kind":"file"')
+    other = threading.Thread(target=let_go)
+    other.start()
+    for _ in range(5):
+        check("let-go", day.run("state").splitlines()[-1], '"kind":"file"', "State Unread")
+    for it in [other, *threads]:
+        it.join()
+    check("goes-on", day.machines[0].ends, [])
+    day.end()
+
+
 class Strange(Relay):
     """A member that answers otherwise than any does, now and then."""
 
@@ -426,7 +466,7 @@ def strange(program, registry):
     day.end()
 
 
-DAYS = {"quorum": quorum, "full": full, "password": password, "restored": restored, "shorter": shorter, "strange": strange}
+DAYS = {"quorum": quorum, "full": full, "password": password, "restored": restored, "shorter": shorter, "listed": listed, "strange": strange}
 
 
 def main():

@@ -520,7 +520,7 @@ int hook(struct record *record)
 C
 answers 1 9 5 'allowed 7 9'
 answers 1 9 3 'allowed 7 300'
-faulty 'the same, and a table of 10' 'Verify UnsetByte' <<'C'
+taken 'the same, and a table of 10' <<'C'
 int hook(struct record *record)
 {
     u8 lives[10];
@@ -528,6 +528,35 @@ int hook(struct record *record)
     lives[5] = record->client;
     u8 at = record->owner;
     if (at < 10)
+        record->life = lives[at];
+    return ALLOW;
+}
+C
+answers 1 9 5 'allowed 7 9'
+answers 1 9 10 'allowed 7 300'
+taken 'an index of two bytes, that is kept within a table of 20' <<'C'
+int hook(struct record *record)
+{
+    u8 lives[20];
+    __builtin_memset(lives, 3, sizeof lives);
+    lives[19] = record->client;
+    u16 at = record->owner;
+    if (at > 19)
+        at = 19;
+    record->life = lives[at];
+    return ALLOW;
+}
+C
+answers 1 9 18 'allowed 7 3'
+answers 1 9 77 'allowed 7 9'
+faulty 'an index of one byte, past a table of 10' 'Verify UnsetByte' <<'C'
+int hook(struct record *record)
+{
+    u8 lives[10];
+    __builtin_memset(lives, 3, sizeof lives);
+    lives[5] = record->client;
+    u8 at = record->owner;
+    if (at < 11)
         record->life = lives[at];
     return ALLOW;
 }
@@ -647,6 +676,48 @@ int hook(struct record *record)
 C
 answers 1 5 16 'allowed 7 300'
 answers 1 5 4 denied
+taken 'a set of bits by 32' <<'C'
+int hook(struct record *record)
+{
+    u32 set[8];
+    __builtin_memset(set, 0, sizeof set);
+    set[1] = 5;
+    asm volatile("" : : "r"(set) : "memory");
+    u32 at = (u32)record->owner;
+    if (at >= 256)
+        return DENY;
+    return set[at / 32] >> (at % 32) & 1 ? ALLOW : DENY;
+}
+C
+answers 1 1 34 'allowed 7 300'
+answers 1 1 33 denied
+taken 'the same, that is set' <<'C'
+int hook(struct record *record)
+{
+    u32 set[8];
+    __builtin_memset(set, 0, sizeof set);
+    set[1] = 5;
+    asm volatile("" : : "r"(set) : "memory");
+    u32 at = (u32)record->owner;
+    if (at < 256)
+        set[at / 32] |= 1u << (at % 32);
+    return set[1] == 7 ? ALLOW : DENY;
+}
+C
+answers 1 1 33 'allowed 7 300'
+answers 1 1 35 denied
+faulty 'the same, past its end' 'Verify PointerRange' <<'C'
+int hook(struct record *record)
+{
+    u32 set[8];
+    __builtin_memset(set, 0, sizeof set);
+    asm volatile("" : : "r"(set) : "memory");
+    u32 at = (u32)record->owner;
+    if (at >= 288)
+        return DENY;
+    return set[at / 32] >> (at % 32) & 1 ? ALLOW : DENY;
+}
+C
 faulty 'a test of the record against null' 'Verify PointerMisuse' <<'C'
 int hook(struct record *record)
 {
@@ -678,6 +749,48 @@ int hook(struct record *record)
 C
 answers 1 7 1 'allowed 7 300'
 answers 1 8 1 denied
+taken 'a pointer to one field of the record or to another, each with its own bound' <<'C'
+int hook(struct record *record)
+{
+    const u64 *from;
+    u64 at = record->owner;
+    if (record->kind == GRANT_CODE) {
+        from = &record->asked;
+        if (at > 3)
+            return DENY;
+        asm volatile("" : "+r"(from));
+    } else {
+        from = &record->client;
+        if (at > 5)
+            return DENY;
+        asm volatile("" : "+r"(from));
+    }
+    return from[at] == 7 ? ALLOW : DENY;
+}
+C
+answers 1 9 0 'allowed 7 300'
+answers 1 9 2 denied
+answers 2 9 3 'allowed 7 300'
+answers 2 9 6 denied
+faulty 'the same, and the bounds the other way round' 'Verify PointerRange' <<'C'
+int hook(struct record *record)
+{
+    const u64 *from;
+    u64 at = record->owner;
+    if (record->kind == GRANT_CODE) {
+        from = &record->asked;
+        if (at > 5)
+            return DENY;
+        asm volatile("" : "+r"(from));
+    } else {
+        from = &record->client;
+        if (at > 3)
+            return DENY;
+        asm volatile("" : "+r"(from));
+    }
+    return from[at] == 7 ? ALLOW : DENY;
+}
+C
 faulty 'a pointer or none' 'Verify PointerMisuse' <<'C'
 int hook(struct record *record)
 {
